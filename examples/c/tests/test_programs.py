@@ -13,9 +13,10 @@ FOLDER = os.path.dirname(os.path.dirname(os.path.abspath(__file__)))
 ROOT = os.path.dirname(os.path.dirname(FOLDER))
 sys.path.append(os.path.join(ROOT, "tools"))
 
+import built_programs
 from verdict import simulator
 
-PROGRAM = simulator.found()
+PROGRAM = built_programs.simulator()
 PROGRAMS = sorted(os.path.splitext(os.path.basename(path))[0] for path in glob.glob(os.path.join(FOLDER, "programs", "*.c")))
 PICOLIBC = "/usr/lib/picolibc/riscv64-unknown-elf/include"
 GCC = bool(shutil.which("make") and shutil.which("riscv64-unknown-elf-gcc"))

@@ -16,9 +16,10 @@ FOLDER = os.path.dirname(os.path.dirname(os.path.abspath(__file__)))
 ROOT = os.path.dirname(os.path.dirname(FOLDER))
 sys.path.append(os.path.join(ROOT, "tools"))
 
+import built_programs
 from verdict import simulator
 
-PROGRAM = simulator.found()
+PROGRAM = built_programs.simulator()
 NEEDS = {"gcc": ("make", "riscv64-unknown-elf-gcc"), "clang": ("make", "clang", "ld.lld")}
 LEVELS = ("O1", "O2")
 ROW = r"^\| `(\w+)` \| `(key|secret)` \| (\d+) \| (hidden|shown) \| (hidden|shown) \|"

@@ -4,7 +4,8 @@ import unittest
 from xml.etree import ElementTree
 
 import support
-from view import description, difference, drawing, instruction, konata, page, pipeline, reasons, spans
+from riscv import kinds
+from view import description, difference, drawing, konata, page, pipeline, reasons, spans
 from view.spans import spans_of
 
 SVG = "{http://www.w3.org/2000/svg}"
@@ -36,7 +37,7 @@ class Spans(unittest.TestCase):
                 self.assertEqual(behind, first)
 
     def test_each_reason_is_drawn(self):
-        others = {*vars(instruction), *vars(description), *vars(pipeline)}
+        others = {*vars(kinds), *vars(description), *vars(pipeline)}
         told = {value for name, value in vars(reasons).items() if name.isupper() and isinstance(value, str) and name not in others}
         self.assertEqual(told - {*spans.WAITS, *spans.OUTCOMES}, {reasons.ONE_A_CYCLE, reasons.ONE_CLEARED})
         self.assertLessEqual({*spans.WAITS, *spans.OUTCOMES, *spans.UNITS}, set(drawing.STATES) & set(konata.STAGES))
