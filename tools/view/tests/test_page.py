@@ -19,13 +19,14 @@ CHROMIUM = shutil.which("chromium") or shutil.which("chromium-browser")
 NO_CHROMIUM = None if CHROMIUM else "no chromium"
 WIDTHS = 420, 900, 1600
 
+# a busy machine's browser may have no time to tell of a scroll, so it is told here
 MEASURE = """<script>addEventListener('load',()=>{const found={},charts=[...document.querySelectorAll('.chart')];
 const box=element=>{const one=element.getBoundingClientRect();return [one.left,one.top,one.right,one.bottom].map(Math.round)};
 found.wide=document.documentElement.scrollWidth;found.inner=innerWidth;
 found.panels=[...document.querySelectorAll('.panel')].map(box);
 found.cycles=charts.map(chart=>chart.clientWidth-chart.querySelector('.labels').getBoundingClientRect().width);
 found.cut=[...document.querySelectorAll('.legend li,h2,.panel p,form')].filter(one=>one.scrollWidth>one.clientWidth+1).length;
-charts[0].scrollLeft=30;setTimeout(()=>{found.moved=charts.map(chart=>chart.scrollLeft);
+charts[0].scrollLeft=30;charts[0].dispatchEvent(new Event('scroll'));setTimeout(()=>{found.moved=charts.map(chart=>chart.scrollLeft);
 setTimeout(()=>{go('16');found.column=charts.map(chart=>chart.querySelector('.column').getAttribute('visibility'));
 found.seen=charts.map(chart=>{const one=box(chart.querySelector('.column')),all=box(chart);return one[0]>=all[0]&&one[2]<=all[2]+1});
 go('#5');found.serial=[...document.querySelectorAll('.found')].map(row=>row.dataset.a);
