@@ -32,7 +32,7 @@ pub fn parts_of<R: RenameTaint>(
     desc: &Desc,
     words: &[u32],
 ) -> Result<Parts<R>, Fail> {
-    let image = code_image(alloc, desc.ram_misaligned == 1, words)?;
+    let image = code_image(alloc, desc.takes_any_address(), words)?;
     Ok(Parts::new(alloc, desc, image.code, image.entry, image.ram)?)
 }
 

@@ -1,8 +1,9 @@
 -- What it is that the written machine agrees with a trace that was written elsewhere.
-use Rattle.std.specs.Prelude.{◌≡◌, ◌==◌, ℕ, List, ◌++◌, flat_map, Ok, codes}
+use Rattle.std.specs.Prelude.{◌≡◌, ℕ, List, ◌++◌, flat_map, Ok, codes}
 use Prim.Native.String.{String}
 use Rattle.rv_types.specs.Word.{to_le}
 use Rattle.machine_desc.specs.declared.Desc.{Desc}
+use Rattle.machine_desc.specs.Questions.{takes_any_address}
 use Rattle.machine_desc.specs.Description.{Describes}
 use Rattle.elf_loader.specs.Image.{ImageText, image_of}
 use Rattle.window_model.specs.Cycle.{trace}
@@ -24,5 +25,5 @@ pub record Agrees (run : Run) : Type 0 where
   pub desc : Desc
   pub described : Describes run.description desc
   pub image : ImageText
-  pub loaded : image_of (flat_map (to_le 4) run.image) desc.ram_base desc.ram_size (desc.ram_misaligned == 1) ≡ Ok image
+  pub loaded : image_of (flat_map (to_le 4) run.image) desc.ram_base desc.ram_size (takes_any_address desc) ≡ Ok image
   pub traced : trace_text (trace desc image.code image.entry image.ram run.cycles) ≡ run.trace

@@ -17,6 +17,7 @@ mod keys;
 mod laws;
 mod name;
 mod progress;
+mod questions;
 mod read;
 
 pub use example::EXAMPLE;

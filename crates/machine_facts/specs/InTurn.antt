@@ -1,8 +1,9 @@
 -- A load's access, told line by line: the lower line, the upper one, and the line that is prefetched, each on what the
 -- one before left (docs/theorems.md, "What every state keeps").
-use Rattle.std.specs.Prelude.{◌≡◌, ◌≢◌, ℕ, ◌+◌, ◌<◌, ◌&&◌, ◌==◌, nat_le, nat_lt, if◌then◌else◌, List, [], ◌∷◌, ◌++◌, length, map}
+use Rattle.std.specs.Prelude.{◌≡◌, ◌≢◌, ℕ, ◌+◌, ◌<◌, ◌&&◌, nat_le, nat_lt, if◌then◌else◌, List, [], ◌∷◌, ◌++◌, length, map}
 use Rattle.std.specs.List.{fold}
 use Rattle.machine_desc.specs.declared.Desc.{Desc}
+use Rattle.machine_desc.specs.Questions.{has_prefetch}
 use Rattle.window_model.specs.State.{lines_of}
 use Rattle.window_model.specs.Around.{Around}
 use Rattle.window_model.specs.SecondLevel.{second_touched}
@@ -35,7 +36,7 @@ in_turn d now (line ∷ lines) =
 -- in memory, and a register is left
 abbrev pub ahead_of : Desc → InTurn → List Request
 ahead_of d t =
-    if d.cache_prefetch == 1
+    if has_prefetch d
     && nat_lt 0 (length (requests t.found))
     && nat_lt (line_behind d t.found) (t.left.ram.base + length t.left.ram.bytes)
     && nat_lt (length t.left.misses) d.cache_mshrs

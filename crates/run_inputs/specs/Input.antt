@@ -1,11 +1,12 @@
 -- What the program reads, and why it may be refused (docs/theorems.md, "What is read"): a description, if one is named,
 -- and then images in their order, each read and loaded before the next is read.
-use Rattle.std.specs.Prelude.{◌≡◌, ◌⊎◌, ℕ, ◌==◌, IsUtf8, Bool, false, List, [], ◌∷◌, take, slice_get, Option, Some, None, Ok, Err}
+use Rattle.std.specs.Prelude.{◌≡◌, ◌⊎◌, ℕ, IsUtf8, Bool, false, List, [], ◌∷◌, take, slice_get, Option, Some, None, Ok, Err}
 use Rattle.elf_loader.specs.Image.{ImageText, image_of}
 use Rattle.elf_loader.specs.declared.faults.ElfFault.{ElfFault}
 use Rattle.gen_image.specs.Generated.{generated_image}
 use Rattle.machine_desc.specs.Description.{description_of, Describes}
 use Rattle.machine_desc.specs.declared.Desc.{Desc}
+use Rattle.machine_desc.specs.Questions.{takes_any_address}
 use Rattle.machine_desc.specs.declared.fault.DescFault.{DescFault}
 use Rattle.tool_io.specs.declared.Got.{Got}
 use Rattle.tool_io.specs.declared.Got.TheVariants.{Bytes, TooLong}
@@ -93,7 +94,7 @@ size_of (Some d) = d.ram_size
 -- whether an access there may have any address: as the description says, and without one not
 abbrev pub misaligned_of : Option Desc → Bool
 misaligned_of None = false
-misaligned_of (Some d) = d.ram_misaligned == 1
+misaligned_of (Some d) = takes_any_address d
 
 -- the image that is got from a source is this one
 pub record IsImage (known : Known) (desc : Option Desc) (from : ImageFrom) (image : ImageText) : Type 0 where

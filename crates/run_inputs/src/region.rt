@@ -39,7 +39,7 @@ impl Region {
             Some(desc) => Region {
                 base: desc.ram_base,
                 size: desc.ram_size,
-                misaligned: desc.ram_misaligned == 1,
+                misaligned: desc.takes_any_address(),
             },
         }
     }

@@ -1,10 +1,11 @@
 -- What may be relied on of a machine's run besides its text: what it has retired, how soon, and what it shows
 -- (docs/theorems.md, "Committed state", "Progress", "Noninterference").
-use Rattle.std.specs.Prelude.{◌≡◌, ◌==◌, ℕ, ◌+◌, ◌*◌, ◌<◌, ◌≤◌, List, true, Some, None, Ok, IsTrue}
+use Rattle.std.specs.Prelude.{◌≡◌, ℕ, ◌+◌, ◌*◌, ◌<◌, ◌≤◌, List, true, Some, None, Ok, IsTrue}
 use Rattle.rv_types.specs.Isa.{Run}
 use Rattle.rv_types.specs.Memory.{Ram, Agree}
 use Rattle.elf_loader.specs.Image.{ImageText, image_of}
 use Rattle.machine_desc.specs.declared.Desc.{Desc}
+use Rattle.machine_desc.specs.Questions.{takes_any_address}
 use Rattle.machine_desc.specs.Ranges.{bound}
 use Rattle.window_model.specs.State.{Machine}
 use Rattle.window_model.specs.Cycle.{at}
@@ -62,7 +63,7 @@ pub record Hides (d : Desc) (image : ImageText) (n : ℕ) (out out' : Told) : Ty
 
 -- the file is accepted under the description, and this is its image
 abbrev pub IsImageOf : Desc → List ℕ → ImageText → Type 0
-IsImageOf d file image = image_of file d.ram_base d.ram_size (d.ram_misaligned == 1) ≡ Ok image
+IsImageOf d file image = image_of file d.ram_base d.ram_size (takes_any_address d) ≡ Ok image
 
 -- a file's image and any other with its entry and code, whose memories so agree, have one trace, where the model
 -- protects

@@ -5,6 +5,7 @@ use Rattle.rv_types.specs.Word.{to_le}
 use Rattle.rv_types.specs.Memory.{Ram, load_fault, range}
 use Rattle.rv_types.specs.declared.Cause.{Cause}
 use Rattle.machine_desc.specs.declared.Desc.{Desc}
+use Rattle.machine_desc.specs.Questions.{has_prefetch}
 use Rattle.window_model.specs.declared.Entry.{Entry}
 use Rattle.window_model.specs.declared.Event.{Event}
 use Rattle.window_model.specs.declared.Event.TheVariants as event
@@ -114,7 +115,7 @@ line_behind d (l ∷ found) = line_behind d found
 -- is left
 abbrev pub prefetches : Desc → Around → List Line → Bool
 prefetches d now found =
-    d.cache_prefetch == 1
+    has_prefetch d
     && nat_lt 0 (length (requests found))
     && nat_lt (line_behind d found) (now.ram.base + length now.ram.bytes)
     && nat_lt (length now.misses + length (requests found)) d.cache_mshrs

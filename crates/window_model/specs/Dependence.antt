@@ -1,13 +1,14 @@
 -- Which loads may pass stores of unknown address (docs/machine.md, "Clear").
-use Rattle.std.specs.Prelude.{ℕ, Bool, true, false, not, ◌&&◌, nat_lt, List, slice_set, slice_index_or}
+use Rattle.std.specs.Prelude.{ℕ, Bool, true, false, not, ◌&&◌, List, slice_set, slice_index_or}
 use Rattle.rv_types.specs.declared.Kind.{Kind}
 use Rattle.machine_desc.specs.declared.Desc.{Desc}
+use Rattle.machine_desc.specs.Questions.{loads_pass}
 use Rattle.window_model.specs.Order.{is_store}
 use Rattle.window_model.specs.Resolve.{index}
 
 -- there are bits of dependence: loads may pass stores of unknown address, unless a bit tells them to wait
 abbrev pub passing : Desc → Bool
-passing d = nat_lt 0 d.predictor_depend
+passing d = loads_pass d
 
 -- where the bit of a load at this address stands
 abbrev pub bit_index : Desc → ℕ → ℕ

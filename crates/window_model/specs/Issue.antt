@@ -1,6 +1,6 @@
 -- The fifth phase: entries whose operands are there begin to execute (docs/machine.md, "Issue"). Who may issue stands
 -- in `MayIssue.antt`, who is granted a port in `Ports.antt`; what it comes to stands here.
-use Rattle.std.specs.Prelude.{ℕ, ◌+◌, Bool, true, false, ◌&&◌, ◌==◌, max, List, [], ◌∷◌, ◌++◌, map, Option, Some, None, if◌then◌else◌}
+use Rattle.std.specs.Prelude.{ℕ, ◌+◌, Bool, true, false, ◌&&◌, max, List, [], ◌∷◌, ◌++◌, map, Option, Some, None, if◌then◌else◌}
 use Rattle.std.specs.List.{flat_map}
 use Rattle.rv_types.specs.Word.{from_le}
 use Rattle.rv_types.specs.Value.{extend, div_time}
@@ -11,6 +11,7 @@ use Rattle.rv_types.specs.declared.Cause.{Cause}
 use Rattle.rv_types.specs.declared.Kind.{Kind}
 use Rattle.rv_types.specs.declared.Kind.TheVariants.{Mul, Div, Load}
 use Rattle.machine_desc.specs.declared.Desc.{Desc}
+use Rattle.machine_desc.specs.Questions.{stores_in_one}
 use Rattle.window_model.specs.declared.Entry.{Entry}
 use Rattle.window_model.specs.declared.Event.{Event}
 use Rattle.window_model.specs.declared.Event.TheVariants as event
@@ -144,7 +145,7 @@ store_by_parts d now before e =
 
 -- what a store becomes in its version
 abbrev pub issue_store : Desc → Around → List Entry → Entry → Begun
-issue_store d now before e = if d.version == 1 then store_in_one d now before e else store_by_parts d now before e
+issue_store d now before e = if stores_in_one d then store_in_one d now before e else store_by_parts d now before e
 
 -- what an entry becomes in Issue, a store or any other
 abbrev pub issue_entry : Desc → Around → List Entry → Entry → Begun

@@ -1,6 +1,6 @@
 -- Which entries may issue (docs/machine.md, "Issue"): by their operands, by the stores before them, and a store by the
 -- version, in one piece or by parts.
-use Rattle.std.specs.Prelude.{ℕ, Bool, true, not, ◌&&◌, ◌||◌, ◌==◌, List, [], ◌∷◌, if◌then◌else◌}
+use Rattle.std.specs.Prelude.{ℕ, Bool, true, not, ◌&&◌, ◌||◌, List, [], ◌∷◌, if◌then◌else◌}
 use Rattle.std.specs.List.{list_all, list_any}
 use Rattle.rv_types.specs.Isa.{Effect, effect}
 use Rattle.rv_types.specs.Memory.{load_fault, range}
@@ -8,6 +8,7 @@ use Rattle.rv_types.specs.Path.{unless_fault}
 use Rattle.rv_types.specs.declared.Kind.{Kind}
 use Rattle.rv_types.specs.declared.Kind.TheVariants.{Div, Load}
 use Rattle.machine_desc.specs.declared.Desc.{Desc}
+use Rattle.machine_desc.specs.Questions.{stores_in_one}
 use Rattle.machine_desc.specs.declared.SttModel.{SttModel}
 use Rattle.window_model.specs.declared.Entry.{Entry}
 use Rattle.window_model.specs.Around.{Around, is_free}
@@ -69,7 +70,7 @@ stores_let model passes bytes (e ∷ before) =
 -- what a load asks of the older stores: in version 1 that they are Done
 abbrev pub goes_behind : Desc → Around → List Entry → Entry → Bool
 goes_behind d now before e =
-    if d.version == 1 then stores_done before else stores_let d.stt_model (passes_stores d now e) (bytes_of now before e) before
+    if stores_in_one d then stores_done before else stores_let d.stt_model (passes_stores d now e) (bytes_of now before e) before
 
 -- what loads and divisions ask for besides
 abbrev pub may_issue_as : Kind → Desc → Around → List Entry → Entry → Bool
@@ -103,4 +104,4 @@ asks_by_parts d before e = record {
 
 -- which ports a store asks for in its version
 abbrev pub store_asks : Desc → List Entry → Entry → Asks
-store_asks d before e = if d.version == 1 then asks_in_one d before e else asks_by_parts d before e
+store_asks d before e = if stores_in_one d then asks_in_one d before e else asks_by_parts d before e
