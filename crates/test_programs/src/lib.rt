@@ -1,5 +1,5 @@
-//! The programs that tests run, as words of code: those of the worked traces (`docs/machine.md`, "Worked traces"), and
-//! small ones.
+//! The programs that tests run, as words of code, each with its instruction beside it: those of the worked traces
+//! (`docs/traces.md`), and small ones. Targets of branches and jumps are distances from the instruction itself.
 //!
 //! Code stands at 0x00010000. A program begins with x2 16 bytes below the end of memory, where its data stands, if it
 //! has any.
