@@ -38,11 +38,8 @@ cycle d code x =
     let before = before_retire d (begins_cycle x) in
     let r = retire d before.machine in
     let after = after_retire d code r.machine in
-    record {
-      machine = after.machine;
-      row = record { cycle = x.cycle + 1; events = before.events ++ r.events ++ after.events };
-      piece = r.piece;
-    }
+    let events = before.events ++ r.events ++ after.events in
+    record { machine = after.machine; row = record { cycle = x.cycle + 1; events = events }; piece = r.piece }
 
 -- the state after k cycles, fewer where the run ended
 abbrev pub after_cycles : Desc → Code → ℕ → Machine → Machine
