@@ -18,8 +18,14 @@ pub record Around : Type 0 where
 -- what an entry that issues sees of this machine besides the older entries
 abbrev pub around : Machine → Around
 around x = record {
-  cycle = x.cycle; regs = x.regs; ram = x.ram; dependence = x.dependence;
-  cache = x.cache; second = x.second; misses = x.misses; free_from = x.divider.free_from;
+  cycle = x.cycle;
+  regs = x.regs;
+  ram = x.ram;
+  dependence = x.dependence;
+  cache = x.cache;
+  second = x.second;
+  misses = x.misses;
+  free_from = x.divider.free_from;
 }
 
 -- the divider is free in this cycle

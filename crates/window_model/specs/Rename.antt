@@ -54,9 +54,15 @@ fits d window item =
 abbrev pub renamed : Desc → ℕ → Item → Entry
 renamed d serial item =
     record {
-      serial = serial; item = item; state = if at_once item.kind then Done else Waiting;
-      outcome = None; issued = None; addr_due = None; data_due = None;
-      resolved = false; cleared = not (needs_clearing d item.kind);
+      serial = serial;
+      item = item;
+      state = if at_once item.kind then Done else Waiting;
+      outcome = None;
+      resolved = false;
+      issued = None;
+      addr_due = None;
+      data_due = None;
+      cleared = not (needs_clearing d item.kind);
     }
 
 -- the item goes behind the youngest entry, with the next serial

@@ -60,10 +60,24 @@ abbrev pub opening : Desc → ℕ → Ram → Machine
 opening d entry ram =
     let s = start entry ram in
     record {
-      cycle = 0; regs = s.regs; pc = s.pc; ram = s.ram; window = []; queue = []; fetch_pc = Some entry; mark = no_mark;
-      counters = replicate d.predictor_counters 1; targets = replicate d.predictor_btb None;
-      dependence = replicate d.predictor_depend false; cache = replicate d.cache_sets []; second = replicate d.cache_second_sets [];
-      misses = []; divider = record { free_from = 0; user = None }; retired = 0; next_serial = 0; end = None;
+      cycle = 0;
+      regs = s.regs;
+      pc = s.pc;
+      ram = s.ram;
+      window = [];
+      queue = [];
+      fetch_pc = Some entry;
+      counters = replicate d.predictor_counters 1;
+      targets = replicate d.predictor_btb None;
+      dependence = replicate d.predictor_depend false;
+      mark = no_mark;
+      cache = replicate d.cache_sets [];
+      second = replicate d.cache_second_sets [];
+      misses = [];
+      divider = record { free_from = 0; user = None };
+      retired = 0;
+      next_serial = 0;
+      end = None;
     }
 
 -- the first address of an address's line
