@@ -15,6 +15,11 @@ is_set bits pc = slice_index_or bits (place bits pc) false
 abbrev pub with_set : List Bool → ℕ → List Bool
 with_set bits pc = slice_set bits (place bits pc) true
 
--- what is so in the machine of every description that asks for as many bits
+-- there is a description that asks for so many bits
+pub record IsAsked (bits : ℕ) : Type 0 where
+  pub desc : Desc
+  pub as_many : bits ≡ desc.predictor_depend
+
+-- what is so in the machine of every description that asks for as many bits; there is one (`IsAsked`)
 abbrev pub InEach : List Bool → (Desc → Type 0) → Type 0
 InEach bits So = (d : Desc) → length bits ≡ d.predictor_depend → So d

@@ -3,7 +3,7 @@ ghost use Rattle.std.specs.Prelude.{◌≡◌, ◌<◌, ◌^◌, false, length, 
 ghost use Rattle.window_model.specs.Dependence.{bit_index, bit_set, waits_for_stores};
 ghost use Rattle.window_model.specs.Resolve.{index};
 ghost use Rattle.window_model.specs.declared.Event.TheVariants as event;
-ghost use Rattle.dep_pred.specs.Bits.{InEach, is_set, place, with_set};
+ghost use Rattle.dep_pred.specs.Bits.{InEach, IsAsked, is_set, place, with_set};
 
 use machine_desc::Desc;
 use rv_types::NoMemory;
@@ -11,18 +11,21 @@ use std::alloc::Global;
 use std::marker::Model;
 use window_model::Event;
 
-/// The bits of dependence, seen as whether each is set.
+/// The bits of dependence, seen as whether each is set. There are as many as some description asks for.
 #[derive(Drop)]
 pub struct DepPred {
     bits: Vec<bool>,
 }
 
 impl Model for DepPred {
-    ghost use Rattle.std.specs.Prelude.{Bool, List};
+    ghost use Rattle.std.specs.Prelude.{Bool, List, vec_len};
+    ghost use Rattle.dep_pred.specs.Bits.{IsAsked};
 
     ghost Value = { List Bool };
 
     ghost view = { λ p. p.bits.items };
+
+    ghost invariant = { λ p. IsAsked (vec_len p.bits) };
 }
 
 impl DepPred {
@@ -32,6 +35,14 @@ impl DepPred {
     {
         let bits = vec![in alloc; false; desc.predictor_depend as usize]?;
         Ok(DepPred { bits })
+    }
+
+    /// There is a description that asks for as many bits. It does nothing.
+    #[inline(always)]
+    pub fn described(&self)
+        ensures { IsAsked (length self.now) }
+    {
+        let _ = &self.bits;
     }
 
     /// Whether a load at this address waits for the addresses of all older stores: its bit is set. There is a bit or
@@ -50,7 +61,8 @@ impl DepPred {
         requires { 0 < length self.old }
         ensures bit { self.new ≡ with_set self.old pc }
         ensures event { result ≡ event.Dp (place self.old pc) 1 }
-        ensures machine { InEach self.old (λ d. (self.new ≡ bit_set d pc self.old) × (result ≡ event.Dp (bit_index d pc) 1)) }
+        ensures machine { InEach self.old (λ d.
+            (self.new ≡ bit_set d pc self.old) × (result ≡ event.Dp (bit_index d pc) 1)) }
     {
         let place = index(pc, self.bits.len());
         self.bits[place] = true;

@@ -1,10 +1,9 @@
 //! The phase: line by line.
 ghost use Rattle.std.specs.Prelude.{◌≡◌, map};
 ghost use Rattle.window_model.specs.declared.Event.TheVariants as event;
-ghost use Rattle.window_model.specs.Fill.{fill, lines};
+ghost use Rattle.window_model.specs.Fill.{arriving, fill, from_memory, lines, staying};
 ghost use Rattle.window_model.specs.inner.Row.{HasRoom, IsLonger, most_filled, with_events};
-ghost use Rattle.mshr_file.specs.Laws.{arriving, staying};
-ghost use Rattle.fill.specs.Lines.{from_memory, with_lines, with_second_line, with_second_lines};
+ghost use Rattle.fill.specs.Lines.{with_lines, with_second_line, with_second_lines};
 
 use cache_tags::Tags;
 use core_parts::Parts;

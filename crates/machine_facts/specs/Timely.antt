@@ -14,7 +14,7 @@ use Rattle.window_model.specs.declared.Progress.TheVariants.{Busy}
 use Rattle.window_model.specs.State.{Machine}
 use Rattle.window_model.specs.Order.{is_done, is_faulty, is_store}
 use Rattle.window_model.specs.Rename.{is_stop}
-use Rattle.window_model.specs.Dependence.{starts_cleared}
+use Rattle.window_model.specs.Dependence.{needs_clearing}
 
 -- serials rise from `low` on, and all stay below `next`
 abbrev pub Rises : ℕ → List Entry → ℕ → Type 0
@@ -63,9 +63,9 @@ PartDue cycle (Some due) = due ≤ cycle + 1
 abbrev pub PartsDue : ℕ → Entry → Type 0
 PartsDue cycle e = PartDue cycle e.addr_due × PartDue cycle e.data_due
 
--- what starts cleared is cleared: all but stores that loads may pass
+-- an entry that needs no clearing is cleared
 abbrev pub StaysCleared : Desc → Entry → Type 0
-StaysCleared d e = starts_cleared d e.item.kind ≡ true → e.cleared ≡ true
+StaysCleared d e = needs_clearing d e.item.kind ≡ false → e.cleared ≡ true
 
 -- a miss register is freed within the latency of a miss
 abbrev pub IsPending : Desc → ℕ → ℕ → Miss → Type 0

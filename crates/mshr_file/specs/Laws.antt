@@ -1,17 +1,9 @@
 -- Freeing the registers that are due, one after the other, is phase Fill (docs/machine.md, "Fill").
-use Rattle.std.specs.Prelude.{◌≡◌, ℕ, not, List, [], ◌∷◌, Some, None}
-use Rattle.std.specs.List.{filter, find}
+use Rattle.std.specs.Prelude.{◌≡◌, ℕ, List, [], ◌∷◌, Some, None}
+use Rattle.std.specs.List.{find}
 use Rattle.window_model.specs.declared.Miss.{Miss}
-use Rattle.window_model.specs.Fill.{is_due}
+use Rattle.window_model.specs.Fill.{arriving, is_due, staying}
 use Rattle.mshr_file.specs.Registers.{without_first}
-
--- the registers whose lines phase Fill brings into the cache, in its order
-abbrev pub arriving : ℕ → List Miss → List Miss
-arriving cycle misses = filter (is_due cycle) misses
-
--- the registers that phase Fill leaves
-abbrev pub staying : ℕ → List Miss → List Miss
-staying cycle misses = filter (λ m. not (is_due cycle m)) misses
 
 -- the register that is freed is the first whose line arrives, and the others then arrive as before
 abbrev pub ArrivesFirst : Type 0

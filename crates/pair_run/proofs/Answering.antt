@@ -14,7 +14,7 @@ use Rattle.machine_desc.proofs.EveryDesc.{every_desc}
 use Rattle.machine_facts.specs.Timely.{Counted}
 use Rattle.machine_facts.proofs.FewEvents.{counts_at}
 use Rattle.window_model.specs.State.{Machine}
-use Rattle.window_model.specs.Cycle.{Trace, trace, at, after_cycles}
+use Rattle.window_model.specs.Cycle.{Trace, trace, trace_from, at, after_cycles}
 use Rattle.window_model.specs.Committed.{Aligned}
 use Rattle.window_model.specs.Path.{path as path_of}
 use Rattle.window_model.specs.Taint.{protects}
@@ -27,7 +27,6 @@ use Rattle.pair_run.specs.Answer.{Answers, Differs, Premise}
 use Rattle.isa_step.specs.State.{IsaState}
 use Rattle.pair_run.specs.inner.Loaded.{StartsAgree}
 use Rattle.pair_run.specs.declared.starting.Start.{Start}
-use Rattle.pair_run.specs.inner.Running.{trace_from}
 use Rattle.pair_run.specs.declared.answer.Differ.{Differ}
 use Rattle.pair_run.specs.declared.answer.Differ.TheVariants.{Same, Cycle, End}
 

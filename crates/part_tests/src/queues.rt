@@ -298,8 +298,8 @@ fn passed_stores(rt: &impl Abort, alloc: Global) -> Result<Lsq, Fail> {
 fn the_oldest_load_that_passed_wrongly_is_violated(rt: HostRuntime) -> Result<(), Fail> {
     let alloc = rt.alloc();
     let mut lsq = passed_stores(&rt, alloc)?;
-    // Of the loads behind 5 the first issued once its address was known, and the second has a fault. Then a store with
-    // a fault, one that writes elsewhere, one of unknown address, and one that isn't there.
+    // Store 5: the first load behind it issued once its address was known, and the second has a fault. Then a store
+    // with a fault, one that writes elsewhere, one of unknown address, and one that isn't there.
     let rows = [(5, Some(9)), (3, None), (12, None), (8, None)];
     for (serial, violated) in rows {
         assert_same(&rt, &(serial, lsq.clear(serial)), &(serial, violated));
@@ -315,8 +315,8 @@ fn the_oldest_load_that_passed_wrongly_is_violated(rt: HostRuntime) -> Result<()
         assert_same(&rt, &(place, lsq.store_at(place)), &(place, info));
     }
     assert!(rt; lsq.clear(4).is_none());
-    // Of two loads that passed it wrongly the oldest is violated, also where it issued last; a load that hasn't issued
-    // isn't.
+    // Where two loads passed a store wrongly the oldest is violated, also where it issued last; a load that hasn't
+    // issued isn't.
     lsq.cut(7);
     assert!(rt; add_load(&mut lsq, 10) && add_load(&mut lsq, 11));
     issue(&mut lsq, 11, &access(BASE + 2, Width::H, None, 3));

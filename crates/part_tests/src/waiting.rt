@@ -7,8 +7,8 @@ use stations::{Part, Stations, Wants};
 use std::alloc::Global;
 use std::test::Fail;
 
-// Of the entry at a position, whether it is ready, its first part, its second part, and whether it may issue or a part
-// of it.
+// What the stations tell of the entry at a position: whether it is ready, its first part, its second part, and whether
+// it may issue or a part of it.
 fn told(stations: &Stations, i: u32) -> [bool; 4] {
     if i >= stations.len() {
         return [false; 4];

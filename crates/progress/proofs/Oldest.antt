@@ -136,10 +136,10 @@ not_now s c a true h n p q = absurd (cc)
 not_now false c a t h n p q = absurd (cc)
 not_now s c false t h n p q = absurd (cc)
 
--- where no load passes a store each is cleared from the start
-from_start : (p s : Bool) → p ≡ false → not (p && s) ≡ true
-from_start false s h = refl
-from_start true s h = absurd (cc)
+-- where no load passes a store, no entry needs clearing
+needs_none : (p s : Bool) → p ≡ false → (p && s) ≡ false
+needs_none false s h = refl
+needs_none true s h = absurd (cc)
 
 module _ (d : Desc) (h : Entry) (younger : List Entry) (x : Machine) where
   abbrev whole : Machine
@@ -177,7 +177,7 @@ module _ (d : Desc) (h : Entry) (younger : List Entry) (x : Machine) where
     where
       by_passing : (b : Bool) → passing d ≡ b → GetsCleared h (if b then clear_at d (first (may_clear d) (h ∷ younger)) whole else nothing whole).machine.window
       by_passing true q = clears_first (may_clear d [] h) refl
-      by_passing false q = as_it_is (λ k a. s (from_start (passing d) (is_store h.item.kind) q))
+      by_passing false q = as_it_is (λ k a. s (needs_none (passing d) (is_store h.item.kind) q))
 
 -- ---- Resolve and Clear together
 

@@ -2,7 +2,7 @@
 ghost use Rattle.std.specs.Prelude.{◌≡◌, ◌<◌, ◌++◌, ◌∷◌, [], ◌&&◌, ◌==◌, if◌then◌else◌, ℕ, true, false, not, length};
 ghost use Rattle.std.specs.List.{All};
 ghost use Rattle.circular_buffer.specs.Buffer.{buffer};
-ghost use Rattle.window_model.specs.Dependence.{starts_cleared};
+ghost use Rattle.window_model.specs.Dependence.{needs_clearing};
 ghost use Rattle.window_model.specs.Rename.{at_once, renamed};
 ghost use Rattle.window_model.specs.Order.{is_load, is_store};
 ghost use Rattle.stations.specs.declared.wants.Wants.TheVariants as wants;
@@ -29,13 +29,13 @@ pub(crate) fn add_entry(serial: u64, item: &Item, desc: &Desc, rob: &mut RobRing
     rob.push(renamed(serial, item, desc));
 }
 
-// What is cleared from its first cycle on: all but a store that loads may pass.
-fn starts_cleared(kind: Kind, desc: &Desc) -> bool
-    ensures { result ≡ starts_cleared desc.now kind }
+// What has to be cleared: a store that loads may pass.
+fn needs_clearing(kind: Kind, desc: &Desc) -> bool
+    ensures { result ≡ needs_clearing desc.now kind }
 {
     match kind {
-        Kind::Store => desc.predictor_depend == 0,
-        _ => true,
+        Kind::Store => desc.predictor_depend > 0,
+        _ => false,
     }
 }
 
@@ -57,7 +57,7 @@ fn renamed(serial: u64, item: &Item, desc: &Desc) -> Entry
         issued: None,
         addr_due: None,
         data_due: None,
-        cleared: starts_cleared(item.kind, desc),
+        cleared: !needs_clearing(item.kind, desc),
     }
 }
 

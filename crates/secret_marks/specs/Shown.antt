@@ -42,6 +42,10 @@ operands_shown d m before marks (e ∷ window) (own ∷ owns) =
     if operand_shows d m before marks e then Some (shown_by e) else operands_shown d m (e ∷ before) (own ∷ marks) window owns
 operands_shown d m before marks _ _ = None
 
+-- the oldest entry whose first operand shows as a cycle issues, unless the run has ended
+abbrev pub issue_shown : Desc → Machine → Marks → Option Shown
+issue_shown d x m = unless_ended x.end None (operands_shown d m [] [] x.window m.window)
+
 -- what shows first in a cycle, by the order of the phases and by age
 abbrev pub shown_cycle : Desc → Machine → Marks → Option Shown
 shown_cycle d x m =
@@ -50,8 +54,7 @@ shown_cycle d x m =
     let l = watch_clear d r.machine r.marks in
     let t = watch_retire d l.machine l.marks in
     or_else (resolved_shown r.machine.window r.marks.window)
-    (or_else (head_shown l.machine.window l.machine l.marks)
-    (unless_ended t.machine.end None (operands_shown d t.marks [] [] t.machine.window t.marks.window)))
+    (or_else (head_shown l.machine.window l.machine l.marks) (issue_shown d t.machine t.marks))
 
 -- something shows first in a cycle exactly where the watched cycle says that something shows
 abbrev pub ShownWhereShows : Type 0

@@ -69,7 +69,8 @@ pub fn perform<O: Sink>(
     out: &mut O,
 ) -> Result<Verdict, Unjudged>
     requires { Fits read.desc read.image.ram }
-    ensures { Performs (verdict_of read.desc (loaded read.image) secret.now cycles) (O.told out.old) (O.told out.new) result }
+    ensures { Performs (verdict_of read.desc (loaded read.image) secret.now cycles)
+        (O.told out.old) (O.told out.new) result }
 {
     let verdict = judge(alloc, read, secret, cycles)?;
     write_verdict(&verdict, out)?;

@@ -9,7 +9,7 @@ use Rattle.machine_desc.proofs.EveryDesc.{every_desc}
 use Rattle.window_model.specs.State.{Machine}
 use Rattle.window_model.specs.Shape.{SameShape}
 use Rattle.window_model.specs.Retire.{hart_of}
-use Rattle.window_model.specs.Cycle.{rows, cycle, pieces, after_cycles}
+use Rattle.window_model.specs.Cycle.{rows, cycle, pieces, after_cycles, trace_from}
 use Rattle.window_model.proofs.Walks.{run_keep}
 use Rattle.machine_facts.specs.Sized.{Sized}
 use Rattle.machine_facts.proofs.SizedRun.{sized_cycle, memory_stays_cycle}
@@ -20,7 +20,6 @@ use Rattle.trace_text.proofs.Growing.{trace_parts}
 use Rattle.tool_io.specs.Outside.{Told, Wrote, WrotePart}
 use Rattle.tool_io.proofs.Writing.{part_more, wrote_then, wrote_then_part}
 use Rattle.pair_run.specs.Running.{ending_at}
-use Rattle.pair_run.specs.inner.Running.{trace_from}
 use Rattle.stt_top.specs.Clocking.{run_from, report_from}
 use Rattle.stt_top.specs.inner.Clocking.{CameTo}
 use Rattle.stt_top.proofs.Turns.{same_hart}

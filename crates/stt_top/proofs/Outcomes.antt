@@ -6,13 +6,13 @@ use Rattle.machine_desc.specs.declared.Desc.{Desc}
 use Rattle.elf_loader.specs.declared.loading.Image.{Image}
 use Rattle.pair_run.specs.Answer.{Answers}
 use Rattle.pair_run.specs.inner.Images.{Images}
-use Rattle.pair_run.specs.inner.Running.{trace_from}
 use Rattle.run_inputs.specs.Loaded.{loaded}
 use Rattle.pair_run.specs.declared.answer.PairAnswer.{PairAnswer}
 use Rattle.pair_run.specs.Comparison.{comparison}
 use Rattle.tool_io.specs.Outside.{Told, Shelf, Wrote, WrotePart}
 use Rattle.trace_text.specs.TraceText.{trace_text}
 use Rattle.window_model.specs.State.{Machine}
+use Rattle.window_model.specs.Cycle.{trace_from}
 use Rattle.tool_words.specs.Words.{CommandText, command_of}
 use Rattle.stt_top.specs.declared.outcome.Ended.{Ended}
 use Rattle.run_inputs.specs.declared.refusal.Refusal.{Refusal}

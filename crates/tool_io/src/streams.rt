@@ -16,7 +16,8 @@ const BUFFER: usize = 4096;
 // Errors: `Failed` where a read fails, after however many bytes; `NoMemory`, only once the stream has given bytes.
 fn read_up_to<T: Read>(alloc: Global, from: &mut T, max: usize) -> Result<Got, ReadFail>
     ensures got { IfOk result (GetsTold (T.remaining from.old) max) }
-    ensures wanting { IfErr result (λ e. e ≡ ReadFail.NoMemory → HasGiven (T.remaining from.old) (T.remaining from.new)) }
+    ensures wanting { IfErr result (λ e.
+        e ≡ ReadFail.NoMemory → HasGiven (T.remaining from.old) (T.remaining from.new)) }
 {
     let mut bytes = Vec::new(alloc);
     let mut buffer = [0u8; BUFFER];
@@ -43,7 +44,8 @@ pub(crate) fn read_opened<T: Read + Drop>(
     max: usize,
 ) -> Result<Got, ReadFail>
     ensures got { IfOk opened (λ stream. IfOk result (GetsTold (T.remaining stream) max)) }
-    ensures wanting { IfOk opened (λ stream. IfErr result (λ e. e ≡ ReadFail.NoMemory → GivesSome (T.remaining stream))) }
+    ensures wanting { IfOk opened (λ stream. IfErr result (λ e.
+        e ≡ ReadFail.NoMemory → GivesSome (T.remaining stream))) }
     ensures unopened { IsErr opened → result ≡ Err ReadFail.Failed }
 {
     match opened {

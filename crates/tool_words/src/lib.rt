@@ -114,7 +114,8 @@ pub fn with_arg<'a>(
     arg: Arg<'a>,
 ) -> Result<Parser<'a>, AllocError>
     requires { arg.global ≡ false }
-    ensures { (app : App) (rule : Rule) → rule_of arg.entry ≡ rule → IsParser app parser.entry → IsParser (with_rule app rule) result }
+    ensures { (app : App) (rule : Rule) → rule_of arg.entry ≡ rule → IsParser app parser.entry
+        → IsParser (with_rule app rule) result }
 {
     parser?.arg(arg)
 }

@@ -5,7 +5,9 @@ use Rattle.std.specs.List.{list_any}
 use Rattle.rv_types.specs.Memory.{range}
 use Rattle.machine_desc.specs.declared.Desc.{Desc}
 use Rattle.window_model.specs.declared.Entry.{Entry}
+use Rattle.window_model.specs.declared.Event.{Event}
 use Rattle.window_model.specs.declared.Event.TheVariants as event
+use Rattle.window_model.specs.declared.Item.{Item}
 use Rattle.window_model.specs.State.{Machine, After, nothing}
 use Rattle.window_model.specs.Order.{Place, first, is_load, is_store, is_faulty, has_address}
 use Rattle.window_model.specs.Taint.{address_tainted}
@@ -50,17 +52,27 @@ clears p x = record {
   events = event.Clr p.entry.serial ∷ [];
 }
 
+-- what stays of the window where the violated load stands at q among the entries younger than the store: the store,
+-- cleared, and all that is older than the load
+abbrev pub older_than_load : Place → Place → List Entry
+older_than_load p q = reverse p.before ++ cleared_one p.entry ∷ reverse q.before
+
+-- the events of a violation: the store is cleared, the load violated, its bit set, and load, younger entries and fetched
+-- items go
+abbrev pub violation_events : Desc → Place → Place → List Item → List Event
+violation_events d p q queue =
+    event.Clr p.entry.serial ∷ event.Vio q.entry.serial ∷ event.Dp (bit_index d q.entry.item.pc) 1
+    ∷ event.Sq (length q.younger + 1 + length queue) ∷ []
+
 -- the store is cleared; the violated load, found at q among the younger entries, goes with all that is younger than it,
 -- its bit is set, and fetch goes on at it, with history and stack as they were before it
 abbrev pub violates : Desc → Place → Place → Machine → After
 violates d p q x =
     let load = q.entry in
-    let y = dropped load.serial (reverse p.before ++ cleared_one p.entry ∷ reverse q.before) (Some load.item.pc) load.item.mark x in
+    let y = dropped load.serial (older_than_load p q) (Some load.item.pc) load.item.mark x in
     record {
       machine = record y { dependence = bit_set d load.item.pc x.dependence };
-      events =
-          event.Clr p.entry.serial ∷ event.Vio load.serial ∷ event.Dp (bit_index d load.item.pc) 1
-          ∷ event.Sq (length q.younger + 1 + length x.queue) ∷ [];
+      events = violation_events d p q x.queue;
     }
 
 -- what Clear leaves of a store that it clears, by the violated load, if there is one

@@ -38,11 +38,8 @@ cycle d code x =
     let before = before_retire d (begins_cycle x) in
     let r = retire d before.machine in
     let after = after_retire d code r.machine in
-    record {
-      machine = after.machine;
-      row = record { cycle = x.cycle + 1; events = before.events ++ r.events ++ after.events };
-      piece = r.piece;
-    }
+    let events = before.events ++ r.events ++ after.events in
+    record { machine = after.machine; row = record { cycle = x.cycle + 1; events = events }; piece = r.piece }
 
 -- the state after k cycles, fewer where the run ended
 abbrev pub after_cycles : Desc → Code → ℕ → Machine → Machine
@@ -66,12 +63,16 @@ pub record Trace : Type 0 where
   pub retired : ℕ
   pub cycles : ℕ
 
+-- a run of at most n cycles from a state
+abbrev pub trace_from : Desc → Code → ℕ → Machine → Trace
+trace_from d code n x =
+    let last = after_cycles d code n x in
+    record { rows = rows d code n x; end = last.end; retired = last.retired; cycles = last.cycle }
+
 -- the state after k cycles from the opening, fewer where the run ended
 abbrev pub at : Desc → Code → ℕ → Ram → ℕ → Machine
 at d code entry ram k = after_cycles d code k (opening d entry ram)
 
--- a run of at most n cycles
+-- a run of at most n cycles from the opening
 abbrev pub trace : Desc → Code → ℕ → Ram → ℕ → Trace
-trace d code entry ram n =
-    let last = at d code entry ram n in
-    record { rows = rows d code n (opening d entry ram); end = last.end; retired = last.retired; cycles = last.cycle }
+trace d code entry ram n = trace_from d code n (opening d entry ram)

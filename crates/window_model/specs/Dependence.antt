@@ -1,5 +1,5 @@
 -- Which loads may pass stores of unknown address (docs/machine.md, "Clear").
-use Rattle.std.specs.Prelude.{ℕ, Bool, true, false, not, ◌&&◌, List, slice_set, slice_index_or}
+use Rattle.std.specs.Prelude.{ℕ, Bool, true, false, ◌&&◌, List, slice_set, slice_index_or}
 use Rattle.rv_types.specs.declared.Kind.{Kind}
 use Rattle.machine_desc.specs.declared.Desc.{Desc}
 use Rattle.machine_desc.specs.Questions.{loads_pass}
@@ -22,7 +22,7 @@ waits_for_stores d dependence pc = slice_index_or dependence (bit_index d pc) fa
 abbrev pub bit_set : Desc → ℕ → List Bool → List Bool
 bit_set d pc dependence = slice_set dependence (bit_index d pc) true
 
--- what an item is in the window from its first cycle on: cleared, unless it is a store that loads may pass. So without
--- bits of dependence every entry is cleared all along, and whoever asks `cleared` of a store asks nothing
-abbrev pub starts_cleared : Desc → Kind → Bool
-starts_cleared d k = not (passing d && is_store k)
+-- an entry of this kind has to be cleared before it counts as cleared: a store, where there are bits of dependence and so
+-- loads may pass it. Any other entry is cleared from its renaming on
+abbrev pub needs_clearing : Desc → Kind → Bool
+needs_clearing d k = passing d && is_store k

@@ -62,13 +62,9 @@ predicted _ d targets m way pc i = Some (word_add pc 4)
 abbrev pub item_at : Desc → Code → Machine → ℕ → Item
 item_at d code x pc =
     let w = code pc in
-    record {
-      pc = pc;
-      instr = instr_at w;
-      kind = kind_at w;
-      predicted = predicted (kind_at w) d x.targets x.mark (guess (kind_at w) d x.counters x.mark pc) pc (instr_at w);
-      mark = x.mark;
-    }
+    let way = guess (kind_at w) d x.counters x.mark pc in
+    let next = predicted (kind_at w) d x.targets x.mark way pc (instr_at w) in
+    record { pc = pc; instr = instr_at w; kind = kind_at w; predicted = next; mark = x.mark }
 
 -- history and stack after an item, by the predicted direction where it is a branch
 abbrev pub guessed_mark : Desc → List ℕ → Item → Mark

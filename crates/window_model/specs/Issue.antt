@@ -22,7 +22,7 @@ use Rattle.window_model.specs.State.{Machine, After, Divider}
 use Rattle.window_model.specs.Around.{Around, around}
 use Rattle.window_model.specs.Order.{Place, first, each, is_store, sources}
 use Rattle.window_model.specs.MayIssue.{effect_of, first_operand}
-use Rattle.window_model.specs.Ports.{AddressPort, DataPort, DivPort, LoadPort, is_granted, may_at, port_of}
+use Rattle.window_model.specs.Ports.{Port, AddressPort, DataPort, DivPort, LoadPort, is_granted, may_at, port_of}
 use Rattle.window_model.specs.Retire.{op_of, width_of}
 use Rattle.window_model.specs.Access.{Access, Faults, Forwards, Looks, Waits, access, cache_after, due_by, load_bytes, look_events, misses_after, second_after}
 
@@ -72,21 +72,20 @@ access_of d now before e = access d now before (effect_of now.regs before e).add
 abbrev pub time_of : List ℕ → List Entry → Entry → ℕ
 time_of regs before e = div_time (op_of e.item.instr) (first_operand regs before (sources e))
 
--- what a granted entry does by its kind: when it is done, its outcome and its events
+-- a division of this effect begins, and takes this time
+abbrev pub divides : Around → Entry → Effect → ℕ → Begun
+divides now e f time = begins now e (now.cycle + time) (outcome f f.value None) (event.Div e.serial time ∷ [])
+
+-- what a granted entry of this effect does by its kind: when it is done, its outcome and its events
+abbrev pub begin_by : Kind → Desc → Around → List Entry → Entry → Effect → Begun
+begin_by Load d now before e f = load_as (access_of d now before e) d now e f (value_loaded now.ram before e f.addr)
+begin_by Mul d now before e f = begins now e (now.cycle + d.units_mul_latency) (outcome f f.value None) (event.Mul e.serial ∷ [])
+begin_by Div d now before e f = divides now e f (time_of now.regs before e)
+begin_by _ d now before e f = begins now e (now.cycle + 1) (outcome f f.value (fault_if f.misaligned)) (event.Alu e.serial ∷ [])
+
+-- what a granted entry does by its kind, with the effect that it has on its operands
 abbrev pub begin_as : Kind → Desc → Around → List Entry → Entry → Begun
-begin_as Load d now before e =
-    let f = effect_of now.regs before e in
-    load_as (access_of d now before e) d now e f (value_loaded now.ram before e f.addr)
-begin_as Mul d now before e =
-    let f = effect_of now.regs before e in
-    begins now e (now.cycle + d.units_mul_latency) (outcome f f.value None) (event.Mul e.serial ∷ [])
-begin_as Div d now before e =
-    let f = effect_of now.regs before e in
-    let time = time_of now.regs before e in
-    begins now e (now.cycle + time) (outcome f f.value None) (event.Div e.serial time ∷ [])
-begin_as _ d now before e =
-    let f = effect_of now.regs before e in
-    begins now e (now.cycle + 1) (outcome f f.value (fault_if f.misaligned)) (event.Alu e.serial ∷ [])
+begin_as k d now before e = begin_by k d now before e (effect_of now.regs before e)
 
 -- what is no store issues at the port of its kind: an entry that is granted it begins, any other waits
 abbrev pub issue_whole : Desc → Around → List Entry → Entry → Begun
@@ -174,14 +173,17 @@ abbrev pub divider_after : Machine → Option Place → Divider
 divider_after x None = x.divider
 divider_after x (Some p) = taken_for (around x) p.before p.entry
 
+-- the oldest entry that may issue at this port
+abbrev pub oldest_at : Desc → Port → Machine → Option Place
+oldest_at d port x = first (may_at d (around x) port) x.window
+
 -- every test is made on the state before the phase: the oldest load that may issue is tried, and the oldest such
 -- division takes the divider
 abbrev pub issue : Desc → Machine → After
 issue d x =
-    let now = around x in
-    let begun_all = each (issue_entry d now) x.window in
-    let y = after_load d (first (may_at d now LoadPort) x.window) x in
+    let begun_all = each (issue_entry d (around x)) x.window in
+    let y = after_load d (oldest_at d LoadPort x) x in
     record {
-      machine = record y { window = map (λ b. b.entry) begun_all; divider = divider_after x (first (may_at d now DivPort) x.window) };
+      machine = record y { window = map (λ b. b.entry) begun_all; divider = divider_after x (oldest_at d DivPort x) };
       events = flat_map (λ b. b.events) begun_all;
     }

@@ -10,7 +10,7 @@ use Rattle.window_model.specs.declared.Item.{Item}
 use Rattle.window_model.specs.declared.Progress.TheVariants.{Waiting, Done}
 use Rattle.window_model.specs.State.{Machine, After, then_does, nothing}
 use Rattle.window_model.specs.Order.{is_waiting, is_load, is_store}
-use Rattle.window_model.specs.Dependence.{starts_cleared}
+use Rattle.window_model.specs.Dependence.{needs_clearing}
 
 -- the kind is an ECALL's
 abbrev pub is_call : Kind → Bool
@@ -62,7 +62,7 @@ renamed d serial item =
       issued = None;
       addr_due = None;
       data_due = None;
-      cleared = starts_cleared d item.kind;
+      cleared = not (needs_clearing d item.kind);
     }
 
 -- the item goes behind the youngest entry, with the next serial

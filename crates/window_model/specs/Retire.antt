@@ -4,7 +4,7 @@ use Rattle.std.specs.List.{fold}
 use Rattle.rv_types.specs.Word.{to_le}
 use Rattle.rv_types.specs.Value.{size_of}
 use Rattle.rv_types.specs.Isa.{Hart, Step, Goes, Exits, Traps, call, with_reg}
-use Rattle.rv_types.specs.Memory.{with_bytes}
+use Rattle.rv_types.specs.Memory.{Ram, with_bytes}
 use Rattle.rv_types.specs.Regs.{writes_of}
 use Rattle.rv_types.specs.declared.Cause.{Cause}
 use Rattle.rv_types.specs.declared.End.{End}
@@ -104,14 +104,19 @@ leaves e rest x = record x {
 abbrev pub lines_in : Desc → Entry → List ℕ
 lines_in d e = lines_of d (addr_of e.outcome) (width_of e)
 
+-- memory once a store has written its bytes
+abbrev pub stored_in : Ram → Entry → Ram
+stored_in ram e = with_bytes ram (addr_of e.outcome) (to_le (width_of e) (stored_of e.outcome))
+
+-- a store's events: that it retires, and whether the cache has each of its lines
+abbrev pub store_events : Desc → Entry → List (List ℕ) → List Event
+store_events d e cache = event.Ret e.serial ∷ map (λ line. event.St e.serial line (has_line d cache line)) (lines_in d e)
+
 -- a store also writes its bytes, and moves each of its lines to the front of its set, where the cache has it
 abbrev pub store_leaves : Desc → Entry → List Entry → Machine → Retired
 store_leaves d e rest x = record {
-  machine = record (leaves e rest x) {
-    ram = with_bytes x.ram (addr_of e.outcome) (to_le (width_of e) (stored_of e.outcome));
-    cache = fold (touched d) x.cache (lines_in d e);
-  };
-  events = event.Ret e.serial ∷ map (λ line. event.St e.serial line (has_line d x.cache line)) (lines_in d e);
+  machine = record (leaves e rest x) { ram = stored_in x.ram e; cache = fold (touched d) x.cache (lines_in d e) };
+  events = store_events d e x.cache;
   piece = [];
 }
 
@@ -146,7 +151,8 @@ then_retires r more = let s = more r.machine in record { machine = s.machine; ev
 abbrev pub ends_with : Cause → Entry → Machine → Retired
 ends_with cause e x = stays (record x { end = Some (Trap cause e.item.pc) })
 
--- a store waits behind another one of the cycle, and until it is cleared
+-- a store waits behind another one of the cycle, and until it is cleared. This asks `cleared` alone: a store that needs no
+-- clearing is cleared from its renaming on (`needs_clearing` of `Dependence.antt`)
 abbrev pub store_waits : Bool → Entry → Bool
 store_waits stored e = is_store e.item.kind && (stored || not e.cleared)
 

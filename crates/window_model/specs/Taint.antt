@@ -9,9 +9,8 @@ use Rattle.machine_desc.specs.declared.SttModel.{SttModel}
 use Rattle.machine_desc.specs.declared.SttModel.TheVariants.{Spectre, Futuristic, Off}
 use Rattle.window_model.specs.Order.{is_done, is_load, is_faulty, writes, sources, base_of}
 
--- by its kind, the entry squashes nothing that comes after it. A store that loads may have passed has to be cleared;
--- where no load passes stores, each is cleared from its renaming on (`starts_cleared` of `Dependence.antt`), and this
--- asks nothing
+-- by its kind, the entry squashes nothing that comes after it. Of a store this asks `cleared` alone, and not whether it
+-- needs clearing: a store that needs none is cleared from its renaming on (`needs_clearing` of `Dependence.antt`)
 abbrev pub safe_as : Kind → Entry → Bool
 safe_as Load e = is_done e.state && not (is_faulty e)
 safe_as Store e = is_done e.state && not (is_faulty e) && e.cleared
@@ -26,8 +25,8 @@ abbrev pub safe : Entry → Bool
 safe e = safe_as e.item.kind e
 
 -- by its kind, whether it is resolved and whether it is cleared: the entry squashes nothing that comes after it, but by
--- a fault. So a store holds up what is younger only where there are bits of dependence: without them no load passes a
--- store, and each store is cleared from its renaming on (`starts_cleared` of `Dependence.antt`)
+-- a fault. Of a store this asks `cleared` alone, and not whether it needs clearing: a store that needs none, since no load
+-- passes it, is cleared from its renaming on (`needs_clearing` of `Dependence.antt`) and holds up nothing
 abbrev pub settled_as : Kind → Bool → Bool → Bool
 settled_as Branch resolved cleared = resolved
 settled_as Jalr resolved cleared = resolved

@@ -4,7 +4,7 @@ use Rattle.rv_types.specs.Memory.{Code}
 use Rattle.rv_types.specs.declared.Ending.{Ending}
 use Rattle.machine_desc.specs.declared.Desc.{Desc}
 use Rattle.window_model.specs.State.{Machine}
-use Rattle.window_model.specs.Cycle.{Trace, rows, after_cycles}
+use Rattle.window_model.specs.Cycle.{rows, after_cycles}
 use Rattle.pair_run.specs.Answer.{FirstUnequal}
 use Rattle.pair_run.specs.declared.answer.Differ.{Differ}
 use Rattle.pair_run.specs.declared.answer.Differ.TheVariants.{Same, Cycle, End}
@@ -25,9 +25,3 @@ DiffersBy (Some k) end end2 differ = differ ≡ Cycle k
 DiffersBy None end end2 Same = end ≡ end2
 DiffersBy None end end2 End = end ≢ end2
 DiffersBy None end end2 (Cycle k) = ⊥
-
--- a run of at most n cycles from a state, as a trace
-abbrev pub trace_from : Desc → Code → ℕ → Machine → Trace
-trace_from d code n x =
-    let last = after_cycles d code n x in
-    record { rows = rows d code n x; end = last.end; retired = last.retired; cycles = last.cycle }

@@ -3,8 +3,7 @@ use Rattle.std.specs.Prelude.{◌≡◌, ℕ, List, Result, MatchResult}
 use Rattle.rv_types.specs.Memory.{Code, Ram}
 use Rattle.machine_desc.specs.declared.Desc.{Desc}
 use Rattle.window_model.specs.State.{Machine}
-use Rattle.window_model.specs.Cycle.{rows, pieces, after_cycles}
-use Rattle.pair_run.specs.inner.Running.{trace_from}
+use Rattle.window_model.specs.Cycle.{rows, pieces, after_cycles, trace_from}
 use Rattle.report_text.specs.Report.{piece_lines}
 use Rattle.trace_text.specs.TraceText.{rows_text, trace_text}
 use Rattle.tool_io.specs.Outside.{Told, Wrote, WrotePart}
