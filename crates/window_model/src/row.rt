@@ -2,25 +2,30 @@
 ghost use Rattle.std.specs.Prelude.{◌≡◌, ◌<◌, ◌≤◌, ◌++◌, ◌∷◌, [], length};
 
 use crate::Event;
-use arrayvec::ArrayVec;
 use std::marker::Model;
 
 /// The most events of one cycle.
 pub const ROW_MAX: usize = 256;
 
-/// What happened in a cycle, at most 256 events. It takes no memory.
+/// What happened in a cycle, at most 256 events. It takes no memory. The events are the first of as many places as a row
+/// has room for; what stands in the places behind them means nothing.
 #[derive(Drop)]
 pub struct Row {
     cycle: u32,
-    events: ArrayVec<Event, ROW_MAX>,
+    places: [Event; ROW_MAX],
+    len: usize,
 }
 
 impl Model for Row {
+    ghost use Rattle.std.specs.Prelude.{◌≤◌, take};
     ghost use Rattle.window_model.specs.Row.{Row};
+    ghost use Rattle.window_model.specs.declared.row.TheConstants.{ROW_MAX};
 
     ghost Value = { Row };
 
-    ghost view = { λ r. record { cycle = r.cycle; events = r.events.items } };
+    ghost view = { λ r. record { cycle = r.cycle; events = take r.len r.places } };
+
+    ghost invariant = { λ r. r.len ≤ ROW_MAX };
 }
 
 /// A row of cycle 0, without events.
@@ -29,7 +34,8 @@ pub fn empty_row() -> Row
 {
     Row {
         cycle: 0,
-        events: ArrayVec::new(),
+        places: [Event::default(); ROW_MAX],
+        len: 0,
     }
 }
 
@@ -41,7 +47,7 @@ impl Row {
         ensures { self.new ≡ record { cycle = cycle; events = [] } }
     {
         self.cycle = cycle;
-        self.events.clear();
+        self.len = 0;
     }
 
     /// Adds an event behind the others.
@@ -49,7 +55,8 @@ impl Row {
         requires { length self.old.events < row_room }
         ensures { self.new ≡ with_events self.old (event ∷ []) }
     {
-        self.events.push(event);
+        self.places[self.len] = event;
+        self.len += 1;
     }
 
     /// The number of the cycle whose row this is.
@@ -64,6 +71,6 @@ impl Row {
         ensures value { result.now ≡ self.now.events }
         ensures few { length result.now ≤ row_room }
     {
-        self.events.as_slice()
+        &self.places[..self.len]
     }
 }
