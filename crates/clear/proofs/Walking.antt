@@ -13,13 +13,13 @@ use Rattle.std.proofs.lemmas.List.{append-nil}
 use Rattle.lsq.specs.Clearing.{info_of}
 use Rattle.lsq.specs.declared.clearing.StoreInfo.{StoreInfo}
 use Rattle.lsq.specs.declared.store.Store.{Store}
-use Rattle.parts_stand.specs.Addresses.{can_clear, may_clear_by}
+use Rattle.refinement.specs.Addresses.{can_clear, may_clear_by}
 use Rattle.visibility.specs.Point.{HasAdvanced}
 use Rattle.core_parts.specs.Described.{Described}
 use Rattle.core_parts.specs.Held.{Held, Sizes, Whole, described, in_flight}
 use Rattle.core_parts.specs.Stands.{table_and_stations}
 use Rattle.clear.specs.Cleared.{clearing}
-use Rattle.parts_stand.proofs.Clearing.{finds_clearable}
+use Rattle.refinement.proofs.OldClearing.{finds_clearable}
 use Rattle.queue_laws.proofs.Renaming.{room_is}
 use Rattle.clear.proofs.Effects.{none_is}
 

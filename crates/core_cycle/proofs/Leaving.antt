@@ -11,7 +11,7 @@ use Rattle.rename_taint.specs.declared.Write.{Write}
 use Rattle.rename_taint.specs.Writes.{without_retired}
 use Rattle.lsq.specs.Queues.{Queues, without}
 use Rattle.visibility.specs.Point.{HasAdvanced, Point}
-use Rattle.parts_stand.specs.Parts.{Hold, gives_at}
+use Rattle.refinement.specs.Waiters.{Hold, gives_at}
 use Rattle.retire.specs.Gone.{MayRetire, popped, without_each}
 use Rattle.retire.proofs.Leaving.{alone_rest}
 use Rattle.core_parts.specs.Stands.{InFlight, hold_in}

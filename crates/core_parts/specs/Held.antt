@@ -24,7 +24,8 @@ use Rattle.history_pred.specs.Past.{Past}
 use Rattle.fetch_unit.specs.Unit.{FetchUnit}
 use Rattle.visibility.specs.Point.{Point}
 use Rattle.core_parts.specs.Described.{Described}
-use Rattle.core_parts.specs.Stands.{InFlight, Stands}
+use Rattle.refinement.specs.InFlight.{InFlight}
+use Rattle.refinement.specs.Refines.{Refines}
 
 -- what all parts of a core hold
 pub record Held : Type 0 where

@@ -4,8 +4,8 @@ use Rattle.window_model.specs.declared.Entry.{Entry}
 use Rattle.window_model.specs.Order.{before_at}
 use Rattle.rob_ring.specs.Beside.{each_writers}
 use Rattle.rob_ring.specs.declared.beside.Sources.{Sources}
-use Rattle.parts_stand.specs.Parts.{Parts, Stand}
-use Rattle.parts_stand.specs.Writers.{WritersOf}
+use Rattle.refinement.specs.Waiters.{Parts, Stand}
+use Rattle.refinement.specs.Writers.{WritersOf}
 use Rattle.secret_marks.specs.declared.EntryMarks.{EntryMarks}
 use Rattle.secret_marks.specs.Marks.{Marks}
 use Rattle.entry_marks.specs.declared.marks.Marks.{Marks as Beside}

@@ -27,7 +27,7 @@ use Rattle.queue_laws.proofs.Telling.{bytes_are, covered_is}
 use Rattle.visibility.specs.Point.{is_hidden}
 use Rattle.window_model.specs.Serials.{Rise}
 use Rattle.window_model.proofs.Serials.{splits}
-use Rattle.parts_stand.proofs.Addressing.{below_is, hides_root, tells_each_store}
+use Rattle.refinement.proofs.Addressing.{below_is, hides_root, tells_each_store}
 use Rattle.issue.specs.declared.seen.Seen.{Seen}
 use Rattle.issue.specs.State.{Stands, StandsAt, parts_of}
 

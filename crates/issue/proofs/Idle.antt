@@ -17,10 +17,10 @@ use Rattle.window_model.specs.Issue.{issue, issue_entry, taken_for, waits}
 use Rattle.window_model.proofs.Booleans.{neither}
 use Rattle.machine_facts.specs.Sized.{HasParts, Together}
 use Rattle.stations.specs.Stations.{Station, is_able}
-use Rattle.parts_stand.specs.Parts.{Parts, Stand, wants_of}
-use Rattle.parts_stand.specs.Telling.{HoldsBy, has_sources}
-use Rattle.parts_stand.specs.Steps.{station_of}
-use Rattle.parts_stand.proofs.Answering.{tells_able}
+use Rattle.refinement.specs.Waiters.{Parts, Stand, wants_of}
+use Rattle.refinement.specs.Telling.{HoldsBy, has_sources}
+use Rattle.refinement.specs.Stations.{station_of}
+use Rattle.refinement.proofs.OldAnswering.{tells_able}
 use Rattle.visibility.specs.Point.{HasAdvanced, Point}
 use Rattle.core_parts.specs.Described.{Described}
 use Rattle.core_parts.specs.Held.{Held, Sizes, Whole, described, in_flight, machine_of}

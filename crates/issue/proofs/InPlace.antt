@@ -21,9 +21,9 @@ use Rattle.rob_ring.specs.Ring.{Ring, is_unsafe}
 use Rattle.stations.specs.Stations.{Station, Stations}
 use Rattle.core_parts.specs.Stands.{InFlight, Stands, table_and_stations}
 use Rattle.core_parts.proofs.Steps.{stands_issued}
-use Rattle.parts_stand.specs.Steps.{left_held}
-use Rattle.parts_stand.proofs.Answering.{has_station, stations_older}
-use Rattle.parts_stand.proofs.Moving.{passes_issued}
+use Rattle.refinement.specs.Stations.{left_held}
+use Rattle.refinement.proofs.OldAnswering.{has_station, stations_older}
+use Rattle.refinement.proofs.Moving.{passes_issued}
 use Rattle.window_model.proofs.Serials.{all_at, all_left, all_right}
 use Rattle.issue.specs.declared.decide.Put.{Put}
 use Rattle.issue.specs.Puts.{ArePuts, IsPut, known_in, placed, width_for}

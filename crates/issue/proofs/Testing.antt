@@ -23,10 +23,10 @@ use Rattle.visibility.specs.Gate.{may_transmit}
 use Rattle.unit_ports.specs.Ports.{Ports, left_at, port_for, taken_at}
 use Rattle.unit_ports.specs.Laws.{LeftAfter, asked, if_asked}
 use Rattle.unit_ports.proofs.Granting.{granted_is, left_more}
-use Rattle.parts_stand.specs.Steps.{station_of}
-use Rattle.parts_stand.specs.Parts.{wants_of}
-use Rattle.parts_stand.specs.Telling.{HoldsBy, asks_besides, has_sources, own_of}
-use Rattle.parts_stand.proofs.Answering.{tells_able, tells_issue, tells_part}
+use Rattle.refinement.specs.Stations.{station_of}
+use Rattle.refinement.specs.Waiters.{wants_of}
+use Rattle.refinement.specs.Telling.{HoldsBy, asks_besides, has_sources, own_of}
+use Rattle.refinement.proofs.OldAnswering.{tells_able, tells_issue, tells_part}
 use Rattle.issue.specs.declared.seen.Seen.{Seen}
 use Rattle.issue.specs.Ports.{OnlyPorts, events_left, left_in_all, most_events_of}
 use Rattle.issue.specs.State.{Stands, StandsAt, around_of, parts_of}

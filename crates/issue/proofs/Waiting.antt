@@ -12,9 +12,9 @@ use Rattle.window_model.specs.Order.{is_waiting}
 use Rattle.window_model.proofs.Counts.{count, count_is}
 use Rattle.rob_ring.specs.Ring.{below}
 use Rattle.stations.specs.Stations.{Station}
-use Rattle.parts_stand.specs.Parts.{Parts, Stand, Waiter, waiter_in}
-use Rattle.parts_stand.specs.Steps.{station_of}
-use Rattle.parts_stand.proofs.Answering.{counts_room, counts_stations, has_station}
+use Rattle.refinement.specs.Waiters.{Parts, Stand, Waiter, waiter_in}
+use Rattle.refinement.specs.Stations.{station_of}
+use Rattle.refinement.proofs.OldAnswering.{counts_room, counts_stations, has_station}
 use Rattle.window_model.proofs.Serials.{all_at, place_of}
 
 -- ---- how many wait before a position

@@ -12,11 +12,11 @@ use Rattle.rob_ring.specs.Beside.{each_roots, each_writers}
 use Rattle.rename_taint.specs.declared.Write.{Write}
 use Rattle.visibility.specs.Point.{HasAdvanced}
 use Rattle.queue_laws.specs.Window.{StandFor}
-use Rattle.parts_stand.specs.Parts.{Parts, Stand, wants_of}
-use Rattle.parts_stand.specs.Telling.{has_sources, hold_of}
-use Rattle.parts_stand.specs.Addresses.{AddressesStand}
-use Rattle.parts_stand.specs.Steps.{station_of}
-use Rattle.parts_stand.specs.Writers.{WritersOf}
+use Rattle.refinement.specs.Waiters.{Parts, Stand, wants_of}
+use Rattle.refinement.specs.Telling.{has_sources, hold_of}
+use Rattle.refinement.specs.Addresses.{AddressesStand}
+use Rattle.refinement.specs.Stations.{station_of}
+use Rattle.refinement.specs.Writers.{WritersOf}
 use Rattle.issue.specs.declared.seen.Place.{Place}
 use Rattle.issue.specs.declared.seen.Seen.{Seen}
 

@@ -20,11 +20,11 @@ use Rattle.stations.specs.Stations.{Stations}
 use Rattle.lsq.specs.Queues.{Queues}
 use Rattle.fetch_unit.specs.Unit.{FetchUnit}
 use Rattle.queue_laws.proofs.Renaming.{room_is}
-use Rattle.parts_stand.specs.Addresses.{base_root}
-use Rattle.parts_stand.specs.Parts.{awaits_of, write_of}
-use Rattle.parts_stand.specs.Steps.{seated}
-use Rattle.parts_stand.specs.Telling.{hold_of}
-use Rattle.parts_stand.proofs.Answering.{counts_room}
+use Rattle.refinement.specs.Addresses.{base_root}
+use Rattle.refinement.specs.Waiters.{awaits_of, write_of}
+use Rattle.refinement.specs.Stations.{seated}
+use Rattle.refinement.specs.Telling.{hold_of}
+use Rattle.refinement.proofs.OldAnswering.{counts_room}
 use Rattle.core_parts.proofs.Lending.{each_has_sources}
 use Rattle.core_parts.specs.Described.{Described}
 use Rattle.core_parts.specs.Held.{Held, Sizes, Whole, described, in_flight, machine_of, sizes}

@@ -20,9 +20,9 @@ use Rattle.stations.specs.declared.wants.Part.TheVariants as part
 use Rattle.stations.specs.declared.wants.Wants.TheVariants as wants
 use Rattle.rob_ring.specs.Beside.{each_roots}
 use Rattle.visibility.specs.Gate.{may_transmit}
-use Rattle.parts_stand.specs.Parts.{wants_by, wants_of}
-use Rattle.parts_stand.specs.Telling.{HoldsBy, OperandsTold, has_sources}
-use Rattle.parts_stand.proofs.Answering.{tells_operands, tells_part}
+use Rattle.refinement.specs.Waiters.{wants_by, wants_of}
+use Rattle.refinement.specs.Telling.{HoldsBy, OperandsTold, has_sources}
+use Rattle.refinement.proofs.OldAnswering.{tells_operands, tells_part}
 use Rattle.issue.proofs.Asking.{InStep, first_ready, not_able, not_waiting, part_asks, part_gone, part_may_by, second_ready, step_at, whole_ready}
 use Rattle.secret_marks.specs.declared.EntryMarks.{EntryMarks}
 use Rattle.secret_marks.specs.declared.WordMarks.{WordMarks}

@@ -4,10 +4,10 @@ use Rattle.std.specs.Option.{option_map}
 use Rattle.window_model.specs.declared.Entry.{Entry}
 use Rattle.window_model.specs.Order.{before_at, is_waiting}
 use Rattle.stations.specs.Stations.{is_able}
-use Rattle.parts_stand.specs.Parts.{wants_of}
-use Rattle.parts_stand.specs.Steps.{station_of}
-use Rattle.parts_stand.specs.Telling.{HoldsBy, has_sources}
-use Rattle.parts_stand.proofs.Answering.{tells_able}
+use Rattle.refinement.specs.Waiters.{wants_of}
+use Rattle.refinement.specs.Stations.{station_of}
+use Rattle.refinement.specs.Telling.{HoldsBy, has_sources}
+use Rattle.refinement.proofs.OldAnswering.{tells_able}
 use Rattle.issue.proofs.Asking.{step_at}
 use Rattle.issue.proofs.Waiting.{Keeps, Reaches, all_wait, at_end, at_next, goes_on, waits_at}
 use Rattle.secret_marks.specs.declared.Shown.{Shown}

@@ -8,10 +8,10 @@ use Rattle.window_model.specs.Order.{before_at, is_waiting}
 use Rattle.rob_ring.specs.Beside.{each_roots, each_writers}
 use Rattle.rename_taint.specs.declared.Write.{Write}
 use Rattle.visibility.specs.Point.{HasAdvanced}
-use Rattle.parts_stand.specs.Parts.{Parts, Stand, wants_of}
-use Rattle.parts_stand.specs.Telling.{has_sources, hold_of}
-use Rattle.parts_stand.specs.Steps.{station_of}
-use Rattle.parts_stand.specs.Writers.{WritersOf}
+use Rattle.refinement.specs.Waiters.{Parts, Stand, wants_of}
+use Rattle.refinement.specs.Telling.{has_sources, hold_of}
+use Rattle.refinement.specs.Stations.{station_of}
+use Rattle.refinement.specs.Writers.{WritersOf}
 use Rattle.secret_marks.specs.declared.EntryMarks.{EntryMarks}
 use Rattle.secret_marks.specs.Marks.{Marks}
 use Rattle.entry_marks.specs.Beside.{marks_before}

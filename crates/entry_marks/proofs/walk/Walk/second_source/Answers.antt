@@ -3,7 +3,7 @@ use Rattle.std.proofs.lemmas.List.{length-map}
 use Rattle.std.proofs.lemmas.Option.{slice_get_within}
 use Rattle.rob_ring.specs.Beside.{each_writers}
 use Rattle.rob_ring.proofs.AtPositions.{writers_here}
-use Rattle.parts_stand.proofs.Writing.{counts_writers, tells_writers}
+use Rattle.refinement.proofs.Writing.{counts_writers, tells_writers}
 use Rattle.window_model.specs.Order.{sources}
 use Rattle.entry_marks.proofs.Sources.{sources_are}
 use Rattle.entry_marks.proofs.walk.Walk.second_source.Goals as goal

@@ -1,7 +1,7 @@
 use Rattle.std.proofs.Common.{◌∙◌, sym, arith, true}
 use Rattle.window_model.specs.Order.{sources}
-use Rattle.parts_stand.specs.Telling.{own_of}
-use Rattle.parts_stand.proofs.Answering.{has_station}
+use Rattle.refinement.specs.Telling.{own_of}
+use Rattle.refinement.proofs.OldAnswering.{has_station}
 use Rattle.issue.specs.Ports.{part_port}
 use Rattle.issue.specs.State.{around_of, before_of, parts_of}
 use Rattle.issue.proofs.Asking.{first_ready, in_step, part_asks, part_gone, part_may_by, second_ready}

@@ -1,5 +1,5 @@
 use Rattle.std.proofs.Common.{◌∙◌}
-use Rattle.parts_stand.proofs.Writing.{tells_writers}
+use Rattle.refinement.proofs.Writing.{tells_writers}
 use Rattle.issue.specs.State.{before_of, parts_of}
 use Rattle.issue.proofs.Writers.{operands_are}
 use Rattle.issue.proofs.seen.Seen.operands.Goals as goal

@@ -1,7 +1,7 @@
 use Rattle.std.proofs.Common.{◌<◌, sym, subst, ◌∙◌}
 use Rattle.std.proofs.lemmas.Option.{slice_get_within}
 use Rattle.rob_ring.proofs.AtPositions.{as_many_roots, roots_here, writers_here}
-use Rattle.parts_stand.proofs.Tables.{as_many}
+use Rattle.refinement.proofs.Tables.{as_many}
 use Rattle.issue.proofs.seen.Seen.sources_of.Goals as goal
 
 pub sources_at-requires : goal.sources_at-requires

@@ -1,5 +1,5 @@
 use Rattle.std.proofs.Common.{◌∙◌, sym, arith}
-use Rattle.parts_stand.proofs.Answering.{has_station}
+use Rattle.refinement.proofs.OldAnswering.{has_station}
 use Rattle.shown_marks.specs.State.{parts_of}
 use Rattle.shown_marks.proofs.Deciding.{address_alone, address_issued, address_with_data}
 use Rattle.shown_marks.proofs.seen.Seen.address_may.Goals as goal
