@@ -9,11 +9,12 @@ use Rattle.window_model.specs.declared.Entry.{Entry}
 use Rattle.window_model.specs.Order.{each_from, is_register, sources, writer}
 use Rattle.rename_taint.specs.declared.Write.{Write}
 use Rattle.rename_taint.specs.Writes.{last_write, root_from, root_of, root_written, source_from, source_of}
-use Rattle.refinement.specs.Waiters.{oldest_of, write_of}
+use Rattle.refinement.specs.Waiters.{awaited, awaited_of, oldest_of, write_of}
 use Rattle.refinement.specs.Roots.{source_roots, unretired, youngest_root}
-use Rattle.refinement.specs.Telling.{source_by}
+use Rattle.refinement.specs.Telling.{entry_of, source_by}
+use Rattle.refinement.proofs.Tables.{found}
 use Rattle.refinement.proofs.Youngest.{written_by}
-use Rattle.refinement.specs.InFlight.{InFlight}
+use Rattle.refinement.specs.InFlight.{InFlight, hold_in}
 use Rattle.refinement.specs.Footprint.{Terms, unretired_write, footprint_of, column}
 use Rattle.refinement.specs.Refines.{Refines}
 
@@ -102,6 +103,14 @@ names_writer p r s =
     let f = oldest_of p.next p.window in
     source_aged f r p.writes ∙ ap (λ ws. source_of ws r) s.columns.writes
     ∙ ap (λ ws. source_from (find (λ w. w.register == r) ws)) (turned _ [] p.window) ∙ source_behind (reverse p.window) r
+
+-- the writer is found by the serial that is named
+pub finds_writer : (p : InFlight) (r : ℕ) → Refines p → entry_of p.window (source_of p.writes r) ≡ writer (reverse p.window) r
+finds_writer p r s = ap (entry_of p.window) (names_writer p r s) ∙ found r p.window s.rise (writer (reverse p.window) r) refl
+
+-- what a source of the next entry awaits is found
+pub finds_awaited : (p : InFlight) (r : ℕ) → Refines p → awaited_of (hold_in p) (entry_of p.window (source_of p.writes r)) ≡ awaited (hold_in p) (reverse p.window) (Some r)
+finds_awaited p r s = ap (awaited_of (hold_in p)) (finds_writer p r s)
 
 -- and youngest root, or one that has retired where it has none
 pub names_root : (p : InFlight) (r : ℕ) → Refines p → unretired (oldest_of p.next p.window) (root_of p.writes r) ≡ youngest_root (reverse p.window) r

@@ -34,7 +34,7 @@ use Rattle.visibility.specs.Point.{HasAdvanced, NotPast}
 use Rattle.branch_resolve.specs.Effect.{resolution_of, taught, told}
 use Rattle.branch_resolve.specs.declared.effect.Resolution.TheVariants.{Right}
 use Rattle.visibility.specs.Pick.{pick_from}
-use Rattle.refinement.proofs.Answering.{picks_first}
+use Rattle.resolve.proofs.Picking.{picks_first}
 use Rattle.rob_ring.specs.Beside.{each_roots}
 use Rattle.core_parts.specs.Described.{Described}
 use Rattle.core_parts.specs.Held.{Held, Sizes, Whole, described, in_flight, machine_of, sizes}
