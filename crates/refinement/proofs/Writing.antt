@@ -20,7 +20,7 @@ use Rattle.refinement.specs.Writers.{CountsWriters, TellsWriters, WritersOf, Wri
 use Rattle.window_model.specs.Serials.{Rise}
 use Rattle.window_model.proofs.Serials.{all_at, none_below, place_of, rise_tail, splits}
 use Rattle.refinement.proofs.Serials.{oldest_least}
-use Rattle.refinement.proofs.Youngest.{kept_all_twice, kept_in, kept_out, map_same, map_twice}
+use Rattle.refinement.proofs.Youngest.{unretired_all_twice, unretired_in, unretired_out, map_same, map_twice}
 use Rattle.refinement.proofs.Tables.{stands_in, writer_place}
 use Rattle.refinement.proofs.Standing.{halves, oldest_above, oldest_push, take_length}
 use Rattle.refinement.proofs.Keeping.{oldest_on}
@@ -63,7 +63,7 @@ writers_rename p writers e ws s k is q =
     by_writer : (r : ℕ) (o : Option Entry) → writer (reverse p.window) r ≡ o → unretired (oldest_of p.next p.window) (serial_in (source_by o)) ≡ option_map (λ e. e.serial) o
     by_writer r None h = refl
     by_writer r (Some w) h =
-        kept_in (oldest_of p.next p.window) w.serial
+        unretired_in (oldest_of p.next p.window) w.serial
         (all_at (λ e. oldest_of p.next p.window ≤ e.serial) p.window (length (below w.serial p.window)) w (oldest_least p.next p.window s.rise) (writer_place r w p.window s.rise h))
 
     each : (o : Option ℕ) → unretired (oldest_of p.next p.window) (named p.writes o) ≡ writer_of_source (reverse p.window) o
@@ -78,13 +78,13 @@ writer_without f before h a lt None = refl
 writer_without f [] h a lt (Some r) = by_writes (writes r h)
   where
     by_writes : (b : Bool) → unretired f (option_map (λ e. e.serial) (cond b (Some h) None)) ≡ None
-    by_writes true = kept_out f h.serial lt
+    by_writes true = unretired_out f h.serial lt
     by_writes false = refl
 writer_without f (e ∷ before) h a lt (Some r) = by_writes (writes r e) (writer_without f before h (All-tail (λ e. f ≤ e.serial) e before a) lt (Some r))
   where
     by_writes : (b : Bool) → unretired f (option_map (λ e. e.serial) (writer (before ++ h ∷ []) r)) ≡ option_map (λ e. e.serial) (writer before r) →
         unretired f (option_map (λ e. e.serial) (cond b (Some e) (writer (before ++ h ∷ []) r))) ≡ option_map (λ e. e.serial) (cond b (Some e) (writer before r))
-    by_writes true k = kept_in f e.serial (All-head (λ e. f ≤ e.serial) e before a)
+    by_writes true k = unretired_in f e.serial (All-head (λ e. f ≤ e.serial) e before a)
     by_writes false k = k
 
 rest : (f g : ℕ) (before es : List Entry) (writers : List (List (Option ℕ))) (h : Entry) → f ≤ g → All (λ e. g ≤ e.serial) before → All (λ e. g ≤ e.serial) es → h.serial < g →
@@ -93,7 +93,7 @@ rest f g before [] [] h le a b lt s = tt
 rest f g before [] (ws ∷ writers) h le a b lt s = absurd s
 rest f g before (e ∷ es) [] h le a b lt s = absurd s
 rest f g before (e ∷ es) (ws ∷ writers) h le a b lt s = (
-  sym (kept_all_twice f g ws le) ∙ ap (map (unretired g)) s.0 ∙ map_twice (unretired g) (writer_of_source (before ++ h ∷ [])) (two (sources e))
+  sym (unretired_all_twice f g ws le) ∙ ap (map (unretired g)) s.0 ∙ map_twice (unretired g) (writer_of_source (before ++ h ∷ [])) (two (sources e))
       ∙ map_same (λ o. unretired g (writer_of_source (before ++ h ∷ []) o)) (writer_of_source before) (two (sources e)) (writer_without g before h a lt),
   rest f g (e ∷ before) es writers h le (All-cons (λ e. g ≤ e.serial) e before (All-head (λ e. g ≤ e.serial) e es b) a) (All-tail (λ e. g ≤ e.serial) e es b) lt s.1,
 )
