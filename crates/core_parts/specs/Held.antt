@@ -166,6 +166,6 @@ pub record Whole (h : Held) : Type 0 where
   -- what each part holds is within the sizes of the description
   pub sized : Sized h.desc (machine_of h)
   -- what stands beside the window so that it needn't be searched stands for it
-  pub stands : Stands (in_flight h)
+  pub stands : Refines (in_flight h)
   -- the parts are made for the description, with its sizes
   pub made : sizes h ≡ sizes_for h.desc

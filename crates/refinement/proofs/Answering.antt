@@ -34,7 +34,7 @@ use Rattle.refinement.specs.Telling.{OperandsTold}
 use Rattle.refinement.specs.Writers.{source_writers}
 use Rattle.refinement.proofs.Addressing.{base_told, below_is, hides_root}
 use Rattle.refinement.proofs.OldAnswering.{operands_told, told}
-use Rattle.refinement.proofs.Youngest.{Tells, footprint_in, map_same, map_twice, retired_shown}
+use Rattle.refinement.proofs.Youngest.{Tells, unretired_in, map_same, map_twice, retired_shown}
 use Rattle.window_model.proofs.EntryByEntry.{along_front}
 use Rattle.refinement.proofs.Standing.{halves}
 use Rattle.refinement.specs.InFlight.{InFlight, hold_in}
@@ -235,7 +235,7 @@ base_hidden point b e u v =
     same : (os : List (Option ℕ)) → map (unretired 0) os ≡ os
     same [] = refl
     same (None ∷ os) = ap (λ os. None ∷ os) (same os)
-    same (Some n ∷ os) = ap₂ (λ o os. o ∷ os) (footprint_in 0 n (omega arith)) (same os)
+    same (Some n ∷ os) = ap₂ (λ o os. o ∷ os) (unretired_in 0 n (omega arith)) (same os)
 
 -- of the entries from one on, youngest first
 hidden_turned : (t : Terms) (point : Point) (b es : List Entry) → Behind (Tells point) b → Behind Falls b → Along (Tells point) b es → Along Falls b es →

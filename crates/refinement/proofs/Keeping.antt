@@ -18,7 +18,7 @@ use Rattle.refinement.specs.Waiters.{Hold, RootsStand, Waiter, awaited, awaited_
 use Rattle.refinement.specs.Stations.{GoesOn}
 use Rattle.window_model.specs.Serials.{Rise}
 use Rattle.window_model.proofs.Serials.{rise_cons, rise_head, rise_tail}
-use Rattle.refinement.proofs.Youngest.{kept_all_twice, kept_sources, map_same, root_without}
+use Rattle.refinement.proofs.Youngest.{unretired_all_twice, unretired_roots, map_same, root_without}
 
 -- ---- roots by position
 
@@ -42,7 +42,7 @@ roots_rest f g before [] [] h le a b lt s = tt
 roots_rest f g before [] (rs ∷ roots) h le a b lt s = absurd s
 roots_rest f g before (e ∷ es) [] h le a b lt s = absurd s
 roots_rest f g before (e ∷ es) (rs ∷ roots) h le a b lt s = (
-  sym (kept_all_twice f g rs le) ∙ ap (map (unretired g)) s.0 ∙ kept_sources g before (before ++ h ∷ []) (two (sources e)) (root_without g before h a lt),
+  sym (unretired_all_twice f g rs le) ∙ ap (map (unretired g)) s.0 ∙ unretired_roots g before (before ++ h ∷ []) (two (sources e)) (root_without g before h a lt),
   roots_rest f g (e ∷ before) es roots h le (All-cons (λ e. g ≤ e.serial) e before (All-head (λ e. g ≤ e.serial) e es b) a) (All-tail (λ e. g ≤ e.serial) e es b) lt s.1,
 )
 

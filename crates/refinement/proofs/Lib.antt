@@ -8,6 +8,7 @@ pub mod Noting
 pub mod Answering
 pub mod Clearing
 pub mod Ready
+pub mod Found
 pub mod Serials
 pub mod Youngest
 pub mod Tables

@@ -24,7 +24,7 @@ use Rattle.refinement.specs.Stations.{GoesOn}
 use Rattle.refinement.specs.Writers.{writer_of_source}
 use Rattle.refinement.proofs.Keeping.{goes_same, zip_set}
 use Rattle.refinement.proofs.Tables.{keeps_all, keeps_none}
-use Rattle.refinement.proofs.Youngest.{footprint_in, footprint_out, footprint_sources, footprint_written, map_same, map_twice, root_without}
+use Rattle.refinement.proofs.Youngest.{unretired_in, unretired_out, unretired_roots, unretired_written, map_same, map_twice, root_without}
 use Rattle.refinement.specs.Footprint.{Footprint, StoreFootprint, Found, Terms, unretired_sources, unretired_write, footprint_by, footprint_of, load_footprint, look_back, column, store_footprint, waiter_footprint}
 use Rattle.refinement.proofs.Each.{each_on, map_id}
 use Rattle.refinement.proofs.Shows.{Numbered, Rises}
@@ -158,13 +158,13 @@ writer_without f before h a lt None = refl
 writer_without f [] h a lt (Some r) = by_writes (writes r h)
   where
     by_writes : (b : Bool) → unretired f (option_map (λ e. e.serial) (cond b (Some h) None)) ≡ None
-    by_writes true = footprint_out f h.serial lt
+    by_writes true = unretired_out f h.serial lt
     by_writes false = refl
 writer_without f (e ∷ before) h a lt (Some r) = by_writes (writes r e) (writer_without f before h (All-tail (λ e. f ≤ e.serial) e before a) lt (Some r))
   where
     by_writes : (b : Bool) → unretired f (option_map (λ e. e.serial) (writer (before ++ h ∷ []) r)) ≡ option_map (λ e. e.serial) (writer before r) →
         unretired f (option_map (λ e. e.serial) (cond b (Some e) (writer (before ++ h ∷ []) r))) ≡ option_map (λ e. e.serial) (cond b (Some e) (writer before r))
-    by_writes true k = footprint_in f e.serial (All-head (λ e. f ≤ e.serial) e before a)
+    by_writes true k = unretired_in f e.serial (All-head (λ e. f ≤ e.serial) e before a)
     by_writes false k = k
 
 awaited_without : (hold : Hold) (before : List Entry) (h : Entry) → gives_at hold h ≡ true → (o : Option ℕ) → awaited hold (before ++ h ∷ []) o ≡ awaited hold before o
@@ -197,7 +197,7 @@ write_shown f e rs le = by_write (writes_of e.item.instr)
     by_write : (o : Option ℕ) → option_map (λ r. record { serial = e.serial; register = r; root = root_written e.item.kind e.serial (map (unretired f) rs) }) o
         ≡ option_map (unretired_write f) (option_map (λ r. record { serial = e.serial; register = r; root = root_written e.item.kind e.serial rs }) o)
     by_write None = refl
-    by_write (Some r) = ap (λ root. Some (record { serial = e.serial; register = r; root = root })) (sym (footprint_written f e.item.kind e.serial rs le))
+    by_write (Some r) = ap (λ root. Some (record { serial = e.serial; register = r; root = root })) (sym (unretired_written f e.item.kind e.serial rs le))
 
 abbrev found_unretired : ℕ → Found → Found
 found_unretired oldest l = record l { roots = map (unretired oldest) l.roots; writers = map (unretired oldest) l.writers }
@@ -216,7 +216,7 @@ footprint_without t f before h e a lt g le =
     let old = before ++ h ∷ [] in
     ap (λ l. footprint_by t l e)
     (found_by (look_back t.hold before e) (found_unretired f (look_back t.hold old e))
-    (sym (footprint_sources f before old os (root_without f before h a lt)))
+    (sym (unretired_roots f before old os (root_without f before h a lt)))
     (sym (map_twice (unretired f) (writer_of_source old) os ∙ map_same (λ o. unretired f (writer_of_source old o)) (writer_of_source before) os (writer_without f before h a lt)))
     (sym (map_same (awaited t.hold old) (awaited t.hold before) os (awaited_without t.hold before h g))))
     ∙ footprint_by_unretired t f (look_back t.hold old e) e le

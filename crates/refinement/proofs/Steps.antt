@@ -38,7 +38,7 @@ use Rattle.refinement.proofs.Moving.{point_advances, point_clears, point_complet
 use Rattle.refinement.proofs.Serials.{oldest_least}
 use Rattle.refinement.proofs.Standing.{oldest_above, oldest_push, take_first}
 use Rattle.refinement.proofs.Tables.{writer_place}
-use Rattle.refinement.proofs.Youngest.{footprint_in, footprint_all_twice, map_same, map_twice}
+use Rattle.refinement.proofs.Youngest.{unretired_in, unretired_all_twice, map_same, map_twice}
 use Rattle.refinement.specs.InFlight.{InFlight, hold_in}
 use Rattle.refinement.specs.Footprint.{Footprint, StoreFootprint, Terms, unretired_sources, unretired_write, footprint_by, footprint_of, load_footprint, load_in, look_back, column, store_footprint, store_in, waiter_footprint}
 use Rattle.refinement.specs.Refines.{Columns, Parts, Refines, footprints, parts, terms}
@@ -75,7 +75,7 @@ writers_told p s os =
     by_writer : (r : ℕ) (o : Option Entry) → writer (reverse p.window) r ≡ o → unretired (oldest_of p.next p.window) (serial_in (source_by o)) ≡ option_map (λ e. e.serial) o
     by_writer r None h = refl
     by_writer r (Some w) h =
-        footprint_in (oldest_of p.next p.window) w.serial
+        unretired_in (oldest_of p.next p.window) w.serial
         (all_at (λ e. oldest_of p.next p.window ≤ e.serial) p.window (length (below w.serial p.window)) w (oldest_least p.next p.window s.rise) (writer_place r w p.window s.rise h))
 
     one : (o : Option ℕ) → unretired (oldest_of p.next p.window) (named p.writes o) ≡ writer_of_source (reverse p.window) o
@@ -265,13 +265,13 @@ stands_dropped p first i e s h older l =
 -- ---- the oldest retires
 
 once : (f g : ℕ) (o : Option ℕ) → f ≤ g → unretired g o ≡ unretired g (unretired f o)
-once f g o le = ap base_root (sym (footprint_all_twice f g (o ∷ []) le))
+once f g o le = ap base_root (sym (unretired_all_twice f g (o ∷ []) le))
 
 -- fewer roots and writers are told
 holds_aged : (t : Terms) (f g : ℕ) (p : Parts) (ks : List Footprint) → f ≤ g → Columns t f p ks → Columns t g p (map (footprint_unretired g) ks)
 holds_aged t f g p ks le s = record {
   sources = viewed (unretired_sources f) (λ k. Some k.sources) (unretired_sources g) (unretired_sources g) (footprint_unretired g)
-      (λ x. ap₂ (λ r w. record { roots = r; writers = w }) (sym (footprint_all_twice f g x.roots le)) (sym (footprint_all_twice f g x.writers le))) (λ k. refl) p.sources ks s.sources;
+      (λ x. ap₂ (λ r w. record { roots = r; writers = w }) (sym (unretired_all_twice f g x.roots le)) (sym (unretired_all_twice f g x.writers le))) (λ k. refl) p.sources ks s.sources;
   writes = viewed (unretired_write f) (λ k. k.write) (unretired_write g) (unretired_write g) (footprint_unretired g) (λ w. ap (λ r. record w { root = r }) (once f g w.root le)) (λ k. refl) p.writes ks s.writes;
   waiters = s.waiters ∙ aside waiter_in (λ k. k.waiter) (footprint_unretired g) (λ k. refl) ks;
   loads = s.loads ∙ aside (load_in t) (λ k. k.load) (footprint_unretired g) (λ k. refl) ks;

@@ -21,7 +21,7 @@ use Rattle.refinement.specs.Waiters.{RootsStand, write_of, writes_in}
 use Rattle.refinement.specs.Telling.{source_by, entry_of}
 use Rattle.window_model.specs.Serials.{Rise}
 use Rattle.window_model.proofs.Serials.{place_of}
-use Rattle.refinement.proofs.Youngest.{kept_written, written_by}
+use Rattle.refinement.proofs.Youngest.{unretired_written, written_by}
 
 -- the write of an entry to a register
 abbrev own_write : Entry → List (Option ℕ) → ℕ → Write
@@ -58,7 +58,7 @@ root_down f r before (e ∷ es) (rs ∷ roots) base s a h =
     by_write (writes_of e.item.instr) refl (λ base. root_down f r (e ∷ before) es roots base s.1 (All-tail (λ e. f ≤ e.serial) e es a))
   where
     own : unretired f (root_written e.item.kind e.serial rs) ≡ root_written e.item.kind e.serial (map (youngest_root before) (sources e))
-    own = kept_written f e.item.kind e.serial rs (All-head (λ e. f ≤ e.serial) e es a) ∙ ap (root_written e.item.kind e.serial) s.0 ∙ written_by before e
+    own = unretired_written f e.item.kind e.serial rs (All-head (λ e. f ≤ e.serial) e es a) ∙ ap (root_written e.item.kind e.serial) s.0 ∙ written_by before e
 
     by_register : (b : Bool) (q : ℕ) →
         unretired f (root_from (cond b (Some (own_write e rs q)) base)) ≡ (if b then root_written e.item.kind e.serial (map (youngest_root before) (sources e)) else youngest_root before r)

@@ -20,11 +20,12 @@ use Rattle.refinement.specs.Writers.{CountsWriters, TellsWriters, WritersOf, Wri
 use Rattle.window_model.specs.Serials.{Rise}
 use Rattle.window_model.proofs.Serials.{all_at, none_below, place_of, rise_tail, splits}
 use Rattle.refinement.proofs.Serials.{oldest_least}
-use Rattle.refinement.proofs.Youngest.{kept_all_twice, kept_in, kept_out, map_same, map_twice}
+use Rattle.refinement.proofs.Youngest.{unretired_all_twice, unretired_in, unretired_out, map_same, map_twice}
 use Rattle.refinement.proofs.Tables.{stands_in, writer_place}
 use Rattle.refinement.proofs.Standing.{halves, oldest_above, oldest_push, take_length}
 use Rattle.refinement.proofs.Keeping.{oldest_on}
 use Rattle.refinement.proofs.OldAnswering.{names_writer}
+use Rattle.refinement.proofs.Found.{pairs}
 use Rattle.refinement.specs.Waiters.{Parts, Stand}
 use Rattle.std.specs.Prelude.{◌+◌}
 
@@ -62,7 +63,7 @@ writers_rename p writers e ws s k is q =
     by_writer : (r : ℕ) (o : Option Entry) → writer (reverse p.window) r ≡ o → unretired (oldest_of p.next p.window) (serial_in (source_by o)) ≡ option_map (λ e. e.serial) o
     by_writer r None h = refl
     by_writer r (Some w) h =
-        kept_in (oldest_of p.next p.window) w.serial
+        unretired_in (oldest_of p.next p.window) w.serial
         (all_at (λ e. oldest_of p.next p.window ≤ e.serial) p.window (length (below w.serial p.window)) w (oldest_least p.next p.window s.rise) (writer_place r w p.window s.rise h))
 
     each : (o : Option ℕ) → unretired (oldest_of p.next p.window) (named p.writes o) ≡ writer_of_source (reverse p.window) o
@@ -77,13 +78,13 @@ writer_without f before h a lt None = refl
 writer_without f [] h a lt (Some r) = by_writes (writes r h)
   where
     by_writes : (b : Bool) → unretired f (option_map (λ e. e.serial) (cond b (Some h) None)) ≡ None
-    by_writes true = kept_out f h.serial lt
+    by_writes true = unretired_out f h.serial lt
     by_writes false = refl
 writer_without f (e ∷ before) h a lt (Some r) = by_writes (writes r e) (writer_without f before h (All-tail (λ e. f ≤ e.serial) e before a) lt (Some r))
   where
     by_writes : (b : Bool) → unretired f (option_map (λ e. e.serial) (writer (before ++ h ∷ []) r)) ≡ option_map (λ e. e.serial) (writer before r) →
         unretired f (option_map (λ e. e.serial) (cond b (Some e) (writer (before ++ h ∷ []) r))) ≡ option_map (λ e. e.serial) (cond b (Some e) (writer before r))
-    by_writes true k = kept_in f e.serial (All-head (λ e. f ≤ e.serial) e before a)
+    by_writes true k = unretired_in f e.serial (All-head (λ e. f ≤ e.serial) e before a)
     by_writes false k = k
 
 rest : (f g : ℕ) (before es : List Entry) (writers : List (List (Option ℕ))) (h : Entry) → f ≤ g → All (λ e. g ≤ e.serial) before → All (λ e. g ≤ e.serial) es → h.serial < g →
@@ -92,7 +93,7 @@ rest f g before [] [] h le a b lt s = tt
 rest f g before [] (ws ∷ writers) h le a b lt s = absurd s
 rest f g before (e ∷ es) [] h le a b lt s = absurd s
 rest f g before (e ∷ es) (ws ∷ writers) h le a b lt s = (
-  sym (kept_all_twice f g ws le) ∙ ap (map (unretired g)) s.0 ∙ map_twice (unretired g) (writer_of_source (before ++ h ∷ [])) (two (sources e))
+  sym (unretired_all_twice f g ws le) ∙ ap (map (unretired g)) s.0 ∙ map_twice (unretired g) (writer_of_source (before ++ h ∷ [])) (two (sources e))
       ∙ map_same (λ o. unretired g (writer_of_source (before ++ h ∷ []) o)) (writer_of_source before) (two (sources e)) (writer_without g before h a lt),
   rest f g (e ∷ before) es writers h le (All-cons (λ e. g ≤ e.serial) e before (All-head (λ e. g ≤ e.serial) e es b) a) (All-tail (λ e. g ≤ e.serial) e es b) lt s.1,
 )
@@ -178,56 +179,6 @@ pair_at f before (x ∷ es) (w ∷ writers) zero e ws s h k =
     let b : w ≡ ws = cc in
     subst (λ ws. map (unretired f) ws ≡ source_writers before e) b (subst (λ e. map (unretired f) w ≡ source_writers before e) a s.0)
 pair_at f before (x ∷ es) (w ∷ writers) (suc i) e ws s h k = pair_at f (x ∷ before) es writers i e ws s.1 h k
-
-taken_at : {X : Type 0} (xs : List X) (i k : ℕ) (x : X) → slice_get (take i xs) k ≡ Some x → slice_get xs k ≡ Some x
-taken_at xs zero k x h = absurd (cc)
-taken_at [] (suc i) k x h = absurd (cc)
-taken_at (y ∷ xs) (suc i) zero x h = h
-taken_at (y ∷ xs) (suc i) (suc k) x h = taken_at xs i k x h
-
--- no entry has a serial that is below the oldest's
-old_serial : (next s : ℕ) (es : List Entry) → Rise es → s < oldest_of next es → in_flight es (Some s) ≡ None
-old_serial next s [] r lt = refl
-old_serial next s (x ∷ es) r lt =
-    let n = none_below s (x ∷ es) (All-weaker (λ d. x.serial ≤ d.serial) (λ d. s ≤ d.serial) (λ d le. omega (arith, lt, le)) (x ∷ es) (oldest_least next (x ∷ es) r)) in
-    let f : (x.serial == s) ≡ false = grind (arith, nat_tests) in
-    ap (λ ds. if_serial s (slice_get (x ∷ es) (length ds))) n ∙ ap (λ b. if b then Some x else None) f
-
-module _ (next : ℕ) (es : List Entry) (rise : Rise es) (i : ℕ) where
-  here : (r : ℕ) (w : Entry) → writer (before_at es i) r ≡ Some w → in_flight es (Some w.serial) ≡ Some w
-  here r w h =
-      ⊎_elim
-      (λ (k : (n : ℕ) × (slice_get (take i es) n ≡ Some w)).
-      let at = taken_at es i k.0 w k.1 in
-      let t : (w.serial == w.serial) ≡ true = grind (arith, nat_tests) in
-      ap (λ o. if_serial w.serial o) (ap (slice_get es) (place_of es k.0 w rise at) ∙ at) ∙ ap (λ b. if b then Some w else None) t)
-      (λ (k : writer [] r ≡ Some w). absurd (cc))
-      (stands_in r w [] (take i es) h)
-
-  none_named : (o : Option Entry) → None ≡ option_map (λ (e : Entry). e.serial) o → None ≡ o
-  none_named None h = refl
-  none_named (Some e) h = absurd (cc)
-
-  one : (ws o : Option ℕ) → unretired (oldest_of next es) ws ≡ writer_of_source (before_at es i) o → in_flight es ws ≡ writer_of (before_at es i) o
-  one None None h = refl
-  one None (Some r) h = none_named (writer (before_at es i) r) h
-  one (Some s) o h = by_age (nat_le (oldest_of next es) s) refl o h
-    where
-      by_writer : (r : ℕ) (w : Option Entry) → writer (before_at es i) r ≡ w → Some s ≡ option_map (λ (e : Entry). e.serial) w → in_flight es (Some s) ≡ w
-      by_writer r None k h = absurd (cc)
-      by_writer r (Some w) k h = let n : s ≡ w.serial = cc in ap (λ n. in_flight es (Some n)) n ∙ here r w k
-
-      by_age : (b : Bool) → nat_le (oldest_of next es) s ≡ b → (o : Option ℕ) → (if b then Some s else None) ≡ writer_of_source (before_at es i) o → in_flight es (Some s) ≡ writer_of (before_at es i) o
-      by_age true q None h = absurd (cc)
-      by_age true q (Some r) h = by_writer r (writer (before_at es i) r) refl h
-      by_age false q None h = let lt : s < oldest_of next es = grind (arith, nat_tests) in old_serial next s es rise lt
-      by_age false q (Some r) h = let lt : s < oldest_of next es = grind (arith, nat_tests) in old_serial next s es rise lt ∙ none_named (writer (before_at es i) r) h
-
-  pairs : (ws os : List (Option ℕ)) → map (unretired (oldest_of next es)) ws ≡ map (writer_of_source (before_at es i)) os → map (in_flight es) ws ≡ map (writer_of (before_at es i)) os
-  pairs [] [] h = refl
-  pairs [] (o ∷ os) h = absurd (cc)
-  pairs (w ∷ ws) [] h = absurd (cc)
-  pairs (w ∷ ws) (o ∷ os) h = ap₂ (λ x xs. x ∷ xs) (one w o (cc)) (pairs ws os (cc))
 
 pub tells_writers : TellsWriters
 tells_writers p writers i e ws s k h q = pairs p.next p.window s.rise i ws (two (sources e)) (pair_at (oldest_of p.next p.window) [] p.window writers i e ws k h q)

@@ -23,53 +23,53 @@ use Rattle.window_model.proofs.Booleans.{or_false}
 
 -- ---- what has not retired
 
-pub kept_in : (f s : ℕ) → f ≤ s → unretired f (Some s) ≡ Some s
-kept_in f s le = let t : nat_le f s ≡ true = grind (arith, nat_tests) in ap (λ b. if b then Some s else None) t
+pub unretired_in : (f s : ℕ) → f ≤ s → unretired f (Some s) ≡ Some s
+unretired_in f s le = let t : nat_le f s ≡ true = grind (arith, nat_tests) in ap (λ b. if b then Some s else None) t
 
-pub kept_out : (f s : ℕ) → s < f → unretired f (Some s) ≡ None
-kept_out f s lt = let t : nat_le f s ≡ false = grind (arith, nat_tests) in ap (λ b. if b then Some s else None) t
+pub unretired_out : (f s : ℕ) → s < f → unretired f (Some s) ≡ None
+unretired_out f s lt = let t : nat_le f s ≡ false = grind (arith, nat_tests) in ap (λ b. if b then Some s else None) t
 
-kept_later : (f : ℕ) (a b : Option ℕ) → unretired f (later a b) ≡ later (unretired f a) (unretired f b)
-kept_later f None b = refl
-kept_later f (Some a) None = by_a (nat_le f a)
+unretired_later : (f : ℕ) (a b : Option ℕ) → unretired f (later a b) ≡ later (unretired f a) (unretired f b)
+unretired_later f None b = refl
+unretired_later f (Some a) None = by_a (nat_le f a)
   where
     by_a : (t : Bool) → (if t then Some a else None) ≡ later (if t then Some a else None) None
     by_a true = refl
     by_a false = refl
-kept_later f (Some a) (Some b) =
+unretired_later f (Some a) (Some b) =
     ⊎_elim
     (λ (l : a < f).
     ⊎_elim
-    (λ (m : b < f). kept_out f (max a b) (omega arith) ∙ sym (ap₂ later (kept_out f a l) (kept_out f b m)))
-    (λ (m : f ≤ b). let e : max a b ≡ b = omega arith in kept_in f (max a b) (omega arith) ∙ ap Some e ∙ sym (ap₂ later (kept_out f a l) (kept_in f b m)))
+    (λ (m : b < f). unretired_out f (max a b) (omega arith) ∙ sym (ap₂ later (unretired_out f a l) (unretired_out f b m)))
+    (λ (m : f ≤ b). let e : max a b ≡ b = omega arith in unretired_in f (max a b) (omega arith) ∙ ap Some e ∙ sym (ap₂ later (unretired_out f a l) (unretired_in f b m)))
     (cases_lt b f))
     (λ (l : f ≤ a).
     ⊎_elim
-    (λ (m : b < f). let e : max a b ≡ a = omega arith in kept_in f (max a b) (omega arith) ∙ ap Some e ∙ sym (ap₂ later (kept_in f a l) (kept_out f b m)))
-    (λ (m : f ≤ b). kept_in f (max a b) (omega arith) ∙ sym (ap₂ later (kept_in f a l) (kept_in f b m)))
+    (λ (m : b < f). let e : max a b ≡ a = omega arith in unretired_in f (max a b) (omega arith) ∙ ap Some e ∙ sym (ap₂ later (unretired_in f a l) (unretired_out f b m)))
+    (λ (m : f ≤ b). unretired_in f (max a b) (omega arith) ∙ sym (ap₂ later (unretired_in f a l) (unretired_in f b m)))
     (cases_lt b f))
     (cases_lt a f)
 
-kept_latest : (f : ℕ) (os : List (Option ℕ)) → unretired f (latest os) ≡ latest (map (unretired f) os)
-kept_latest f [] = refl
-kept_latest f (o ∷ os) = kept_later f o (latest os) ∙ ap (later (unretired f o)) (kept_latest f os)
+unretired_latest : (f : ℕ) (os : List (Option ℕ)) → unretired f (latest os) ≡ latest (map (unretired f) os)
+unretired_latest f [] = refl
+unretired_latest f (o ∷ os) = unretired_later f o (latest os) ∙ ap (later (unretired f o)) (unretired_latest f os)
 
 -- what an entry that has not retired writes
-pub kept_written : (f : ℕ) (k : Kind) (s : ℕ) (os : List (Option ℕ)) → f ≤ s → unretired f (root_written k s os) ≡ root_written k s (map (unretired f) os)
-kept_written f Load s os le = kept_in f s le
-kept_written f _ s os le = kept_latest f os
+pub unretired_written : (f : ℕ) (k : Kind) (s : ℕ) (os : List (Option ℕ)) → f ≤ s → unretired f (root_written k s os) ≡ root_written k s (map (unretired f) os)
+unretired_written f Load s os le = unretired_in f s le
+unretired_written f _ s os le = unretired_latest f os
 
-kept_twice : (f g : ℕ) (o : Option ℕ) → f ≤ g → unretired g (unretired f o) ≡ unretired g o
-kept_twice f g None le = refl
-kept_twice f g (Some s) le = by_f (nat_le f s) refl
+unretired_twice : (f g : ℕ) (o : Option ℕ) → f ≤ g → unretired g (unretired f o) ≡ unretired g o
+unretired_twice f g None le = refl
+unretired_twice f g (Some s) le = by_f (nat_le f s) refl
   where
     by_f : (b : Bool) → nat_le f s ≡ b → unretired g (if b then Some s else None) ≡ unretired g (Some s)
     by_f true e = refl
     by_f false e = let t : nat_le g s ≡ false = grind (arith, nat_tests) in ap (λ b. if b then Some s else None) (sym t)
 
-pub kept_all_twice : (f g : ℕ) (os : List (Option ℕ)) → f ≤ g → map (unretired g) (map (unretired f) os) ≡ map (unretired g) os
-kept_all_twice f g [] le = refl
-kept_all_twice f g (o ∷ os) le = ap₂ (λ o os. o ∷ os) (kept_twice f g o le) (kept_all_twice f g os le)
+pub unretired_all_twice : (f g : ℕ) (os : List (Option ℕ)) → f ≤ g → map (unretired g) (map (unretired f) os) ≡ map (unretired g) os
+unretired_all_twice f g [] le = refl
+unretired_all_twice f g (o ∷ os) le = ap₂ (λ o os. o ∷ os) (unretired_twice f g o le) (unretired_all_twice f g os le)
 
 -- ---- sources
 
@@ -113,9 +113,9 @@ map_twice g f (x ∷ xs) = ap (λ ys. g (f x) ∷ ys) (map_twice g f xs)
 -- ---- the oldest entry retires
 
 -- roots of sources where those of registers are the others' unretired ones
-pub kept_sources : (f : ℕ) (before older : List Entry) (os : List (Option ℕ)) → ((r : ℕ) → unretired f (youngest_root older r) ≡ youngest_root before r) →
+pub unretired_roots : (f : ℕ) (before older : List Entry) (os : List (Option ℕ)) → ((r : ℕ) → unretired f (youngest_root older r) ≡ youngest_root before r) →
     map (unretired f) (map (root_of_source older) os) ≡ map (root_of_source before) os
-kept_sources f before older os h = map_twice (unretired f) (root_of_source older) os ∙ map_same (λ o. unretired f (root_of_source older o)) (root_of_source before) os each
+unretired_roots f before older os h = map_twice (unretired f) (root_of_source older) os ∙ map_same (λ o. unretired f (root_of_source older o)) (root_of_source before) os each
   where
     each : (o : Option ℕ) → unretired f (root_of_source older o) ≡ root_of_source before o
     each None = refl
@@ -129,7 +129,7 @@ root_without f [] h a lt r = by_writes (writes r h)
     none (r ∷ rs) = none rs
 
     by_kind : (k : Kind) → unretired f (root_written k h.serial (map (youngest_root []) (sources h))) ≡ None
-    by_kind Load = kept_out f h.serial lt
+    by_kind Load = unretired_out f h.serial lt
     by_kind _ = ap (unretired f) (none (sources h))
 
     by_writes : (w : Bool) → unretired f (if w then root_written h.item.kind h.serial (map (youngest_root []) (sources h)) else None) ≡ None
@@ -141,7 +141,7 @@ root_without f (e ∷ before) h a lt r = by_writes (writes r e) (root_without f 
         unretired f (if w then root_written e.item.kind e.serial (map (youngest_root (before ++ h ∷ [])) (sources e)) else youngest_root (before ++ h ∷ []) r)
         ≡ (if w then root_written e.item.kind e.serial (map (youngest_root before) (sources e)) else youngest_root before r)
     by_writes true k =
-        kept_written f e.item.kind e.serial (map (youngest_root (before ++ h ∷ [])) (sources e)) (All-head (λ e. f ≤ e.serial) e before a)
+        unretired_written f e.item.kind e.serial (map (youngest_root (before ++ h ∷ [])) (sources e)) (All-head (λ e. f ≤ e.serial) e before a)
         ∙ ap (root_written e.item.kind e.serial) (map_twice (unretired f) (youngest_root (before ++ h ∷ [])) (sources e) ∙ map_same (λ r. unretired f (youngest_root (before ++ h ∷ []) r)) (youngest_root before) (sources e) k)
     by_writes false k = k r
 

@@ -1,6 +1,6 @@
 use Rattle.refinement.proofs.Noting.{stands_cleared, stands_issued}
 use Rattle.refinement.proofs.Steps.{stands_done, stands_dropped, stands_empty, stands_moved, stands_renamed, stands_resolved, stands_retired, stops_at}
-use Rattle.refinement.proofs.parts_stay_with_window.Goals as goal
+use Rattle.refinement.proofs.steps_keep_refinement.Goals as goal
 
 pub returns : goal.returns
 returns c = record {
