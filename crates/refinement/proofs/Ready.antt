@@ -1,5 +1,5 @@
 -- What the stations tell of the entries that wait, once the point has moved over the window: who is ready, and which part of it.
-use Rattle.std.proofs.Common.{◌≡◌, ℕ, Bool, true, false, not, ◌&&◌, ◌||◌, cond, List, [], ◌∷◌, length, map, ◌≤◌, Option, Some, None, refl, ap, ap₂, sym, ◌∙◌, arith, subst, slice_get, is_none}
+use Rattle.std.proofs.Common.{◌≡◌, ℕ, zero, suc, ◌<◌, Bool, true, false, not, ◌&&◌, ◌||◌, cond, List, [], ◌∷◌, length, map, ◌≤◌, Option, Some, None, refl, ap, ap₂, sym, ◌∙◌, arith, subst, slice_get, is_none}
 use Rattle.std.specs.Prelude.{if◌then◌else◌}
 use Rattle.std.specs.List.{list_all, list_any}
 use Rattle.std.specs.Option.{option_map}
@@ -105,6 +105,15 @@ module _ (d : Desc) (hold : Hold) where
   able_by wants.Either before e k = either_by before (sources e) k (few_reads e.item.instr)
   able_by wants.Base before e k = part_by part.Base before (sources e) k (few_reads e.item.instr)
   able_by wants.Other before e k = part_by part.Other before (sources e) k (few_reads e.item.instr)
+
+some_within : {X Y : Type 0} (f : X → Y) (xs : List X) (i : ℕ) (y : Y) → option_map f (slice_get xs i) ≡ Some y → i < length xs
+some_within f [] i y h = absurd (cc)
+some_within f (x ∷ xs) zero y h = omega arith
+some_within f (x ∷ xs) (suc i) y h = let k = some_within f xs i y h in omega (arith, k)
+
+-- the station of an entry that waits is one of those that are held
+pub station_within : (p : InFlight) (i : ℕ) (e : Entry) → Refines p → slice_get p.window i ≡ Some e → is_waiting e.state ≡ true → station_of i p.window < length p.held
+station_within p i e s h w = some_within waiter_in p.held (station_of i p.window) _ (has_station p i e s h w)
 
 -- what is asked of what a station wants and awaits is asked of its waiter
 asked_as : (t : Wants → List (Option ℕ) → Bool) (o : Option Station) → option_map (λ s. t s.wants s.awaits) o ≡ option_map (λ (w : Waiter). t w.wants w.awaits) (option_map waiter_in o)
