@@ -1,5 +1,6 @@
 pub mod Places
 pub mod Effects
+pub mod Clearable
 pub mod Walking
 pub mod Marking
 pub mod Anew

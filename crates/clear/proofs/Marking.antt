@@ -21,7 +21,9 @@ use Rattle.core_parts.specs.Described.{Described}
 use Rattle.core_parts.specs.Dropped.{StopsBelow}
 use Rattle.core_parts.specs.Held.{Held, Whole, described, in_flight, machine_of}
 use Rattle.core_parts.proofs.Sizes.{sized_set}
-use Rattle.core_parts.proofs.Steps.{stands_cleared, stops_at}
+use Rattle.refinement.proofs.Answering.{queues_stand, queues_track}
+use Rattle.refinement.proofs.Noting.{stands_cleared}
+use Rattle.refinement.proofs.Steps.{stops_at}
 use Rattle.core_parts.proofs.Whole.{shown_by}
 use Rattle.clear.specs.Cleared.{clearing, violated, with_cleared}
 use Rattle.clear.proofs.Effects.{cleared_is, violated_is}
@@ -42,7 +44,7 @@ module _ (h : Held) (v : Described) (serial : ℕ) (w : Whole h) (s : described 
   it = store_at h.desc (machine_of h) serial (subst (λ (v : Described). Some serial ≡ clearing v.desc v.machine) (sym s) f)
 
   rises : Rise h.rob.entries
-  rises = w.stands.stand.rise
+  rises = w.stands.rise
 
   here : slice_get h.rob.entries (length (below serial h.rob.entries)) ≡ Some it.place.entry
   here = stands_there h.desc (machine_of h) serial it rises
@@ -96,8 +98,8 @@ module _ (h : Held) (v : Described) (serial : ℕ) (w : Whole h) (s : described 
 
     told : violated_in it.place.entry.serial h.queues.stores h.queues.loads ≡ option_map (λ q. q.entry.serial) (violated_by it.place)
     told =
-        violates h.queues (reverse it.place.before) it.place.younger it.place.entry (subst (StandFor h.queues) here_whole w.stands.queues)
-        (subst (Tracks h.queues) here_whole (w.stands.tracks (subst (λ (v : Described). passing v.desc ≡ true) (sym s) a))) (subst Rise here_whole rises) it.may.store
+        violates h.queues (reverse it.place.before) it.place.younger it.place.entry (subst (StandFor h.queues) here_whole (queues_stand (in_flight h) w.stands))
+        (subst (Tracks h.queues) here_whole (queues_track (in_flight h) w.stands (subst (λ (v : Described). passing v.desc ≡ true) (sym s) a))) (subst Rise here_whole rises) it.may.store
 
     pub marked_violates : (o : Option ℕ) → o ≡ violated_in serial h.queues.stores h.queues.loads → o ≡ violated v.desc v.machine
     marked_violates o e =

@@ -13,13 +13,13 @@ use Rattle.std.proofs.lemmas.List.{append-nil}
 use Rattle.lsq.specs.Clearing.{info_of}
 use Rattle.lsq.specs.declared.clearing.StoreInfo.{StoreInfo}
 use Rattle.lsq.specs.declared.store.Store.{Store}
-use Rattle.parts_stand.specs.Addresses.{can_clear, may_clear_by}
 use Rattle.visibility.specs.Point.{HasAdvanced}
 use Rattle.core_parts.specs.Described.{Described}
 use Rattle.core_parts.specs.Held.{Held, Sizes, Whole, described, in_flight}
-use Rattle.core_parts.specs.Stands.{table_and_stations}
+use Rattle.refinement.proofs.Answering.{queues_stand}
 use Rattle.clear.specs.Cleared.{clearing}
-use Rattle.parts_stand.proofs.Clearing.{finds_clearable}
+use Rattle.clear.specs.Clearable.{can_clear, may_clear_by}
+use Rattle.clear.proofs.Clearable.{finds_clearable}
 use Rattle.queue_laws.proofs.Renaming.{room_is}
 use Rattle.clear.proofs.Effects.{none_is}
 
@@ -72,7 +72,7 @@ none_left point (s ∷ stores) (suc i) h = none_left point stores i h
 pub few_stores : (h : Held) → Whole h → length h.queues.stores < 2 ^ 32
 few_stores h w =
     let a = w.sized.stores_fit in
-    let b = (room_is h.queues h.rob.entries w.stands.queues).1 in
+    let b = (room_is h.queues h.rob.entries (queues_stand (in_flight h) w.stands)).1 in
     let c = most_up_to 16 48 h.desc.version h.desc.core_stores (lit≤ tt) h.desc.few_stores in
     omega (arith, a, b, c)
 
@@ -81,9 +81,9 @@ pub finds : (h : Held) (v : Described) (o : Option ℕ) → Whole h → describe
     o ≡ option_map (λ s. s.serial) (find (can_clear h.point.serial) h.queues.stores) → o ≡ clearing v.desc v.machine
 finds h v o w s a moved e =
     let here : HasAdvanced h.point h.rob.entries = subst (λ (v : Described). HasAdvanced v.point v.machine.window) (sym s) moved in
-    let tracks = w.stands.tracks (ap (λ (v : Described). passing v.desc) s ∙ a) in
+    let tracked = ap (λ (v : Described). passing v.desc) s ∙ a in
     e
-    ∙ finds_clearable h.desc (table_and_stations (in_flight h)) h.point h.queues w.stands.stand here (ap (λ (s : Sizes). s.model) w.made) w.stands.addresses tracks
+    ∙ finds_clearable h.desc (in_flight h) w.stands here (ap (λ (s : Sizes). s.model) w.made) tracked
     ∙ ap (λ (v : Described). clearing v.desc v.machine) s
 
 -- ---- where nothing happens at all

@@ -2,7 +2,7 @@
 ghost use Rattle.std.specs.Prelude.{◌≡◌, ◌<◌, ◌^◌, length};
 ghost use Rattle.std.specs.List.{find};
 ghost use Rattle.std.specs.Option.{option_map};
-ghost use Rattle.parts_stand.specs.Addresses.{can_clear, may_clear_by};
+ghost use Rattle.clear.specs.Clearable.{can_clear, may_clear_by};
 
 use lsq::{Lsq, StoreInfo};
 use visibility::VisPoint;

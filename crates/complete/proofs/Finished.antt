@@ -12,12 +12,12 @@ use Rattle.window_model.proofs.Booleans.{some_of}
 use Rattle.machine_facts.proofs.Parts.{IsEntry}
 use Rattle.rob_ring.specs.Ring.{IsNext, Ring, is_busy}
 use Rattle.stations.specs.Stations.{Stations}
-use Rattle.parts_stand.specs.Steps.{struck_if_given}
-use Rattle.parts_stand.specs.Telling.{hold_of}
+use Rattle.refinement.specs.Stations.{struck_if_given}
+use Rattle.refinement.specs.Telling.{hold_of}
 use Rattle.core_parts.specs.Described.{Described}
 use Rattle.core_parts.specs.Held.{Held, Whole, described, in_flight, machine_of}
 use Rattle.core_parts.proofs.Sizes.{sized_set}
-use Rattle.core_parts.proofs.Steps.{stands_done}
+use Rattle.refinement.proofs.Steps.{stands_done}
 use Rattle.complete.proofs.Turns.{done}
 
 some_here : (o : Option Entry) → option_map (λ (e : Entry). is_waiting e.state) o ≡ Some false → (e : Entry) × (o ≡ Some e) × (is_waiting e.state ≡ false)

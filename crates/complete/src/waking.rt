@@ -1,7 +1,7 @@
 //! What an entry wakes as it becomes Done (`docs/machine.md`, "Writers and roots").
 ghost use Rattle.std.specs.Prelude.{◌≡◌};
-ghost use Rattle.parts_stand.specs.Steps.{struck_if_given};
-ghost use Rattle.parts_stand.specs.Telling.{hold_of};
+ghost use Rattle.refinement.specs.Stations.{struck_if_given};
+ghost use Rattle.refinement.specs.Telling.{hold_of};
 
 use core_parts::gives;
 use machine_desc::Desc;

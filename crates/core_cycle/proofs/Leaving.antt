@@ -11,11 +11,11 @@ use Rattle.rename_taint.specs.declared.Write.{Write}
 use Rattle.rename_taint.specs.Writes.{without_retired}
 use Rattle.lsq.specs.Queues.{Queues, without}
 use Rattle.visibility.specs.Point.{HasAdvanced, Point}
-use Rattle.parts_stand.specs.Parts.{Hold, gives_at}
+use Rattle.refinement.specs.Waiters.{Hold, gives_at}
 use Rattle.retire.specs.Gone.{MayRetire, popped, without_each}
 use Rattle.retire.proofs.Leaving.{alone_rest}
-use Rattle.core_parts.specs.Stands.{InFlight, hold_in}
-use Rattle.core_parts.proofs.Steps.{stands_retired}
+use Rattle.refinement.specs.InFlight.{InFlight, hold_in}
+use Rattle.refinement.proofs.Steps.{stands_retired}
 use Rattle.core_cycle.proofs.Advanced.{head_gone}
 use Rattle.core_cycle.proofs.Tied.{Tied, with_left}
 

@@ -4,7 +4,7 @@ use Rattle.machine_desc.specs.declared.Desc.{Desc}
 use Rattle.window_model.specs.declared.Entry.{Entry}
 use Rattle.stations.specs.Stations.{Stations}
 use Rattle.visibility.specs.Point.{HasAdvanced, Point}
-use Rattle.parts_stand.specs.Telling.{hold_of}
+use Rattle.refinement.specs.Telling.{hold_of}
 use Rattle.core_parts.specs.Lent.{HoldsWaiting}
 
 -- the entries that wait, where results are held back by a point of the description's model that has moved over the

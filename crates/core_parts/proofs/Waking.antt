@@ -10,8 +10,8 @@ use Rattle.window_model.specs.Serials.{Rise, below}
 use Rattle.window_model.proofs.Positions.{above_of, below_of}
 use Rattle.window_model.proofs.Serials.{rise_head, rise_tail}
 use Rattle.stations.specs.Stations.{Stations, struck}
-use Rattle.parts_stand.specs.Parts.{Hold, gives_at}
-use Rattle.parts_stand.specs.Steps.{released, struck_by_move, struck_each}
+use Rattle.refinement.specs.Waiters.{Hold, gives_at}
+use Rattle.refinement.specs.Stations.{released, struck_by_move, struck_each}
 use Rattle.core_parts.specs.Given.{given_from, is_given}
 
 -- ---- which entries are visible

@@ -5,15 +5,15 @@ use Rattle.machine_desc.proofs.EveryDesc.{every_desc}
 use Rattle.machine_facts.specs.Sized.{Sized}
 use Rattle.machine_facts.proofs.SizedPhases.{sized_begin}
 use Rattle.visibility.specs.Point.{Point, moved_over}
-use Rattle.parts_stand.specs.Steps.{struck_by_move, struck_each}
+use Rattle.refinement.specs.Stations.{struck_by_move, struck_each}
 use Rattle.stations.specs.Stations.{Stations}
 use Rattle.window_model.specs.Ready.{holds}
 use Rattle.window_model.specs.Row.{Row}
 use Rattle.window_model.specs.State.{Machine, After}
 use Rattle.core_parts.specs.Described.{Described}
 use Rattle.core_parts.specs.Held.{Held, Whole, described, in_flight, machine_of}
-use Rattle.core_parts.specs.Steps.{with_moved}
-use Rattle.core_parts.proofs.Steps.{stands_moved}
+use Rattle.refinement.specs.Steps.{with_moved}
+use Rattle.refinement.proofs.Steps.{stands_moved}
 use Rattle.core_parts.proofs.Waking.{at_point, none_released}
 
 -- ---- what is shown of the parts

@@ -1,6 +1,4 @@
 pub mod Described
-pub mod Stands
-pub mod Steps
 pub mod Held
 pub mod Inside
 pub mod Lent

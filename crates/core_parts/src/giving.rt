@@ -3,8 +3,8 @@ ghost use Rattle.std.specs.Prelude.{◌≡◌, ◌<◌, ◌≤◌, ◌-◌, ◌^
 ghost use Rattle.std.specs.List.{All};
 ghost use Rattle.machine_desc.specs.declared.Defence.{Defence};
 ghost use Rattle.core_parts.specs.Given.{given_from};
-ghost use Rattle.parts_stand.specs.Parts.{gives_at};
-ghost use Rattle.parts_stand.specs.Steps.{struck_by_move, struck_each};
+ghost use Rattle.refinement.specs.Waiters.{gives_at};
+ghost use Rattle.refinement.specs.Stations.{struck_by_move, struck_each};
 ghost use Rattle.stations.specs.Stations.{struck};
 ghost use Rattle.visibility.specs.Point.{CanAdvance, HasAdvanced, moved_over};
 ghost use Rattle.window_model.specs.Order.{is_done, is_load};

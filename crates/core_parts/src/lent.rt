@@ -1,6 +1,6 @@
 //! The parts that are lent: what each tells of the machine.
 ghost use Rattle.std.specs.Prelude.{◌≡◌, ◌<◌, true, length};
-ghost use Rattle.parts_stand.specs.Telling.{hold_of};
+ghost use Rattle.refinement.specs.Telling.{hold_of};
 ghost use Rattle.queue_laws.specs.Window.{StandFor, Tracks};
 ghost use Rattle.visibility.specs.Point.{HasAdvanced};
 ghost use Rattle.window_model.specs.Dependence.{passing};

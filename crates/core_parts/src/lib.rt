@@ -8,12 +8,10 @@
 mod dropping;
 mod fetching;
 mod giving;
-mod laws;
 mod lent;
 mod moves;
 mod parts;
 mod start;
 
 pub use giving::gives;
-pub use laws::parts_stay_with_window;
 pub use parts::Parts;

@@ -9,7 +9,7 @@ use Rattle.window_model.specs.declared.Entry.{Entry}
 use Rattle.window_model.specs.Order.{before_at, writer, writes}
 use Rattle.window_model.specs.Serials.{Rise, below}
 use Rattle.window_model.proofs.Serials.{place_of}
-use Rattle.parts_stand.specs.Writers.{if_serial, in_flight, writer_of}
+use Rattle.refinement.specs.Writers.{if_serial, in_flight, writer_of}
 use Rattle.secret_marks.specs.declared.EntryMarks.{EntryMarks}
 use Rattle.secret_marks.specs.declared.WordMarks.{WordMarks}
 use Rattle.secret_marks.specs.Words.{unmarked}

@@ -2,7 +2,7 @@
 use Rattle.std.specs.Prelude.{ℕ, List, length, take, reverse, get_or, slice_get, Option, Some, None}
 use Rattle.window_model.specs.declared.Entry.{Entry}
 use Rattle.window_model.specs.Serials.{below}
-use Rattle.parts_stand.specs.Writers.{in_flight}
+use Rattle.refinement.specs.Writers.{in_flight}
 use Rattle.secret_marks.specs.declared.EntryMarks.{EntryMarks}
 use Rattle.secret_marks.specs.declared.WordMarks.{WordMarks}
 use Rattle.secret_marks.specs.Words.{unmarked}

@@ -2,24 +2,22 @@
 use Rattle.std.specs.Prelude.{◌≡◌, ℕ, List, length, slice_get, Some}
 use Rattle.window_model.specs.declared.Entry.{Entry}
 use Rattle.window_model.specs.Order.{before_at}
-use Rattle.rob_ring.specs.Beside.{each_writers}
 use Rattle.rob_ring.specs.declared.beside.Sources.{Sources}
-use Rattle.parts_stand.specs.Parts.{Parts, Stand}
-use Rattle.parts_stand.specs.Writers.{WritersOf}
+use Rattle.refinement.specs.InFlight.{InFlight}
+use Rattle.refinement.specs.Refines.{Refines}
 use Rattle.secret_marks.specs.declared.EntryMarks.{EntryMarks}
 use Rattle.secret_marks.specs.Marks.{Marks}
 use Rattle.entry_marks.specs.declared.marks.Marks.{Marks as Beside}
 use Rattle.entry_marks.specs.declared.walk.Walk.{Walk}
 use Rattle.entry_marks.specs.Beside.{marks_before}
 
--- some parts stand for the window, the writers at each position do, and each entry has its marks
+-- these sources, with some other parts, refine the window, and each entry has its marks
 pub record StandBeside (window : List Entry) (sources : List Sources) (marks : List EntryMarks) : Type 0 where
-  pub rest : Parts
-  pub stand : Stand (record rest { window = window })
-  pub writers : WritersOf rest.next window (each_writers sources)
+  pub rest : InFlight
+  pub refines : Refines (record rest { window = window; sources = sources })
   pub step : length marks ≡ length window
 
--- the parts that a walk looks at stand for their window, with the writers and marks of each entry
+-- the sources that a walk looks at refine its window, and each entry has its marks
 abbrev pub Stands : Walk → Type 0
 Stands w = StandBeside w.rob.now.entries w.sources.now.items w.marks.now.items
 

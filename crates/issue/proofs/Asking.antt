@@ -21,8 +21,8 @@ use Rattle.unit_ports.specs.Ports.{port_for}
 use Rattle.stations.specs.declared.wants.Part.{Part}
 use Rattle.stations.specs.declared.wants.Part.TheVariants as part
 use Rattle.stations.specs.declared.wants.Wants.TheVariants as wants
-use Rattle.parts_stand.specs.Parts.{wants_by, wants_of}
-use Rattle.parts_stand.specs.Telling.{has_sources, own_of}
+use Rattle.refinement.specs.Waiters.{wants_by, wants_of}
+use Rattle.refinement.specs.Telling.{has_sources, own_of}
 use Rattle.issue.specs.Ports.{has_issued, part_port}
 use Rattle.issue.specs.declared.seen.Seen.{Seen}
 use Rattle.issue.specs.State.{Stands, StandsAt}

@@ -27,9 +27,10 @@ use Rattle.queue_laws.proofs.Telling.{bytes_are, covered_is}
 use Rattle.visibility.specs.Point.{is_hidden}
 use Rattle.window_model.specs.Serials.{Rise}
 use Rattle.window_model.proofs.Serials.{splits}
-use Rattle.parts_stand.proofs.Addressing.{below_is, hides_root, tells_each_store}
+use Rattle.refinement.proofs.Addressing.{below_is, hides_root}
+use Rattle.refinement.proofs.Answering.{queues_stand, tells_each_store}
 use Rattle.issue.specs.declared.seen.Seen.{Seen}
-use Rattle.issue.specs.State.{Stands, StandsAt, parts_of}
+use Rattle.issue.specs.State.{Stands, StandsAt, flight_of}
 
 -- the queue's stores before an entry stand for the entries before it
 pub stores_before : (q : Queues) (es : List Entry) (i : ℕ) (e : Entry) → StandFor q es → Rise es → slice_get es i ≡ Some e → StoresStandFor (older e.serial q.stores) (before_at es i)
@@ -54,11 +55,11 @@ module _ (s : Seen) (i : ℕ) (e : Entry) (t : Stands s) (h : StandsAt s i e) wh
   model = s.desc.now.stt_model
 
   pub stand : StoresStandFor stores before
-  stand = stores_before s.lsq.now s.rob.now.entries i e t.queues t.parts.rise h
+  stand = stores_before s.lsq.now s.rob.now.entries i e (queues_stand (flight_of t.next t.writes s) t.refines) t.refines.rise h
 
   -- the root of each older store tells whether its address is tainted
   each_told : map (λ s2. hides (λ root. nat_le root s.point.now.serial) s2.root) stores ≡ tainted_stores model before
-  each_told = tells_each_store (parts_of t.next t.writes s) s.point.now s.lsq.now.stores i e t.parts t.advanced t.addresses h ∙ ap (λ m. tainted_stores m before) t.model
+  each_told = tells_each_store (flight_of t.next t.writes s) i e t.refines t.advanced h ∙ ap (λ m. tainted_stores m before) t.model
 
   -- a load goes behind them where the queue says so
   pub let_is : (passes : Bool) (fault : Option Cause) (a n : ℕ) →

@@ -17,14 +17,15 @@ use Rattle.window_model.specs.Issue.{issue, issue_entry, taken_for, waits}
 use Rattle.window_model.proofs.Booleans.{neither}
 use Rattle.machine_facts.specs.Sized.{HasParts, Together}
 use Rattle.stations.specs.Stations.{Station, is_able}
-use Rattle.parts_stand.specs.Parts.{Parts, Stand, wants_of}
-use Rattle.parts_stand.specs.Telling.{HoldsBy, has_sources}
-use Rattle.parts_stand.specs.Steps.{station_of}
-use Rattle.parts_stand.proofs.Answering.{tells_able}
-use Rattle.visibility.specs.Point.{HasAdvanced, Point}
+use Rattle.refinement.specs.InFlight.{InFlight}
+use Rattle.refinement.specs.Refines.{Refines}
+use Rattle.refinement.specs.Telling.{has_sources}
+use Rattle.refinement.specs.Waiters.{wants_of}
+use Rattle.refinement.specs.Stations.{station_of}
+use Rattle.refinement.proofs.Ready.{MovedBy, tells_able}
+use Rattle.visibility.specs.Point.{HasAdvanced}
 use Rattle.core_parts.specs.Described.{Described}
 use Rattle.core_parts.specs.Held.{Held, Sizes, Whole, described, in_flight, machine_of}
-use Rattle.core_parts.specs.Stands.{table_and_stations}
 use Rattle.core_parts.proofs.Whole.{shown_by, told_by}
 use Rattle.issue.specs.Shared.{divider_left}
 use Rattle.issue.proofs.Leaving.{leaves}
@@ -49,9 +50,9 @@ along_by : (P : Fact) (before es : List Entry) → ((i : ℕ) (e : Entry) → sl
 along_by P before [] h = tt
 along_by P before (e ∷ es) h = (h 0 e refl, along_by P (e ∷ before) es (λ i e2 k. h (suc i) e2 k))
 
-pub all_stay : (d : Desc) (now : Around) (p : Parts) (point : Point) → p.version ≡ d.version → Stand p → HoldsBy d p point → Each HasParts p.window → Each (Together d) p.window → list_any is_able p.held ≡ false → Along (AsksNone d now) [] p.window
-all_stay d now p point v s held parts together none = along_by (AsksNone d now) [] p.window (λ i e h.
-    none_by d now (before_at p.window i) e (is_waiting e.state) (step_at d p.window i e parts together h) refl (λ w. subst (λ v. has_sources (wants_of v e) d (before_at p.window i) e ≡ false) v (answer_at p.held (station_of i p.window) (has_sources (wants_of p.version e) d (before_at p.window i) e) none (tells_able d p point i e s held h w))))
+pub all_stay : (d : Desc) (now : Around) (p : InFlight) → p.version ≡ d.version → Refines p → MovedBy d p → Each HasParts p.window → Each (Together d) p.window → list_any is_able p.held ≡ false → Along (AsksNone d now) [] p.window
+all_stay d now p v s moved parts together none = along_by (AsksNone d now) [] p.window (λ i e h.
+    none_by d now (before_at p.window i) e (is_waiting e.state) (step_at d p.window i e parts together h) refl (λ w. subst (λ v. has_sources (wants_of v e) d (before_at p.window i) e ≡ false) v (answer_at p.held (station_of i p.window) (has_sources (wants_of p.version e) d (before_at p.window i) e) none (tells_able d p i e s moved h w))))
 
 -- ---- and nothing is left otherwise
 
@@ -94,8 +95,8 @@ module _ (d : Desc) (x : Machine) (h : Along (AsksNone d (around x)) [] x.window
 -- no entry asks for a port
 none_may : (h : Held) → Whole h → HasAdvanced h.point h.rob.entries → list_any is_able h.stations.held ≡ false → Along (AsksNone h.desc (around (machine_of h))) [] h.rob.entries
 none_may h w a none =
-    let held : HoldsBy h.desc (table_and_stations (in_flight h)) h.point = record { advanced = a; model = ap (λ (s : Sizes). s.model) w.made; hold = refl } in
-    all_stay h.desc (around (machine_of h)) (table_and_stations (in_flight h)) h.point refl w.stands.stand held w.sized.parts w.sized.together none
+    let moved : MovedBy h.desc (in_flight h) = record { advanced = a; model = ap (λ (s : Sizes). s.model) w.made; holds = refl } in
+    all_stay h.desc (around (machine_of h)) (in_flight h) refl w.stands moved w.sized.parts w.sized.together none
 
 -- where no station is able, the phase leaves what is described of the parts, and has no event
 pub idle_shown : (h : Held) (v : Described) → Whole h → HasAdvanced h.point h.rob.entries → list_any is_able h.stations.held ≡ false → described h ≡ v → described h ≡ record v { machine = (issue v.desc v.machine).machine }

@@ -19,11 +19,13 @@ use Rattle.machine_desc.specs.declared.SttModel.TheVariants.{Futuristic}
 use Rattle.rob_ring.specs.Issued.{with_issued}
 use Rattle.rob_ring.specs.Ring.{Ring, is_unsafe}
 use Rattle.stations.specs.Stations.{Station, Stations}
-use Rattle.core_parts.specs.Stands.{InFlight, Stands, table_and_stations}
-use Rattle.core_parts.proofs.Steps.{stands_issued}
-use Rattle.parts_stand.specs.Steps.{left_held}
-use Rattle.parts_stand.proofs.Answering.{has_station, stations_older}
-use Rattle.parts_stand.proofs.Moving.{passes_issued}
+use Rattle.refinement.specs.InFlight.{InFlight}
+use Rattle.refinement.specs.Refines.{Refines}
+use Rattle.refinement.specs.Stations.{left_held}
+use Rattle.refinement.proofs.OldAnswering.{stations_older}
+use Rattle.refinement.proofs.Noting.{stands_issued}
+use Rattle.refinement.proofs.Ready.{station_within as held_within}
+use Rattle.refinement.proofs.Moving.{passes_issued}
 use Rattle.window_model.proofs.Serials.{all_at, all_left, all_right}
 use Rattle.issue.specs.declared.decide.Put.{Put}
 use Rattle.issue.specs.Puts.{ArePuts, IsPut, known_in, placed, width_for}
@@ -34,8 +36,8 @@ use Rattle.issue.proofs.Turning.{issues_here, placed_push}
 -- whatever stood for the one window, with these stations and queues, does for the other with those
 abbrev pub Ties : Desc → List Entry → List Station → Queues → List Entry → List Station → Queues → Type 0
 Ties d entries held queues now held_now queues_now =
-    (p : InFlight) → Stands (record p { version = d.version; tracked = passing d; window = entries; held = held; queues = queues }) →
-    Stands (record p { version = d.version; tracked = passing d; window = now; held = held_now; queues = queues_now })
+    (p : InFlight) → Refines (record p { version = d.version; tracked = passing d; window = entries; held = held; queues = queues }) →
+    Refines (record p { version = d.version; tracked = passing d; window = now; held = held_now; queues = queues_now })
 
 -- an entry comes in its place, its station is freed or waits for what is left, and what has issued of it is known
 ties_more : (d : Desc) (entries : List Entry) (held : List Station) (queues : Queues) (now : List Entry) (held_now : List Station) (queues_now : Queues) (put : Put) →
@@ -155,22 +157,22 @@ module _ (d : Desc) (puts : List Put) (rob : Ring) (stations : Stations) (queues
   place_within = slice_get_within r.entries put.position here.old here.here
 
   -- the stations and queues of this turn of the loop stand for the window of this turn
-  now_stands : (p : InFlight) × Stands (record p { version = d.version; tracked = passing d; window = rob.entries; held = stations.held; queues = queues }) →
-      (p : InFlight) × Stands (record p { version = d.version; tracked = passing d; window = r.entries; held = s.held; queues = q })
-  now_stands k = (k.0, t.ties k.0 k.1)
+  now_refines : (p : InFlight) × Refines (record p { version = d.version; tracked = passing d; window = rob.entries; held = stations.held; queues = queues }) →
+      (p : InFlight) × Refines (record p { version = d.version; tracked = passing d; window = r.entries; held = s.held; queues = q })
+  now_refines k = (k.0, t.ties k.0 k.1)
 
-  pub station_within : (p : InFlight) × Stands (record p { version = d.version; tracked = passing d; window = rob.entries; held = stations.held; queues = queues }) → put.station < length s.held
+  pub station_within : (p : InFlight) × Refines (record p { version = d.version; tracked = passing d; window = rob.entries; held = stations.held; queues = queues }) → put.station < length s.held
   station_within k =
-      let now = now_stands k in
+      let now = now_refines k in
       subst (λ n. n < length s.held) (sym here.station)
-      ((has_station (table_and_stations (record now.0 { version = d.version; tracked = passing d; window = r.entries; held = s.held; queues = q })) put.position here.old now.1.stand here.here here.waits).within)
+      (held_within (record now.0 { version = d.version; tracked = passing d; window = r.entries; held = s.held; queues = q }) put.position here.old now.1 here.here here.waits)
 
   -- the entry there waits, and so is unresolved: once it or a part of it has issued it is safe as it was
-  pub as_safe : (p : InFlight) × Stands (record p { version = d.version; tracked = passing d; window = rob.entries; held = stations.held; queues = queues }) → (e : Entry) → slice_get r.entries put.position ≡ Some e →
+  pub as_safe : (p : InFlight) × Refines (record p { version = d.version; tracked = passing d; window = rob.entries; held = stations.held; queues = queues }) → (e : Entry) → slice_get r.entries put.position ≡ Some e →
       is_unsafe (with_issued put.issued e) ≡ is_unsafe e
   as_safe k e at =
       subst (λ e. is_unsafe (with_issued put.issued e) ≡ is_unsafe e) (one_there r.entries put.position here.old e here.here at)
-      (ap not (passes_issued Futuristic here.old (with_issued put.issued here.old) here.waits (unresolved (now_stands k).1.point.unresolved) here.issues))
+      (ap not (passes_issued Futuristic here.old (with_issued put.issued here.old) here.waits (unresolved (now_refines k).1.point.unresolved) here.issues))
     where
       unresolved : All (λ e. is_waiting e.state ≡ true → e.resolved ≡ false) r.entries → here.old.resolved ≡ false
       unresolved all = all_at (λ e. is_waiting e.state ≡ true → e.resolved ≡ false) r.entries put.position here.old all here.here here.waits

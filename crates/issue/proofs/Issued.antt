@@ -24,7 +24,8 @@ use Rattle.unit_ports.proofs.Granting.{left_first}
 use Rattle.visibility.specs.Point.{HasAdvanced}
 use Rattle.core_parts.specs.Described.{Described}
 use Rattle.core_parts.specs.Held.{Held, Sizes, Whole, described, in_flight, machine_of, sizes}
-use Rattle.core_parts.specs.Stands.{InFlight, Stands}
+use Rattle.refinement.specs.InFlight.{InFlight}
+use Rattle.refinement.specs.Refines.{Refines}
 use Rattle.core_parts.proofs.Whole.{shown_by, told_by}
 use Rattle.issue.specs.declared.decide.Decided.{Decided}
 use Rattle.issue.specs.Accesses.{as_access}
@@ -65,9 +66,9 @@ events_few h cycle ports w b =
 pub all_left : (h : Held) (cycle : ℕ) (now : Around) (ports : Ports) → Whole h → ports ≡ begun_at cycle h.ports → LeftAfter h.desc now [] ports
 all_left h cycle now ports w b = subst (LeftAfter h.desc now []) (sym b) (left_first h.desc now cycle h.ports (ap (λ (s : Sizes). s.alus) w.made))
 
--- the parts stand for the window
-pub standing : (h : Held) → Whole h → (p : InFlight) × Stands (holding h.desc h.rob h.stations h.queues p)
-standing h w = (in_flight h, w.stands)
+-- the parts refine the window
+pub refining : (h : Held) → Whole h → (p : InFlight) × Refines (holding h.desc h.rob h.stations h.queues p)
+refining h w = (in_flight h, w.stands)
 
 -- what an entry looks at, with this divider
 abbrev pub now_with : Held → Divider → Around
@@ -128,11 +129,11 @@ module _ (h : Held) (decided : Decided) (rob : Ring) (stations : Stations) (queu
       let registers = ap (λ (m : Registers). m.room) m in
       cc
 
-  pub issued_whole : ((p : InFlight) → Stands (holding h.desc h.rob h.stations h.queues p) → Stands (holding h.desc rob stations queues p)) → stations.room ≡ h.stations.room →
+  pub issued_whole : ((p : InFlight) → Refines (holding h.desc h.rob h.stations h.queues p) → Refines (holding h.desc rob stations queues p)) → stations.room ≡ h.stations.room →
       queues.max_loads ≡ h.queues.max_loads → queues.max_stores ≡ h.queues.max_stores → ports.alus ≡ h.ports.alus → Whole new
-  issued_whole stands s a b p = record {
+  issued_whole refines s a b p = record {
     sized = subst (Sized h.desc) (sym issued_machine) (sized_issue h.desc (machine_of h) (every_desc h.desc) w.sized);
-    stands = stands (in_flight h) w.stands;
+    stands = refines (in_flight h) w.stands;
     made = issued_sizes s a b p ∙ w.made;
   }
 

@@ -12,7 +12,7 @@ use Rattle.unit_ports.specs.Ports.{Ports}
 use Rattle.stations.specs.Stations.{MarksAble, Station, is_able}
 use Rattle.issue.specs.declared.decide.Put.{Put}
 use Rattle.issue.specs.declared.seen.Seen.{Seen}
-use Rattle.issue.specs.State.{Stands, around_of, parts_of, window_of}
+use Rattle.issue.specs.State.{Stands, around_of, flight_of, window_of}
 use Rattle.issue.proofs.Asking.{not_able}
 use Rattle.issue.proofs.Testing.{able_is}
 use Rattle.issue.proofs.Waiting.{Reaches, goes_on, waits_at}
@@ -28,7 +28,7 @@ module _ (s : Seen) (ports : Ports) (puts : List Put) (load : Option Access) (st
   -- the walk passes one station that isn't able
   past_one : (k : ℕ) → k < length s.stations.now.held → able_at k ≡ Some false → At k → At (k + 1)
   past_one k lt unable t =
-      let w = waits_at (parts_of stands.next stands.writes s) stands.parts k lt in
+      let w = waits_at (flight_of stands.next stands.writes s) stands.refines k lt in
       let at = w.1 in
       let is = able_is s w.0 at.entry stands at.is k false at.waits (sym at.station) unable in
       let none = not_able s.desc.now (around_of s) (before_at (window_of s) w.0) at.entry at.waits (sym is) in

@@ -15,7 +15,7 @@ use Rattle.issue.specs.Accesses.{as_access}
 use Rattle.issue.specs.Decisions.{DecidesFor, HadTurn, most_begun, turns_of}
 use Rattle.issue.specs.Ports.{LeftFor, OnlyPorts, events_left, left_in_all}
 use Rattle.issue.specs.Puts.{ArePuts}
-use Rattle.issue.specs.State.{HasTurn, Stands, here, parts_of, window_of}
+use Rattle.issue.specs.State.{HasTurn, Stands, here, flight_of, window_of}
 use Rattle.issue.proofs.Noting.{as_many_events, as_many_puts, only_both, row_is}
 use Rattle.issue.proofs.Skipping.{skipped}
 use Rattle.issue.proofs.Waiting.{Reaches, all_wait, at_end, at_next, goes_on}
@@ -53,7 +53,7 @@ module _ (s : Seen) (first ports : Ports) (decided : Decided) (start row : Row) 
   pub walks_out : (k : ℕ) → k ≡ length s.stations.now.held → Walks s first ports decided start row k → WalksAll s first ports decided start row
   walks_out k end t =
       let room = t.room in
-      let many = all_wait (parts_of stands.next stands.writes s) stands.parts in
+      let many = all_wait (flight_of stands.next stands.writes s) stands.refines in
       let walked = at_end _ (window_of s) k (keeps s ports _ _ _ _ _ stands) t.walked (many ∙ sym end) in
       let all = decided_all s (length (window_of s)) decided _ _ _ _ (omega arith) walked.decided in
       record {

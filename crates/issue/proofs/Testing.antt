@@ -1,5 +1,5 @@
 -- What the parts tell of an entry at its position is what the machine's definitions find there.
-use Rattle.std.proofs.Common.{◌≡◌, ℕ, zero, suc, ◌+◌, ◌-◌, ◌*◌, ◌≤◌, Bool, true, false, ◌&&◌, List, ◌∷◌, Option, Some, refl, ap, ap₂, sym, subst, ◌∙◌, slice_get, arith}
+use Rattle.std.proofs.Common.{◌≡◌, ℕ, zero, suc, ◌+◌, ◌-◌, ◌*◌, ◌≤◌, Bool, true, false, not, ◌&&◌, List, ◌∷◌, Option, Some, refl, ap, ap₂, sym, subst, ◌∙◌, slice_get, arith}
 use Rattle.std.specs.Prelude.{nat_lt}
 use Rattle.std.specs.Option.{option_map}
 use Rattle.std.proofs.lemmas.Bool.Decides.{nat_tests}
@@ -10,27 +10,45 @@ use Rattle.rv_types.specs.declared.Kind.TheVariants.{Div, Load, Mul, Store}
 use Rattle.machine_desc.specs.declared.Desc.{Desc}
 use Rattle.window_model.specs.declared.Divider.{Divider}
 use Rattle.window_model.specs.declared.Entry.{Entry}
-use Rattle.window_model.specs.Around.{Around}
-use Rattle.window_model.specs.MayIssue.{may_issue, may_issue_as}
+use Rattle.window_model.specs.Around.{Around, is_free}
+use Rattle.window_model.specs.MayIssue.{goes_behind, may_issue, may_issue_as}
 use Rattle.window_model.specs.Ports.{Port, AddressPort, AluPort, DataPort, is_granted, may_at}
 use Rattle.window_model.proofs.Booleans.{both}
 use Rattle.window_model.specs.Order.{before_at, is_store, is_waiting, sources}
 use Rattle.window_model.specs.Ready.{all_known, ready}
+use Rattle.window_model.specs.Taint.{address_tainted, any_tainted}
 use Rattle.stations.specs.Stations.{is_able, ready_part}
 use Rattle.stations.specs.declared.wants.Part.{Part}
-use Rattle.rob_ring.specs.Beside.{each_roots}
+use Rattle.rob_ring.specs.declared.beside.Sources.{Sources}
 use Rattle.visibility.specs.Gate.{may_transmit}
 use Rattle.unit_ports.specs.Ports.{Ports, left_at, port_for, taken_at}
 use Rattle.unit_ports.specs.Laws.{LeftAfter, asked, if_asked}
 use Rattle.unit_ports.proofs.Granting.{granted_is, left_more}
-use Rattle.parts_stand.specs.Steps.{station_of}
-use Rattle.parts_stand.specs.Parts.{wants_of}
-use Rattle.parts_stand.specs.Telling.{HoldsBy, asks_besides, has_sources, own_of}
-use Rattle.parts_stand.proofs.Answering.{tells_able, tells_issue, tells_part}
+use Rattle.visibility.specs.Point.{Point}
+use Rattle.refinement.specs.InFlight.{InFlight}
+use Rattle.refinement.specs.Stations.{station_of}
+use Rattle.refinement.specs.Waiters.{wants_of}
+use Rattle.refinement.specs.Telling.{OperandsTold, has_sources, own_of}
+use Rattle.refinement.proofs.Answering.{tells_operands}
+use Rattle.refinement.proofs.Ready.{MovedBy, tells_able, tells_part}
 use Rattle.issue.specs.declared.seen.Seen.{Seen}
 use Rattle.issue.specs.Ports.{OnlyPorts, events_left, left_in_all, most_events_of}
-use Rattle.issue.specs.State.{Stands, StandsAt, around_of, parts_of}
+use Rattle.issue.specs.State.{Stands, StandsAt, around_of, flight_of}
+use Rattle.issue.specs.Telling.{TellsIssue, asks_besides}
 use Rattle.issue.proofs.Asking.{AsksNone, asks_own}
+
+-- ---- what the parts tell
+
+issue_by : (d : Desc) (point : Point) (before : List Entry) (e : Entry) (roots : List (Option ℕ)) (now : Around) → point.model ≡ d.stt_model → OperandsTold point before e roots → (k : Kind) →
+    may_issue_as k d now before e ≡ (may_transmit k point.serial roots && asks_besides k d now before e)
+issue_by d point before e roots now q t Load =
+    ap (λ b. not b && goes_behind d now before e) (ap (λ m. address_tainted m before e) (sym q) ∙ sym t.base)
+issue_by d point before e roots now q t Div = ap (λ b. not b && is_free now) (ap (λ m. any_tainted m before e) (sym q) ∙ sym t.any)
+issue_by d point before e roots now q t _ = refl
+
+-- by an entry's roots it is told whether it may issue
+pub tells_issue : TellsIssue
+tells_issue d p i e x now s m q h k = issue_by d p.point (before_at p.window i) e x.roots now q (tells_operands p i e x s m h k) e.item.kind
 
 -- ---- what an entry is asked for
 
@@ -38,14 +56,17 @@ module _ (s : Seen) (i : ℕ) (e : Entry) (t : Stands s) (h : StandsAt s i e) wh
   abbrev before : List Entry
   before = before_at s.rob.now.entries i
 
+  abbrev flight : InFlight
+  flight = flight_of t.next t.writes s
+
   -- what loads read is held back by the point
-  held_by : HoldsBy s.desc.now (parts_of t.next t.writes s) s.point.now
-  held_by = record { advanced = t.advanced; model = t.model; hold = refl }
+  moved : MovedBy s.desc.now flight
+  moved = record { advanced = t.advanced; model = t.model; holds = refl }
 
   -- an entry that waits has a station, which tells whether what it wants is there
   pub able_is : (n : ℕ) (b : Bool) → is_waiting e.state ≡ true → n ≡ station_of i s.rob.now.entries → option_map is_able (slice_get s.stations.now.held n) ≡ Some b → b ≡ has_sources (wants_of s.desc.now.version e) s.desc.now before e
   able_is n b w q k =
-      let told = tells_able s.desc.now (parts_of t.next t.writes s) s.point.now i e t.parts held_by h w in
+      let told = tells_able s.desc.now flight i e t.refines moved h w in
       let here : option_map is_able (slice_get s.stations.now.held (station_of i s.rob.now.entries)) ≡ Some b = subst (λ n. option_map is_able (slice_get s.stations.now.held n) ≡ Some b) q k in
       let both : Some b ≡ Some (has_sources (wants_of s.desc.now.version e) s.desc.now before e) = sym here ∙ told in
       cc
@@ -53,17 +74,17 @@ module _ (s : Seen) (i : ℕ) (e : Entry) (t : Stands s) (h : StandsAt s i e) wh
   -- a station tells whether the source that this part of its store needs is known
   pub part_is : (part : Part) (n : ℕ) (b : Bool) → is_waiting e.state ≡ true → n ≡ station_of i s.rob.now.entries → option_map (ready_part part) (slice_get s.stations.now.held n) ≡ Some b → b ≡ all_known s.desc.now before (own_of part (sources e))
   part_is part n b w q k =
-      let told = tells_part part s.desc.now (parts_of t.next t.writes s) s.point.now i e t.parts held_by h w in
+      let told = tells_part part s.desc.now flight i e t.refines moved h w in
       let here : option_map (ready_part part) (slice_get s.stations.now.held (station_of i s.rob.now.entries)) ≡ Some b = subst (λ n. option_map (ready_part part) (slice_get s.stations.now.held n) ≡ Some b) q k in
       let both : Some b ≡ Some (all_known s.desc.now before (own_of part (sources e))) = sym here ∙ told in
       cc
 
   -- an entry that waits and is ready may issue by its untainted operands, and by what is asked for besides
-  pub issue_is : (m b : Bool) (roots : List (Option ℕ)) → slice_get (each_roots s.sources.now.items) i ≡ Some roots →
-      m ≡ may_transmit e.item.kind s.point.now.serial roots → b ≡ asks_besides e.item.kind s.desc.now (around_of s) before e →
+  pub issue_is : (m b : Bool) (x : Sources) → slice_get s.sources.now.items i ≡ Some x →
+      m ≡ may_transmit e.item.kind s.point.now.serial x.roots → b ≡ asks_besides e.item.kind s.desc.now (around_of s) before e →
       is_waiting e.state ≡ true → ready s.desc.now before e ≡ true → (m && b) ≡ may_issue s.desc.now (around_of s) before e
-  issue_is m b roots k p q w r =
-      ap₂ (λ m b. m && b) p q ∙ sym (tells_issue s.desc.now (parts_of t.next t.writes s) s.point.now i e roots (around_of s) t.parts t.advanced t.model h k)
+  issue_is m b x k p q w r =
+      ap₂ (λ m b. m && b) p q ∙ sym (tells_issue s.desc.now flight i e x (around_of s) t.refines t.advanced t.model h k)
       ∙ sym (ap₂ (λ a b. a && b && may_issue_as e.item.kind s.desc.now (around_of s) before e) w r)
 
 -- ---- ports that are left

@@ -28,7 +28,7 @@ use Rattle.window_model.proofs.Together.{entry_parts, granted_together, issue_pa
 use Rattle.unit_ports.specs.Ports.{port_for}
 use Rattle.rob_ring.specs.Issued.{issued_of, with_issued}
 use Rattle.queue_laws.specs.Window.{PartsGoOn, TracksOn}
-use Rattle.parts_stand.specs.Steps.{Issues, station_of}
+use Rattle.refinement.specs.Stations.{Issues, station_of}
 use Rattle.issue.specs.declared.decide.Put.{Put}
 use Rattle.issue.specs.Ports.{most_events_of}
 use Rattle.issue.specs.Puts.{ArePuts, IsPut, issue_by, issue_in, placed, width_for}

@@ -12,9 +12,12 @@ use Rattle.window_model.specs.Order.{is_waiting}
 use Rattle.window_model.proofs.Counts.{count, count_is}
 use Rattle.rob_ring.specs.Ring.{below}
 use Rattle.stations.specs.Stations.{Station}
-use Rattle.parts_stand.specs.Parts.{Parts, Stand, Waiter, waiter_in}
-use Rattle.parts_stand.specs.Steps.{station_of}
-use Rattle.parts_stand.proofs.Answering.{counts_room, counts_stations, has_station}
+use Rattle.refinement.specs.InFlight.{InFlight}
+use Rattle.refinement.specs.Refines.{Refines}
+use Rattle.refinement.specs.Waiters.{Waiter, waiter_in}
+use Rattle.refinement.specs.Stations.{station_of}
+use Rattle.refinement.proofs.Answering.{counts_held, has_station}
+use Rattle.refinement.proofs.OldAnswering.{counts_stations}
 use Rattle.window_model.proofs.Serials.{all_at, place_of}
 
 -- ---- how many wait before a position
@@ -78,15 +81,15 @@ counted : (window : List Entry) (k : ℕ) → k < count (λ e. is_waiting e.stat
 counted [] k lt = absurd (omega (arith, lt))
 counted (e ∷ es) k lt = counted_by e es (is_waiting e.state) refl (counted es) k lt
 
-module _ (p : Parts) (s : Stand p) where
+module _ (p : InFlight) (s : Refines p) where
   -- there are as many stations as entries of the window that wait
   pub all_wait : station_of (length p.window) p.window ≡ length p.held
-  all_wait = ap (count_by (λ e. is_waiting e.state)) (take_all (length p.window) p.window (omega arith)) ∙ sym (counts_room p s).held
+  all_wait = ap (count_by (λ e. is_waiting e.state)) (take_all (length p.window) p.window (omega arith)) ∙ sym (counts_held p s)
 
   -- to each station there is an entry of the window that waits there
   pub waits_at : (k : ℕ) → k < length p.held → (i : ℕ) × WaitsAt p.window k i
   waits_at k lt =
-      let many = (counts_room p s).held in
+      let many = counts_held p s in
       let all = count_is (λ e. is_waiting e.state) p.window in
       counted p.window k (omega (arith, lt, many, all))
 
@@ -103,7 +106,7 @@ module _ (p : Parts) (s : Stand p) where
   stands_at k serial i lt h q =
       let w = waits_at k lt in
       let t = w.1 in
-      let told = (has_station p w.0 t.entry s t.is t.waits).is in
+      let told = has_station p w.0 t.entry s t.is t.waits in
       let at = ap (λ k. option_map (λ s. s.serial) (slice_get p.held k)) t.station ∙ h in
       let same = serial_of (slice_get p.held (station_of w.0 p.window)) _ serial told at in
       subst (WaitsAt p.window k) (sym (q ∙ ap (λ n. length (below n p.window)) same ∙ place_of p.window w.0 t.entry s.rise t.is)) t
@@ -113,7 +116,7 @@ module _ (p : Parts) (s : Stand p) where
   in_window k serial lt h none =
       let w = waits_at k lt in
       let t = w.1 in
-      let told = (has_station p w.0 t.entry s t.is t.waits).is in
+      let told = has_station p w.0 t.entry s t.is t.waits in
       let at = ap (λ k. option_map (λ s. s.serial) (slice_get p.held k)) t.station ∙ h in
       let same = serial_of (slice_get p.held (station_of w.0 p.window)) _ serial told at in
       all_at (λ e. e.serial ≢ serial) p.window w.0 t.entry none t.is (sym same)

@@ -18,7 +18,7 @@ use Rattle.window_model.specs.Issue.{Begun, access_of, issue_entry, taken_for, w
 use Rattle.window_model.proofs.Before.{before_more, each_push}
 use Rattle.unit_ports.specs.Ports.{Ports}
 use Rattle.unit_ports.specs.Laws.{LeftAfter}
-use Rattle.parts_stand.specs.Steps.{station_of}
+use Rattle.refinement.specs.Stations.{station_of}
 use Rattle.issue.specs.declared.decide.Put.{Put}
 use Rattle.issue.specs.declared.seen.Seen.{Seen}
 use Rattle.issue.specs.declared.decide.Decided.{Decided}

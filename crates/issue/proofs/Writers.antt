@@ -8,7 +8,7 @@ use Rattle.rv_types.specs.Regs.{two}
 use Rattle.window_model.specs.declared.Entry.{Entry}
 use Rattle.window_model.specs.Order.{from_writer, operand}
 use Rattle.window_model.specs.MayIssue.{first_operand, second_operand}
-use Rattle.parts_stand.specs.Writers.{in_flight, writer_of}
+use Rattle.refinement.specs.Writers.{in_flight, writer_of}
 use Rattle.issue.specs.Operands.{value_by}
 
 -- two are made of two

@@ -1,4 +1,5 @@
 pub mod State
+pub mod Telling
 pub mod Operands
 pub mod Pending
 pub mod Accesses

@@ -4,7 +4,7 @@ use Rattle.rv_types.specs.Isa.{reg}
 use Rattle.window_model.specs.declared.Entry.{Entry}
 use Rattle.window_model.specs.MayIssue.{first_operand, second_operand}
 use Rattle.window_model.specs.Order.{from_writer, sources}
-use Rattle.parts_stand.specs.Writers.{in_flight}
+use Rattle.refinement.specs.Writers.{in_flight}
 use Rattle.issue.specs.declared.seen.Place.{Place}
 use Rattle.issue.specs.declared.seen.Seen.{Seen}
 use Rattle.issue.specs.State.{before_of}

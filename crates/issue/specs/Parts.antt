@@ -4,7 +4,7 @@ use Rattle.window_model.specs.Dependence.{passing}
 use Rattle.rob_ring.specs.Ring.{Ring}
 use Rattle.stations.specs.Stations.{Stations}
 use Rattle.lsq.specs.Queues.{Queues}
-use Rattle.core_parts.specs.Stands.{InFlight}
+use Rattle.refinement.specs.InFlight.{InFlight}
 
 -- what is in flight under this description, with these entries, these stations and these queues
 abbrev pub holding : Desc → Ring → Stations → Queues → InFlight → InFlight

@@ -9,10 +9,10 @@ use Rattle.stations.specs.declared.wants.Part.{Part}
 use Rattle.stations.specs.declared.wants.Part.TheVariants as part
 use Rattle.unit_ports.specs.Laws.{LeftAfter}
 use Rattle.unit_ports.specs.Ports.{Ports, port_for}
-use Rattle.parts_stand.specs.Telling.{asks_besides}
 use Rattle.issue.specs.declared.seen.Place.{Place}
 use Rattle.issue.specs.declared.seen.Seen.{Seen}
 use Rattle.issue.specs.State.{around_of, before_of}
+use Rattle.issue.specs.Telling.{asks_besides}
 
 -- ---- of an entry in its place
 

@@ -7,16 +7,16 @@ use Rattle.machine_facts.specs.Sized.{HasParts, Together}
 use Rattle.machine_facts.specs.Timely.{WaitsOrDone}
 use Rattle.window_model.specs.declared.Entry.{Entry}
 use Rattle.window_model.specs.Around.{Around}
+use Rattle.window_model.specs.Dependence.{passing}
 use Rattle.window_model.specs.Order.{before_at, is_waiting}
-use Rattle.rob_ring.specs.Beside.{each_roots, each_writers}
+use Rattle.window_model.specs.Ready.{holds}
 use Rattle.rename_taint.specs.declared.Write.{Write}
 use Rattle.visibility.specs.Point.{HasAdvanced}
-use Rattle.queue_laws.specs.Window.{StandFor}
-use Rattle.parts_stand.specs.Parts.{Parts, Stand, wants_of}
-use Rattle.parts_stand.specs.Telling.{has_sources, hold_of}
-use Rattle.parts_stand.specs.Addresses.{AddressesStand}
-use Rattle.parts_stand.specs.Steps.{station_of}
-use Rattle.parts_stand.specs.Writers.{WritersOf}
+use Rattle.refinement.specs.InFlight.{InFlight}
+use Rattle.refinement.specs.Refines.{Refines}
+use Rattle.refinement.specs.Stations.{station_of}
+use Rattle.refinement.specs.Telling.{has_sources}
+use Rattle.refinement.specs.Waiters.{wants_of}
 use Rattle.issue.specs.declared.seen.Place.{Place}
 use Rattle.issue.specs.declared.seen.Seen.{Seen}
 
@@ -28,20 +28,27 @@ around_of s = record { cycle = s.cycle; regs = s.regs.now; ram = s.ram.now; depe
 abbrev pub window_of : Seen → List Entry
 window_of s = s.rob.now.entries
 
--- what stands for the window, with the next serial and the writes of the rename table. What loads read is held back by
--- the point, as the description says
-abbrev pub parts_of : ℕ → List Write → Seen → Parts
-parts_of next writes s = record { version = s.desc.now.version; hold = hold_of s.desc.now s.point.now; next = next; window = s.rob.now.entries; roots = each_roots s.sources.now.items; writes = writes; held = s.stations.now.held }
+-- what is in flight, with the next serial and the writes of the rename table
+abbrev pub flight_of : ℕ → List Write → Seen → InFlight
+flight_of next writes s = record {
+  version = s.desc.now.version;
+  holds = holds s.desc.now.stt_defence;
+  tracked = passing s.desc.now;
+  next = next;
+  window = s.rob.now.entries;
+  sources = s.sources.now.items;
+  writes = writes;
+  held = s.stations.now.held;
+  queues = s.lsq.now;
+  point = s.point.now;
+}
 
--- the parts stand for the window, the point has just moved, the bits of dependence, both levels of the cache and the
+-- the parts refine the window, the point has just moved, the bits of dependence, both levels of the cache and the
 -- registers are of the description, and memory ends where it is said to
 pub record Stands (s : Seen) : Type 0 where
   pub next : ℕ
   pub writes : List Write
-  pub parts : Stand (parts_of next writes s)
-  pub writers : WritersOf next s.rob.now.entries (each_writers s.sources.now.items)
-  pub queues : StandFor s.lsq.now s.rob.now.entries
-  pub addresses : AddressesStand s.rob.now.entries (each_roots s.sources.now.items) s.lsq.now.stores
+  pub refines : Refines (flight_of next writes s)
   -- a store that waits lacks a part, and its parts go together
   pub store_parts : Each HasParts s.rob.now.entries
   pub together : Each (Together s.desc.now) s.rob.now.entries

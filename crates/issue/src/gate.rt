@@ -11,7 +11,6 @@ impl<'a> Seen<'a> {
     ghost use Rattle.std.specs.Prelude.{◌≡◌, Some, false, slice_get};
     ghost use Rattle.window_model.specs.MayIssue.{goes_behind, may_issue};
     ghost use Rattle.window_model.specs.Order.{is_store};
-    ghost use Rattle.rob_ring.specs.Beside.{each_roots, each_writers};
     ghost use Rattle.issue.specs.Ports.{LeftFor, besides, is_served};
     ghost use Rattle.issue.specs.Pending.{lets_by, passes_here, pending_here};
     ghost use Rattle.issue.specs.State.{HasTurn, here};
@@ -19,9 +18,7 @@ impl<'a> Seen<'a> {
     /// What stands of the entry's sources at its position: their youngest roots, and the serials of their writers.
     pub(crate) fn sources_of(&self, place: &Place) -> Sources
         requires turn { HasTurn self.now place.now }
-        ensures roots { slice_get (each_roots self.now.sources.now.items) place.now.position ≡ Some result.roots }
-        ensures writers { slice_get (each_writers self.now.sources.now.items) place.now.position
-            ≡ Some result.writers }
+        ensures { slice_get self.now.sources.now.items place.now.position ≡ Some result }
     {
         *sources_at(self.sources, place.position)
     }

@@ -6,7 +6,7 @@ ghost use Rattle.rv_types.specs.Regs.{reads_of, two};
 ghost use Rattle.rob_ring.specs.Ring.{below};
 ghost use Rattle.window_model.specs.Order.{from_writer};
 ghost use Rattle.window_model.specs.Serials.{Rise};
-ghost use Rattle.parts_stand.specs.Writers.{in_flight};
+ghost use Rattle.refinement.specs.Writers.{in_flight};
 ghost use Rattle.issue.specs.Operands.{value_by};
 
 use crate::seen::{Place, Seen};

@@ -4,9 +4,10 @@ ghost use Rattle.window_model.specs.Dependence.{passing};
 ghost use Rattle.window_model.specs.Order.{has_address, has_data, is_store, is_waiting};
 ghost use Rattle.window_model.specs.Retire.{width_of};
 ghost use Rattle.queue_laws.specs.Window.{noted, noted_load, with_span};
-ghost use Rattle.parts_stand.specs.Parts.{wants_by, wants_of};
-ghost use Rattle.parts_stand.specs.Steps.{left_held};
-ghost use Rattle.core_parts.specs.Stands.{InFlight, Stands};
+ghost use Rattle.refinement.specs.InFlight.{InFlight};
+ghost use Rattle.refinement.specs.Refines.{Refines};
+ghost use Rattle.refinement.specs.Waiters.{wants_by, wants_of};
+ghost use Rattle.refinement.specs.Stations.{left_held};
 ghost use Rattle.issue.specs.Parts.{holding};
 ghost use Rattle.issue.specs.Puts.{ArePuts, known_in, placed, width_for};
 
@@ -124,13 +125,13 @@ pub(crate) fn place(
     lsq: &mut Lsq,
 )
     requires puts { ArePuts rob.old.entries puts.now.items }
-    requires stands { (p : InFlight) × Stands (holding desc.now rob.old stations.old lsq.old p) }
+    requires refines { (p : InFlight) × Refines (holding desc.now rob.old stations.old lsq.old p) }
     ensures window { rob.new ≡ record rob.old { entries = placed puts.now.items rob.old.entries } }
     ensures same_places { stations.new.room ≡ stations.old.room }
     ensures same_loads { lsq.new.max_loads ≡ lsq.old.max_loads }
     ensures same_stores { lsq.new.max_stores ≡ lsq.old.max_stores }
-    ensures stands { (p : InFlight) → Stands (holding desc.now rob.old stations.old lsq.old p)
-        → Stands (holding desc.now rob.new stations.new lsq.new p) }
+    ensures refines { (p : InFlight) → Refines (holding desc.now rob.old stations.old lsq.old p)
+        → Refines (holding desc.now rob.new stations.new lsq.new p) }
 {
     for k in (0..puts.len()).rev() {
         let put = &puts[k];

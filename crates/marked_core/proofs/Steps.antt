@@ -8,7 +8,6 @@ use Rattle.window_model.specs.Serials.{Rise}
 use Rattle.window_model.specs.State.{Machine}
 use Rattle.core_parts.specs.Described.{Described}
 use Rattle.core_parts.specs.Held.{Held, Whole, described, in_flight}
-use Rattle.core_parts.specs.Stands.{table_and_stations}
 use Rattle.secret_marks.specs.declared.EntryMarks.{EntryMarks}
 use Rattle.secret_marks.specs.Marks.{Marks as Beside, after_issue_marks, cut, extended, issued_from, new_entry}
 use Rattle.entry_marks.specs.declared.marks.Marks.{Marks}
@@ -76,18 +75,17 @@ marks_extended m w n s count e =
 
 -- ---- what Issue looks at
 
--- some parts stand for the window that Issue looks at, and each entry has its marks
+-- the parts refine the window that Issue looks at, and each entry has its marks
 pub parts_beside : (h : Held) (v : Described) (ms : List EntryMarks) → Whole h → described h ≡ v → length ms ≡ length v.machine.window → StandBeside h.rob.entries h.sources.items ms
 parts_beside h v ms w s e = record {
-  rest = table_and_stations (in_flight h);
-  stand = w.stands.stand;
-  writers = w.stands.writers;
+  rest = in_flight h;
+  refines = w.stands;
   step = e ∙ sym (ap (λ (v : Described). length v.machine.window) s);
 }
 
 -- events tell of the window that Issue leaves, whose serials rise
 pub told_beside : (h : Held) (v : Described) (events : List Event) → Whole h → described h ≡ v → (Rise v.machine.window → Told v.machine.cycle v.machine.window events) → Told h.cycle h.rob.entries events
-told_beside h v events w s t = subst (λ (v : Described). (Rise v.machine.window → Told v.machine.cycle v.machine.window events) → Told h.cycle h.rob.entries events) s (λ f. f w.stands.stand.rise) t
+told_beside h v events w s t = subst (λ (v : Described). (Rise v.machine.window → Told v.machine.cycle v.machine.window events) → Told h.cycle h.rob.entries events) s (λ f. f w.stands.rise) t
 
 pub marks_issued : (h : Held) (v : Described) (m : Beside) (base : ℕ) → Whole h → described h ≡ v → base ≡ v.machine.ram.base →
     ◌≡◌ {A = Beside} record m { window = issued_from h.cycle base m [] [] h.rob.entries m.window } (after_issue_marks v.machine m)

@@ -21,7 +21,7 @@ ghost use Rattle.queue_laws.specs.Laws.{
 /// of the stores older than an entry, whether they let a load behind them go ("Issue"), the bytes that it finds,
 /// whether they cover them all, and whether one has a tainted address ("Loads"). Where they track when loads issued and
 /// addresses became known: which load a store violates, and what is told of the store at a place ("Clear"). Which store
-/// is cleared is asked of the point too, so `parts_tell_of_window` of `parts_stand` tells it.
+/// is cleared is asked of the point too, so `parts_tell_of_window` of `refinement` tells it.
 pub fn queues_tell_of_window()
     ensures room { RoomAsCounted }
     ensures older { HoldsOlder }

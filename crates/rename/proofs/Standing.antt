@@ -20,16 +20,16 @@ use Rattle.stations.specs.Stations.{Stations}
 use Rattle.lsq.specs.Queues.{Queues}
 use Rattle.fetch_unit.specs.Unit.{FetchUnit}
 use Rattle.queue_laws.proofs.Renaming.{room_is}
-use Rattle.parts_stand.specs.Addresses.{base_root}
-use Rattle.parts_stand.specs.Parts.{awaits_of, write_of}
-use Rattle.parts_stand.specs.Steps.{seated}
-use Rattle.parts_stand.specs.Telling.{hold_of}
-use Rattle.parts_stand.proofs.Answering.{counts_room}
+use Rattle.refinement.specs.Addresses.{base_root}
+use Rattle.refinement.specs.Waiters.{awaits_of, write_of}
+use Rattle.refinement.specs.Stations.{seated}
+use Rattle.refinement.specs.Telling.{hold_of}
+use Rattle.refinement.specs.Steps.{Fresh, queued}
+use Rattle.refinement.proofs.Answering.{counts_held, counts_writes, queues_stand}
+use Rattle.refinement.proofs.Steps.{stands_renamed}
 use Rattle.core_parts.proofs.Lending.{each_has_sources}
 use Rattle.core_parts.specs.Described.{Described}
 use Rattle.core_parts.specs.Held.{Held, Sizes, Whole, described, in_flight, machine_of, sizes}
-use Rattle.core_parts.specs.Steps.{Fresh, queued}
-use Rattle.core_parts.proofs.Steps.{stands_renamed}
 use Rattle.rename.specs.Entering.{awaited_of_writer, with_station, with_write, write_by}
 use Rattle.rename.proofs.Awaiting.{awaits_are, writers_at}
 use Rattle.rename.specs.Fitting.{Counted, fitting, next_item, with_oldest}
@@ -39,9 +39,9 @@ use Rattle.rename.proofs.Fitting.{fits_all, fitting_is, load_room, station_room,
 
 pub counted : (h : Held) → Whole h → Counted h.desc h.rob.entries h.stations h.queues
 counted h w = record {
-  waiting = (counts_room _ w.stands.stand).held;
+  waiting = counts_held (in_flight h) w.stands;
   places = ap (λ (s : Sizes). s.places) w.made;
-  accesses = w.stands.queues;
+  accesses = queues_stand (in_flight h) w.stands;
   loads = ap (λ (s : Sizes). s.loads) w.made;
   stores = ap (λ (s : Sizes). s.stores) w.made;
 }
@@ -58,9 +58,10 @@ pub record HasRoomFor (h : Held) (e : Entry) : Type 0 where
 pub room_for : (h : Held) (item : Item) → Whole h → fitting h.desc h.rob.entries (slice_get h.fetch_unit.queue 0) ≡ Some item → HasRoomFor h (renamed h.desc h.next_serial item)
 room_for h item w q =
     let f = fits_all h.desc h.rob.entries item (fitting_is h.desc h.rob.entries (slice_get h.fetch_unit.queue 0) item q).1 in
-    let c = counts_room _ w.stands.stand in
+    let c = counts_writes (in_flight h) w.stands in
     let n = each_has_sources h w in
-    let k = room_is h.queues h.rob.entries w.stands.queues in
+    let u = counts_held (in_flight h) w.stands in
+    let k = room_is h.queues h.rob.entries (queues_stand (in_flight h) w.stands) in
     let a = ap (λ (s : Sizes). s.entries) w.made in
     let b = ap (λ (s : Sizes). s.sources) w.made in
     let g = ap (λ (s : Sizes). s.writes) w.made in
@@ -70,8 +71,8 @@ room_for h item w q =
     record {
       entry = omega (arith, f.entries, a);
       sources = omega (arith, f.entries, n, b);
-      write = omega (arith, f.entries, c.writes, g);
-      station = λ waits. let l = station_room (at_once item.kind) _ _ f.station waits in omega (arith, l, c.held, p);
+      write = omega (arith, f.entries, c, g);
+      station = λ waits. let l = station_room (at_once item.kind) _ _ f.station waits in omega (arith, l, u, p);
       load = λ is. let l = load_room item.kind h.desc h.rob.entries f.kind is in omega (arith, l, k.0, m);
       store = λ is. let l = store_room item.kind h.desc h.rob.entries f.kind is in omega (arith, l, k.1, t);
     }
@@ -105,7 +106,7 @@ pub entered_by : (h : Held) (item : Item) (s : Sources) (awaits : List (Option �
     fetch_unit ≡ record (h.fetch_unit) { queue = drop 1 h.fetch_unit.queue } → Entered (renamed h.desc h.next_serial item) h rob beside writes room stations q fetch_unit
 entered_by h item s awaits rob beside writes room stations q fetch_unit w are_writers are_roots are_awaits come pushed written same placed added taken =
     let e = renamed h.desc h.next_serial item in
-    let awaited = are_awaits ∙ ap (map (awaited_of_writer (hold_of h.desc h.point) h.rob.entries)) are_writers ∙ awaits_are _ e w.stands.stand in
+    let awaited = are_awaits ∙ ap (map (awaited_of_writer (hold_of h.desc h.point) h.rob.entries)) are_writers ∙ awaits_are (in_flight h) e w.stands in
     record {
       window = come;
       sources = pushed ∙ ap₂ (λ rs ws. buffer (h.sources.items ++ record { roots = rs; writers = ws } ∷ []) h.sources.capacity) are_roots are_writers;

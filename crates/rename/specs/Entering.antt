@@ -12,8 +12,8 @@ use Rattle.rename_taint.specs.declared.Write.{Write}
 use Rattle.rename_taint.specs.Writes.{root_written}
 use Rattle.stations.specs.Stations.{Stations}
 use Rattle.visibility.specs.Point.{Point}
-use Rattle.parts_stand.specs.Parts.{Hold, awaited_of}
-use Rattle.parts_stand.specs.Steps.{seated}
+use Rattle.refinement.specs.Waiters.{Hold, awaited_of}
+use Rattle.refinement.specs.Stations.{seated}
 
 -- what holds results back under a defence, up to a point
 abbrev pub held_by : Defence → Point → Hold

@@ -34,13 +34,13 @@ use Rattle.visibility.specs.Point.{HasAdvanced, NotPast}
 use Rattle.branch_resolve.specs.Effect.{resolution_of, taught, told}
 use Rattle.branch_resolve.specs.declared.effect.Resolution.TheVariants.{Right}
 use Rattle.visibility.specs.Pick.{pick_from}
-use Rattle.parts_stand.proofs.Answering.{picks_first}
+use Rattle.resolve.proofs.Picking.{picks_first}
 use Rattle.rob_ring.specs.Beside.{each_roots}
 use Rattle.core_parts.specs.Described.{Described}
 use Rattle.core_parts.specs.Held.{Held, Sizes, Whole, described, in_flight, machine_of, sizes}
 use Rattle.core_parts.specs.Dropped.{StopsBelow, count_from, cut_from}
 use Rattle.core_parts.proofs.Sizes.{each_set, evolves_set}
-use Rattle.core_parts.proofs.Steps.{stands_resolved, stops_at}
+use Rattle.refinement.proofs.Steps.{stands_resolved, stops_at}
 use Rattle.resolve.specs.Taken.{resolving, true_next}
 use Rattle.resolve.proofs.Effects.{marked, recalled, right_is, wrong_is}
 use Rattle.window_model.specs.Serials.{Rise}
@@ -51,7 +51,7 @@ use Rattle.resolve.proofs.Picked.{Taken, picked, inside, taken}
 pub picks : (h : Held) (v : Described) (o : Option ℕ) → Whole h → described h ≡ v → HasAdvanced v.point v.machine.window → o ≡ pick_from h.point.serial 0 h.rob.entries (each_roots h.sources.items) → o ≡ resolving v.desc v.machine.window
 picks h v o w s a e =
     let here : HasAdvanced h.point h.rob.entries = subst (λ (v : Described). HasAdvanced v.point v.machine.window) (sym s) a in
-    e ∙ picks_first h.desc _ h.point w.stands.stand here (ap (λ (s : Sizes). s.model) w.made) ∙ ap (λ (v : Described). resolving v.desc v.machine.window) s
+    e ∙ picks_first h.desc (in_flight h) w.stands here (ap (λ (s : Sizes). s.model) w.made) ∙ ap (λ (v : Described). resolving v.desc v.machine.window) s
 
 no_place : (d : Desc) (x : Machine) (o : Option Place) → first (may_resolve d) x.window ≡ o → None ≡ option_map (λ (p : Place). length p.before) o → resolve d x ≡ record { machine = x; events = [] }
 no_place d x None q h = ap (λ o. resolve_at d o x) q
@@ -117,7 +117,7 @@ sized_recalled d x m s =
 
 -- there is a serial after the entry's, as there is a next one
 pub serial_fits : (h : Held) (i : ℕ) (e : Entry) → Whole h → slice_get h.rob.entries i ≡ Some e → h.next_serial < 2 ^ 64 → e.serial + 1 < 2 ^ 64
-serial_fits h i e w here n = let below_next = all_at (λ (e : Entry). e.serial < h.next_serial) h.rob.entries i e w.stands.stand.next here in omega (arith, below_next, n)
+serial_fits h i e w here n = let below_next = all_at (λ (e : Entry). e.serial < h.next_serial) h.rob.entries i e w.stands.next here in omega (arith, below_next, n)
 
 -- a branch or JALR that isn't resolved isn't settled
 unsettled : (k : Kind) (resolved cleared : Bool) → is_control k ≡ true → resolved ≡ false → settled_as k resolved cleared ≡ false
@@ -209,7 +209,7 @@ module _ (h : Held) (v : Described) (i : ℕ) (e : Entry) (rob : Ring) (tables :
 
     module _ (wrong : resolution_of e ≡ Right → ⊥) where
       rises : Rise v.machine.window
-      rises = subst (λ (v : Described). Rise v.machine.window) s w.stands.stand.rise
+      rises = subst (λ (v : Described). Rise v.machine.window) s w.stands.rise
 
       all : resolve v.desc v.machine
           ≡ record {

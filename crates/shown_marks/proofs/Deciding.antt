@@ -18,11 +18,12 @@ use Rattle.window_model.proofs.Booleans.{or_false}
 use Rattle.stations.specs.Stations.{ready_part}
 use Rattle.stations.specs.declared.wants.Part.TheVariants as part
 use Rattle.stations.specs.declared.wants.Wants.TheVariants as wants
-use Rattle.rob_ring.specs.Beside.{each_roots}
+use Rattle.rob_ring.specs.declared.beside.Sources.{Sources}
 use Rattle.visibility.specs.Gate.{may_transmit}
-use Rattle.parts_stand.specs.Parts.{wants_by, wants_of}
-use Rattle.parts_stand.specs.Telling.{HoldsBy, OperandsTold, has_sources}
-use Rattle.parts_stand.proofs.Answering.{tells_operands, tells_part}
+use Rattle.refinement.specs.Waiters.{wants_by, wants_of}
+use Rattle.refinement.specs.Telling.{OperandsTold, has_sources}
+use Rattle.refinement.proofs.Answering.{tells_operands}
+use Rattle.refinement.proofs.Ready.{MovedBy, tells_part}
 use Rattle.issue.proofs.Asking.{InStep, first_ready, not_able, not_waiting, part_asks, part_gone, part_may_by, second_ready, step_at, whole_ready}
 use Rattle.secret_marks.specs.declared.EntryMarks.{EntryMarks}
 use Rattle.secret_marks.specs.declared.WordMarks.{WordMarks}
@@ -31,7 +32,7 @@ use Rattle.secret_marks.specs.Marks.{Marks, any_marked, first_marks}
 use Rattle.secret_marks.specs.Shows.{decides_as, operand_shows}
 use Rattle.shown_marks.specs.declared.seen.Place.{Place}
 use Rattle.shown_marks.specs.declared.seen.Seen.{Seen}
-use Rattle.shown_marks.specs.State.{HasTurn, before_of, parts_of, window_of}
+use Rattle.shown_marks.specs.State.{HasTurn, Stands, before_of, flight_of, window_of}
 
 -- ---- whose operand tells nothing
 
@@ -67,6 +68,10 @@ module _ (d : Desc) (before : List Entry) (e : Entry) where
 
 -- ---- an entry in its place
 
+-- results are held back by the point that has moved
+pub moved : (s : Seen) (stands : Stands s) → MovedBy s.desc.now (flight_of stands.rest s)
+moved s stands = record { advanced = stands.advanced; model = stands.model; holds = refl }
+
 module _ (s : Seen) (p : Place) (t : HasTurn s p) where
   abbrev d : Desc
   d = s.desc.now
@@ -77,35 +82,35 @@ module _ (s : Seen) (p : Place) (t : HasTurn s p) where
   abbrev before : List Entry
   before = before_of s p
 
-  told : (roots : List (Option ℕ)) → slice_get (each_roots s.walk.sources.now.items) p.position ≡ Some roots → OperandsTold s.point.now before e roots
-  told roots k = tells_operands (parts_of t.stands.next t.stands.writes s) s.point.now p.position e roots t.stands.parts t.stands.advanced t.at k
+  told : (x : Sources) → slice_get s.walk.sources.now.items p.position ≡ Some x → OperandsTold s.point.now before e x.roots
+  told x k = tells_operands (flight_of t.stands.rest s) p.position e x t.stands.refines t.stands.advanced t.at k
 
   is_ready : is_store e.item.kind ≡ false → ready d before e ≡ true
   is_ready n = whole_ready d before e n t.able
 
   -- a load tells its address where its base is untainted
-  load_decides : (roots : List (Option ℕ)) (b : Bool) → e.item.kind ≡ Load → slice_get (each_roots s.walk.sources.now.items) p.position ≡ Some roots →
-      b ≡ may_transmit e.item.kind s.point.now.serial roots → b ≡ decides_as e.item.kind d before e
-  load_decides roots b is k q =
-      q ∙ ap (λ k. may_transmit k s.point.now.serial roots) is
-      ∙ ap not ((told roots k).base ∙ ap (λ (model : SttModel). address_tainted model before e) t.stands.model)
+  load_decides : (x : Sources) (b : Bool) → e.item.kind ≡ Load → slice_get s.walk.sources.now.items p.position ≡ Some x →
+      b ≡ may_transmit e.item.kind s.point.now.serial x.roots → b ≡ decides_as e.item.kind d before e
+  load_decides x b is k q =
+      q ∙ ap (λ k. may_transmit k s.point.now.serial x.roots) is
+      ∙ ap not ((told x k).base ∙ ap (λ (model : SttModel). address_tainted model before e) t.stands.model)
       ∙ sym (ap₂ (λ w r. w && r && not (address_tainted d.stt_model before e)) t.waits (is_ready (ap is_store is)))
       ∙ ap (λ k. decides_as k d before e) (sym is)
 
   -- a division tells its time where both operands are untainted
-  division_decides : (roots : List (Option ℕ)) (b : Bool) → e.item.kind ≡ Div → slice_get (each_roots s.walk.sources.now.items) p.position ≡ Some roots →
-      b ≡ may_transmit e.item.kind s.point.now.serial roots → b ≡ decides_as e.item.kind d before e
-  division_decides roots b is k q =
-      q ∙ ap (λ k. may_transmit k s.point.now.serial roots) is
-      ∙ ap not ((told roots k).any ∙ ap (λ (model : SttModel). any_tainted model before e) t.stands.model)
+  division_decides : (x : Sources) (b : Bool) → e.item.kind ≡ Div → slice_get s.walk.sources.now.items p.position ≡ Some x →
+      b ≡ may_transmit e.item.kind s.point.now.serial x.roots → b ≡ decides_as e.item.kind d before e
+  division_decides x b is k q =
+      q ∙ ap (λ k. may_transmit k s.point.now.serial x.roots) is
+      ∙ ap not ((told x k).any ∙ ap (λ (model : SttModel). any_tainted model before e) t.stands.model)
       ∙ sym (ap₂ (λ w r. w && r && not (any_tainted d.stt_model before e)) t.waits (is_ready (ap is_store is)))
       ∙ ap (λ k. decides_as k d before e) (sym is)
 
   -- a load or division tells its address or time where what it asks of taint is so
-  pub untainted_decides : (roots : List (Option ℕ)) (b : Bool) → (e.item.kind ≡ Load) ⊎ (e.item.kind ≡ Div) → slice_get (each_roots s.walk.sources.now.items) p.position ≡ Some roots →
-      b ≡ may_transmit e.item.kind s.point.now.serial roots → b ≡ decides_as e.item.kind d before e
-  untainted_decides roots b (inl is) k q = load_decides roots b is k q
-  untainted_decides roots b (inr is) k q = division_decides roots b is k q
+  pub untainted_decides : (x : Sources) (b : Bool) → (e.item.kind ≡ Load) ⊎ (e.item.kind ≡ Div) → slice_get s.walk.sources.now.items p.position ≡ Some x →
+      b ≡ may_transmit e.item.kind s.point.now.serial x.roots → b ≡ decides_as e.item.kind d before e
+  untainted_decides x b (inl is) k q = load_decides x b is k q
+  untainted_decides x b (inr is) k q = division_decides x b is k q
 
   -- ---- a store's address part
 
@@ -123,8 +128,7 @@ module _ (s : Seen) (p : Place) (t : HasTurn s p) where
   -- the address part of a store in version 2 may issue where its base is there
   pub address_alone : (b : Bool) → has_address e ≡ false → (d.version ≡ 1 → ⊥) → option_map (ready_part part.Base) (slice_get s.stations.now.held p.station) ≡ Some b → b ≡ part_may AddressPort d before e
   address_alone b f other k =
-      let held_by : HoldsBy d (parts_of t.stands.next t.stands.writes s) s.point.now = record { advanced = t.stands.advanced; model = t.stands.model; hold = refl } in
-      let known = tells_part part.Base d (parts_of t.stands.next t.stands.writes s) s.point.now p.position e t.stands.parts held_by t.at t.waits in
+      let known = tells_part part.Base d (flight_of t.stands.rest s) p.position e t.stands.refines (moved s t.stands) t.at t.waits in
       let here : option_map (ready_part part.Base) (slice_get s.stations.now.held p.station) ≡ Some (all_known d before (base_of (sources e))) =
       ap (λ n. option_map (ready_part part.Base) (slice_get s.stations.now.held n)) t.station ∙ known in
       let both : Some b ≡ Some (all_known d before (base_of (sources e))) = sym k ∙ here in

@@ -4,10 +4,10 @@ use Rattle.std.specs.Option.{option_map}
 use Rattle.window_model.specs.declared.Entry.{Entry}
 use Rattle.window_model.specs.Order.{before_at, is_waiting}
 use Rattle.stations.specs.Stations.{is_able}
-use Rattle.parts_stand.specs.Parts.{wants_of}
-use Rattle.parts_stand.specs.Steps.{station_of}
-use Rattle.parts_stand.specs.Telling.{HoldsBy, has_sources}
-use Rattle.parts_stand.proofs.Answering.{tells_able}
+use Rattle.refinement.specs.Waiters.{wants_of}
+use Rattle.refinement.specs.Stations.{station_of}
+use Rattle.refinement.specs.Telling.{has_sources}
+use Rattle.refinement.proofs.Ready.{tells_able}
 use Rattle.issue.proofs.Asking.{step_at}
 use Rattle.issue.proofs.Waiting.{Keeps, Reaches, all_wait, at_end, at_next, goes_on, waits_at}
 use Rattle.secret_marks.specs.declared.Shown.{Shown}
@@ -16,8 +16,8 @@ use Rattle.secret_marks.specs.Shown.{operands_shown, shown_by}
 use Rattle.entry_marks.specs.Beside.{marks_before}
 use Rattle.shown_marks.specs.declared.seen.Place.{Place}
 use Rattle.shown_marks.specs.declared.seen.Seen.{Seen}
-use Rattle.shown_marks.specs.State.{HasTurn, Stands, before_of, each_marks, marks_before_of, marks_in, parts_of, window_of}
-use Rattle.shown_marks.proofs.Deciding.{silent, unable_silent, unwaiting_silent}
+use Rattle.shown_marks.specs.State.{HasTurn, Stands, before_of, each_marks, flight_of, marks_before_of, marks_in, window_of}
+use Rattle.shown_marks.proofs.Deciding.{moved, silent, unable_silent, unwaiting_silent}
 use Rattle.shown_marks.proofs.Walking.{ShowsFrom, all_from, shows_here, shows_later, shows_nowhere}
 
 -- what shows from position i on is what shows first in the whole window
@@ -29,9 +29,7 @@ module _ (s : Seen) (stands : Stands s) where
   pub able_is : (i n : ℕ) (e : Entry) (b : Bool) → slice_get (window_of s) i ≡ Some e → is_waiting e.state ≡ true → n ≡ station_of i (window_of s) → option_map is_able (slice_get s.stations.now.held n) ≡ Some b →
       b ≡ has_sources (wants_of s.desc.now.version e) s.desc.now (before_at (window_of s) i) e
   able_is i n e b h w q k =
-      let parts = parts_of stands.next stands.writes s in
-      let held_by : HoldsBy s.desc.now parts s.point.now = record { advanced = stands.advanced; model = stands.model; hold = refl } in
-      let told = tells_able s.desc.now parts s.point.now i e stands.parts held_by h w in
+      let told = tells_able s.desc.now (flight_of stands.rest s) i e stands.refines (moved s stands) h w in
       let both : Some b ≡ Some (has_sources (wants_of s.desc.now.version e) s.desc.now (before_at (window_of s) i) e) =
       sym k ∙ ap (λ n. option_map is_able (slice_get s.stations.now.held n)) q ∙ told in
       cc
@@ -54,7 +52,7 @@ module _ (s : Seen) (stands : Stands s) where
 
   past_one : (k : ℕ) → k < length s.stations.now.held → option_map is_able (slice_get s.stations.now.held k) ≡ Some false → Reached k → Reached (k + 1)
   past_one k lt unable t =
-      let w = waits_at (parts_of stands.next stands.writes s) stands.parts k lt in
+      let w = waits_at (flight_of stands.rest s) stands.refines k lt in
       let at = w.1 in
       let before = before_at (window_of s) w.0 in
       let is = able_is w.0 k at.entry false at.is at.waits (sym at.station) unable in
@@ -78,7 +76,7 @@ module _ (s : Seen) (stands : Stands s) where
   pub reached_end : (k : ℕ) → k ≡ length s.stations.now.held → Reached k → None ≡ operands_shown s.desc.now (marks_in s) [] [] (window_of s) (each_marks s)
   reached_end k end t =
       shows_nowhere s.desc.now (marks_in s) (window_of s) (each_marks s)
-      (at_end (Shows s) (window_of s) k keeps t (all_wait (parts_of stands.next stands.writes s) stands.parts ∙ sym end))
+      (at_end (Shows s) (window_of s) k keeps t (all_wait (flight_of stands.rest s) stands.refines ∙ sym end))
 
   -- ---- at a station that is able
 

@@ -1,17 +1,17 @@
 -- What is looked at, when it stands for a machine, and an entry in its place (docs/architecture.md, "How they stand for
 -- it").
-use Rattle.std.specs.Prelude.{◌≡◌, ℕ, true, List, length, slice_get, Some}
+use Rattle.std.specs.Prelude.{◌≡◌, true, List, length, slice_get, Some}
 use Rattle.std.specs.List.{AllByRecursion as Each}
 use Rattle.machine_facts.specs.Sized.{HasParts, Together}
 use Rattle.window_model.specs.declared.Entry.{Entry}
 use Rattle.window_model.specs.Order.{before_at, is_waiting}
-use Rattle.rob_ring.specs.Beside.{each_roots, each_writers}
-use Rattle.rename_taint.specs.declared.Write.{Write}
+use Rattle.window_model.specs.Ready.{holds}
 use Rattle.visibility.specs.Point.{HasAdvanced}
-use Rattle.parts_stand.specs.Parts.{Parts, Stand, wants_of}
-use Rattle.parts_stand.specs.Telling.{has_sources, hold_of}
-use Rattle.parts_stand.specs.Steps.{station_of}
-use Rattle.parts_stand.specs.Writers.{WritersOf}
+use Rattle.refinement.specs.InFlight.{InFlight}
+use Rattle.refinement.specs.Refines.{Refines}
+use Rattle.refinement.specs.Waiters.{wants_of}
+use Rattle.refinement.specs.Telling.{has_sources}
+use Rattle.refinement.specs.Stations.{station_of}
 use Rattle.secret_marks.specs.declared.EntryMarks.{EntryMarks}
 use Rattle.secret_marks.specs.Marks.{Marks}
 use Rattle.entry_marks.specs.Beside.{marks_before}
@@ -31,17 +31,22 @@ each_marks s = s.walk.marks.now.items
 abbrev pub marks_in : Seen → Marks
 marks_in s = with_window s.walk (each_marks s)
 
--- what stands for the window, with the next serial and the writes of the rename table
-abbrev pub parts_of : ℕ → List Write → Seen → Parts
-parts_of next writes s = record { version = s.desc.now.version; hold = hold_of s.desc.now s.point.now; next = next; window = window_of s; roots = each_roots s.walk.sources.now.items; writes = writes; held = s.stations.now.held }
+-- what is in flight: the parts that are looked at, and of these others what they don't hold
+abbrev pub flight_of : InFlight → Seen → InFlight
+flight_of rest s = record rest {
+  version = s.desc.now.version;
+  holds = holds s.desc.now.stt_defence;
+  window = window_of s;
+  sources = s.walk.sources.now.items;
+  held = s.stations.now.held;
+  point = s.point.now;
+}
 
--- the parts stand for the window, the point has just moved, each entry has its marks, and of a store that waits a part
+-- the parts refine the window, the point has just moved, each entry has its marks, and of a store that waits a part
 -- hasn't issued
 pub record Stands (s : Seen) : Type 0 where
-  pub next : ℕ
-  pub writes : List Write
-  pub parts : Stand (parts_of next writes s)
-  pub writers : WritersOf next (window_of s) (each_writers s.walk.sources.now.items)
+  pub rest : InFlight
+  pub refines : Refines (flight_of rest s)
   pub step : length (each_marks s) ≡ length (window_of s)
   pub store_parts : Each HasParts (window_of s)
   pub together : Each (Together s.desc.now) (window_of s)

@@ -2,7 +2,7 @@
 //! are loaded"), and whether it is marked.
 use crate::seen::{Place, Seen};
 use entry_marks::any_byte;
-use rob_ring::sources_at;
+use rob_ring::{Sources, sources_at};
 use rv_types::Kind;
 use stations::Part;
 use transmit_gate::may_transmit;
@@ -11,16 +11,15 @@ impl<'a> Seen<'a> {
     ghost use Rattle.std.specs.Prelude.{◌≡◌, Some, slice_get, true};
     ghost use Rattle.window_model.specs.Ports.{AddressPort, part_may};
     ghost use Rattle.window_model.specs.Order.{is_store};
-    ghost use Rattle.rob_ring.specs.Beside.{each_roots};
     ghost use Rattle.secret_marks.specs.Shows.{decides_as, operand_shows};
     ghost use Rattle.shown_marks.specs.State.{HasTurn, before_of, marks_before_of, marks_in};
 
-    // The youngest roots of the entry's sources.
-    fn roots_of(&self, place: &Place) -> [Option<u64>; 2]
+    // What stands of the entry's sources at its position.
+    fn sources_of(&self, place: &Place) -> &Sources
         requires turn { HasTurn self.now place.now }
-        ensures { slice_get (each_roots self.now.walk.sources.now.items) place.now.position ≡ Some result }
+        ensures { slice_get self.now.walk.sources.now.items place.now.position ≡ Some result.now }
     {
-        sources_at(self.walk.sources, place.position).roots
+        sources_at(self.walk.sources, place.position)
     }
 
     // Whether a store's address part may issue: it hasn't issued, and its source is there; in version 1 both sources
@@ -48,7 +47,7 @@ impl<'a> Seen<'a> {
         match place.entry.item.kind {
             Kind::Load | Kind::Div => may_transmit(
                 place.entry.item.kind,
-                self.roots_of(place),
+                self.sources_of(place).roots,
                 self.point,
             ),
             Kind::Store => self.address_may(place),

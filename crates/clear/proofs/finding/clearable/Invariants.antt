@@ -1,7 +1,7 @@
 use Rattle.std.proofs.Common.{◌≡◌, ◌-◌, length}
 use Rattle.std.specs.Prelude.{drop}
 use Rattle.std.specs.List.{find}
-use Rattle.parts_stand.specs.Addresses.{can_clear}
+use Rattle.clear.specs.Clearable.{can_clear}
 use Rattle.clear.proofs.finding.clearable.Given as goal
 
 -- no store of those that the loop has passed may be cleared

@@ -24,7 +24,7 @@ loop-k-preserved-in-Some c =
     let found = c.in-Some.ensures in
     let e = found.0 in
     let lt = found.1 in
-    let none = none_between c.args.cycle window c.args.events.now c.loop-k.unwalked c.loop-k.k k next was.left _ told_at c.requires.told c.requires.stands.stand.rise i found in
+    let none = none_between c.args.cycle window c.args.events.now c.loop-k.unwalked c.loop-k.k k next was.left _ told_at c.requires.told c.requires.stands.refines.rise i found in
     let stays = stay_to c.args.cycle c.args.base (marks_of begun) window begun.window.items c.requires.stands.step (i + 1) c.loop-k.unwalked (omega (arith, lt)) was.within none in
     let (own, here, written) = gets c.args.cycle c.args.base (marks_of begun) window begun.window.items c.requires.stands.step (i + 1) i refl e found.2 now (ap (λ (m : Marks). m.window) was.marks ∙ stays) in
     let same : (marks : List EntryMarks) → marks_with c.loop-k.marks marks ≡ marks_with begun marks = λ marks. ap (λ (m : Marks). record m { window = marks }) was.marks in
@@ -36,7 +36,7 @@ loop-k-preserved-in-Some c =
       step = c.mark_entry.ensures.step ∙ was.step;
       room = c.mark_entry.ensures.room ∙ was.room;
       within = let all = was.within in omega (arith, lt, all);
-      left = left_found c.args.cycle window c.args.events.now c.loop-k.unwalked c.loop-k.k k next was.left _ told_at c.requires.told c.requires.stands.stand.rise i found;
+      left = left_found c.args.cycle window c.args.events.now c.loop-k.unwalked c.loop-k.k k next was.left _ told_at c.requires.told c.requires.stands.refines.rise i found;
     }
 
 pub loop-k-preserved : goal.loop-k-preserved

@@ -4,7 +4,7 @@ use Rattle.std.proofs.Common.{◌+◌, ap, ap₂, sym, ◌∙◌, arith}
 use Rattle.unit_ports.specs.Ports.{Ports}
 use Rattle.core_parts.specs.Held.{Sizes}
 use Rattle.issue.proofs.Idle.{idle_row, idle_shown}
-use Rattle.issue.proofs.Issued.{advanced, all_left, decides, events_few, few_left, issued_advanced, issued_row, issued_shown, issued_whole, registers_fit, registers_left, settled, standing}
+use Rattle.issue.proofs.Issued.{advanced, all_left, decides, events_few, few_left, issued_advanced, issued_row, issued_shown, issued_whole, registers_fit, registers_left, refining, settled}
 use Rattle.issue.proofs.phase.issue.Goals as goal
 
 pub returns-then-not-any_able-clause-machine : goal.returns-then-not-any_able-clause-machine
@@ -19,10 +19,7 @@ decide-requires-clause-stands g c =
     record {
       next = _;
       writes = _;
-      parts = w.stands.stand;
-      writers = w.stands.writers;
-      queues = w.stands.queues;
-      addresses = w.stands.addresses;
+      refines = w.stands;
       store_parts = w.sized.parts;
       together = w.sized.together;
       settled = settled _ _ w c.parts.view_is c.requires.settled;
@@ -46,8 +43,8 @@ decide-requires-clause-few g c = few_left _ _ _ c.parts.invariant c.begin.ensure
 pub decide-requires-clause-events : goal.decide-requires-clause-events
 decide-requires-clause-events g c = events_few _ _ _ c.parts.invariant c.begin.ensures
 
-pub place-requires-clause-stands : goal.place-requires-clause-stands
-place-requires-clause-stands g c = standing _ c.parts.invariant
+pub place-requires-clause-refines : goal.place-requires-clause-refines
+place-requires-clause-refines g c = refining _ c.parts.invariant
 
 pub take_registers-requires : goal.take_registers-requires
 take_registers-requires g c =
@@ -58,7 +55,7 @@ pub invariant_of-parts : goal.invariant_of-parts
 invariant_of-parts g c =
     let k = decides _ _ _ _ _ c.decide.new.decided c.parts.invariant c.divider-divider.ensures c.begin.ensures c.decide.ensures.decides in
     issued_whole _ c.decide.new.decided _ _ _ _ _ _ _ c.parts.invariant k c.place.ensures.window c.touch.ensures c.take_registers.ensures.second c.take_registers.ensures.misses
-    c.place.ensures.stands c.place.ensures.same_places c.place.ensures.same_loads c.place.ensures.same_stores (c.decide.ensures.only.alus ∙ ap (λ (p : Ports). p.alus) c.begin.ensures)
+    c.place.ensures.refines c.place.ensures.same_places c.place.ensures.same_loads c.place.ensures.same_stores (c.decide.ensures.only.alus ∙ ap (λ (p : Ports). p.alus) c.begin.ensures)
 
 pub returns-clause-machine : goal.returns-clause-machine
 returns-clause-machine g c =

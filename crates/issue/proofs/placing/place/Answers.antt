@@ -10,7 +10,7 @@ issue-requires-clause-within c =
 
 pub issue-requires-clause-alike : goal.issue-requires-clause-alike
 issue-requires-clause-alike c =
-    as_safe _ _ _ _ _ _ _ _ _ _ c.loop-k.invariant c.loop-k-test.true _ c.loop-k.auto.k c.len-k.ensures.value _ c.index-deref-k.is c.deref.ensures.0 c.requires.stands
+    as_safe _ _ _ _ _ _ _ _ _ _ c.loop-k.invariant c.loop-k-test.true _ c.loop-k.auto.k c.len-k.ensures.value _ c.index-deref-k.is c.deref.ensures.0 c.requires.refines
 
 pub lend-entry-requires : goal.lend-entry-requires
 lend-entry-requires c =
@@ -20,7 +20,7 @@ pub settle-requires : goal.settle-requires
 settle-requires c = record {
   within =
       station_within _ _ _ _ _ _ _ _ _ _ c.loop-k.invariant c.loop-k-test.true _ c.loop-k.auto.k c.len-k.ensures.value _ c.index-deref-k.is c.deref.ensures.0
-      c.requires.stands;
+      c.requires.refines;
 }
 
 pub loop-k-preserved : goal.loop-k-preserved

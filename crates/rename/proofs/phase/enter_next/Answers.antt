@@ -3,7 +3,7 @@ use Rattle.std.proofs.Common.{refl, ap, subst, sym, ◌∙◌}
 use Rattle.std.specs.Prelude.{option_copied}
 use Rattle.std.specs.List.{All}
 use Rattle.window_model.specs.Rename.{renamed}
-use Rattle.parts_stand.proofs.Answering.{holds_older}
+use Rattle.refinement.proofs.Answering.{held_older, writes_older}
 use Rattle.rename.specs.Entering.{HasPlace}
 use Rattle.rename.proofs.Awaiting.{writers_in_flight}
 use Rattle.rename.proofs.Standing.{counted, enter_shown, enter_whole, entered_by, room_for}
@@ -14,13 +14,13 @@ next_fitting-requires-clause-counted g c = counted _ c.parts.invariant
 
 pub awaits_of-awaits-requires-clause-in_flight : goal.awaits_of-awaits-requires-clause-in_flight
 awaits_of-awaits-requires-clause-in_flight g c =
-    subst (All (HasPlace c.parts.inside.rob.entries)) (sym c.sources_of-sources.ensures.writers) (writers_in_flight _ (renamed c.parts.inside.desc c.parts.inside.next_serial c.in-Some.item.now) c.parts.invariant.stands.stand)
+    subst (All (HasPlace c.parts.inside.rob.entries)) (sym c.sources_of-sources.ensures.writers) (writers_in_flight _ (renamed c.parts.inside.desc c.parts.inside.next_serial c.in-Some.item.now) c.parts.invariant.stands)
 
 pub add_write-requires-clause-youngest : goal.add_write-requires-clause-youngest
-add_write-requires-clause-youngest g c = (holds_older _ c.parts.invariant.stands.stand).writes
+add_write-requires-clause-youngest g c = writes_older _ c.parts.invariant.stands
 
 pub add_station-requires-clause-youngest : goal.add_station-requires-clause-youngest
-add_station-requires-clause-youngest g c = (holds_older _ c.parts.invariant.stands.stand).held
+add_station-requires-clause-youngest g c = held_older _ c.parts.invariant.stands
 
 pub add_write-requires-clause-room : goal.add_write-requires-clause-room
 add_write-requires-clause-room g c = (room_for _ c.in-Some.item.now c.parts.invariant (sym c.next_fitting.ensures ∙ ap option_copied c.in-Some.is)).write

@@ -1,5 +1,5 @@
 use Rattle.std.proofs.Common.{ap}
-use Rattle.core_parts.specs.Held.{Sizes}
+use Rattle.core_parts.specs.Held.{Sizes, in_flight}
 use Rattle.entry_marks.specs.Walk.{marks_of}
 use Rattle.shown_marks.proofs.Lending.{lent_advanced, lent_step, operands_lent}
 use Rattle.shown_marks.proofs.operands.operands_shown.Goals as goal
@@ -9,10 +9,8 @@ operands_shown-requires g c =
     let w = c.parts.invariant in
     record {
       stands = record {
-        next = _;
-        writes = _;
-        parts = w.stands.stand;
-        writers = w.stands.writers;
+        rest = in_flight c.parts.inside;
+        refines = w.stands;
         step = lent_step _ _ w c.parts.view_is c.args.marks.now.window.items c.requires.step;
         store_parts = w.sized.parts;
         together = w.sized.together;

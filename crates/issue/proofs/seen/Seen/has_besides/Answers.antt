@@ -1,5 +1,5 @@
 use Rattle.std.proofs.Common.{◌∙◌, ap, sym}
-use Rattle.parts_stand.specs.Telling.{asks_besides}
+use Rattle.issue.specs.Telling.{asks_besides}
 use Rattle.issue.specs.State.{around_of, before_of}
 use Rattle.issue.proofs.seen.Seen.has_besides.Goals as goal
 

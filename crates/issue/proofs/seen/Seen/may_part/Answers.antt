@@ -1,9 +1,9 @@
 use Rattle.std.proofs.Common.{◌∙◌, sym, arith, true}
 use Rattle.window_model.specs.Order.{sources}
-use Rattle.parts_stand.specs.Telling.{own_of}
-use Rattle.parts_stand.proofs.Answering.{has_station}
+use Rattle.refinement.specs.Telling.{own_of}
+use Rattle.refinement.proofs.Ready.{station_within}
 use Rattle.issue.specs.Ports.{part_port}
-use Rattle.issue.specs.State.{around_of, before_of, parts_of}
+use Rattle.issue.specs.State.{around_of, before_of, flight_of}
 use Rattle.issue.proofs.Asking.{first_ready, in_step, part_asks, part_gone, part_may_by, second_ready}
 use Rattle.issue.proofs.Testing.{part_is}
 use Rattle.issue.proofs.seen.Seen.may_part.Goals as goal
@@ -28,7 +28,7 @@ pub ready_part-requires : goal.ready_part-requires
 ready_part-requires c =
     let s = c.args.self.now in
     let t = c.requires.turn in
-    let within = (has_station (parts_of t.stands.next t.stands.writes s) c.args.place.now.position c.args.place.now.entry.now t.stands.parts t.at t.waits).within in
+    let within = station_within (flight_of t.stands.next t.stands.writes s) c.args.place.now.position c.args.place.now.entry.now t.stands.refines t.at t.waits in
     let is = t.station in
     omega (arith, within, is)
 

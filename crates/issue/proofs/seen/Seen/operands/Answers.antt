@@ -1,6 +1,6 @@
 use Rattle.std.proofs.Common.{◌∙◌}
-use Rattle.parts_stand.proofs.Writing.{tells_writers}
-use Rattle.issue.specs.State.{before_of, parts_of}
+use Rattle.refinement.proofs.Found.{tells_writers}
+use Rattle.issue.specs.State.{before_of, flight_of}
 use Rattle.issue.proofs.Writers.{operands_are}
 use Rattle.issue.proofs.seen.Seen.operands.Goals as goal
 
@@ -8,12 +8,12 @@ pub returns-clause-first : goal.returns-clause-first
 returns-clause-first c =
     let t = c.requires.turn in
     let s = t.stands in
-    let found = tells_writers (parts_of s.next s.writes c.args.self.now) _ _ _ _ s.parts s.writers t.at c.sources_of.ensures.writers in
+    let found = tells_writers (flight_of s.next s.writes c.args.self.now) _ _ _ s.refines t.at c.sources_of.ensures in
     c.source_value.ensures ∙ (operands_are _ _ (before_of c.args.self.now c.args.place.now) _ _ _ _ _ c.reads_of.ensures found).0
 
 pub returns-clause-second : goal.returns-clause-second
 returns-clause-second c =
     let t = c.requires.turn in
     let s = t.stands in
-    let found = tells_writers (parts_of s.next s.writes c.args.self.now) _ _ _ _ s.parts s.writers t.at c.sources_of.ensures.writers in
+    let found = tells_writers (flight_of s.next s.writes c.args.self.now) _ _ _ s.refines t.at c.sources_of.ensures in
     c.source_value-2.ensures ∙ (operands_are _ _ (before_of c.args.self.now c.args.place.now) _ _ _ _ _ c.reads_of.ensures found).1

@@ -1,17 +1,11 @@
-use Rattle.std.proofs.Common.{◌<◌, sym, subst, ◌∙◌}
+use Rattle.std.proofs.Common.{◌<◌, sym, subst}
 use Rattle.std.proofs.lemmas.Option.{slice_get_within}
-use Rattle.rob_ring.proofs.AtPositions.{as_many_roots, roots_here, writers_here}
-use Rattle.parts_stand.proofs.Tables.{as_many}
+use Rattle.refinement.proofs.Answering.{counts_sources}
+use Rattle.issue.specs.State.{flight_of}
 use Rattle.issue.proofs.seen.Seen.sources_of.Goals as goal
 
 pub sources_at-requires : goal.sources_at-requires
 sources_at-requires c =
     let t = c.requires.turn in
-    subst (λ n. c.args.place.now.position < n) (sym (as_many _ _ _ _ t.stands.parts.roots) ∙ as_many_roots c.args.self.now.sources.now.items)
-    (slice_get_within _ _ _ t.at)
-
-pub returns-clause-roots : goal.returns-clause-roots
-returns-clause-roots c = roots_here c.args.self.now.sources.now.items c.args.place.now.position c.sources_at.result.now c.sources_at.ensures
-
-pub returns-clause-writers : goal.returns-clause-writers
-returns-clause-writers c = writers_here c.args.self.now.sources.now.items c.args.place.now.position c.sources_at.result.now c.sources_at.ensures
+    let s = t.stands in
+    subst (λ n. c.args.place.now.position < n) (sym (counts_sources (flight_of s.next s.writes c.args.self.now) s.refines)) (slice_get_within _ _ _ t.at)

@@ -1,6 +1,6 @@
 use Rattle.std.proofs.Common.{◌∙◌, sym, arith}
-use Rattle.parts_stand.proofs.Answering.{has_station}
-use Rattle.shown_marks.specs.State.{parts_of}
+use Rattle.issue.proofs.Waiting.{station_within}
+use Rattle.shown_marks.specs.State.{flight_of}
 use Rattle.shown_marks.proofs.Deciding.{address_alone, address_issued, address_with_data}
 use Rattle.shown_marks.proofs.seen.Seen.address_may.Goals as goal
 
@@ -15,7 +15,7 @@ pub ready_part-requires : goal.ready_part-requires
 ready_part-requires c =
     let s = c.args.self.now in
     let t = c.requires.turn in
-    let within = (has_station (parts_of t.stands.next t.stands.writes s) c.args.place.now.position c.args.place.now.entry.now t.stands.parts t.at t.waits).within in
+    let within = station_within (flight_of t.stands.rest s) c.args.place.now.position c.args.place.now.entry.now t.stands.refines t.at t.waits in
     let is = t.station in
     omega (arith, within, is)
 

@@ -2,7 +2,7 @@ use Rattle.std.proofs.Common.{◌∙◌, ◌&&◌, ap, sym}
 use Rattle.window_model.specs.Order.{base_of, sources}
 use Rattle.secret_marks.specs.Words.{any_byte}
 use Rattle.secret_marks.specs.Marks.{any_marked}
-use Rattle.shown_marks.specs.State.{before_of, marks_before_of, marks_in, parts_of}
+use Rattle.shown_marks.specs.State.{before_of, flight_of, marks_before_of, marks_in}
 use Rattle.shown_marks.proofs.Deciding.{base_marked, silent}
 use Rattle.shown_marks.proofs.seen.Seen.operand_shows.Goals as goal
 
@@ -15,7 +15,7 @@ returns-then-not-decides c =
 pub first_source-requires-clause-stands : goal.first_source-requires-clause-stands
 first_source-requires-clause-stands c =
     let t = c.requires.turn.stands in
-    record { rest = parts_of t.next t.writes c.args.self.now; stand = t.parts; writers = t.writers; step = t.step }
+    record { rest = flight_of t.rest c.args.self.now; refines = t.refines; step = t.step }
 
 pub returns : goal.returns
 returns c =

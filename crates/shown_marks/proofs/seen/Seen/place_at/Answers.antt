@@ -2,23 +2,23 @@ use Rattle.std.proofs.Common.{◌≡◌, sym, subst, ◌∙◌, true}
 use Rattle.window_model.specs.Order.{is_waiting}
 use Rattle.window_model.proofs.Booleans.{some_of}
 use Rattle.issue.proofs.Waiting.{in_window, stands_at}
-use Rattle.shown_marks.specs.State.{parts_of}
+use Rattle.shown_marks.specs.State.{flight_of}
 use Rattle.shown_marks.proofs.Standing.{able_is}
 use Rattle.shown_marks.proofs.seen.Seen.place_at.Goals as goal
 
 pub unreachable-requires : goal.unreachable-requires
 unreachable-requires c =
     let stands = c.requires.stands in
-    let parts = parts_of stands.next stands.writes c.args.self.now in
-    in_window parts stands.parts c.args.station c.serial.result c.requires.within c.serial.ensures (c.find.ensures.lacking c.in-None.is)
+    let parts = flight_of stands.rest c.args.self.now in
+    in_window parts stands.refines c.args.station c.serial.result c.requires.within c.serial.ensures (c.find.ensures.lacking c.in-None.is)
 
 pub returns-clause-turn : goal.returns-clause-turn
 returns-clause-turn c =
     let stands = c.requires.stands in
-    let parts = parts_of stands.next stands.writes c.args.self.now in
+    let parts = flight_of stands.rest c.args.self.now in
     let found = c.in-Some.found in
     let here = c.in-Some.ensures.entry in
-    let t = stands_at parts stands.parts _ _ _ c.requires.within c.serial.ensures c.in-Some.ensures.position in
+    let t = stands_at parts stands.refines _ _ _ c.requires.within c.serial.ensures c.in-Some.ensures.position in
     let e = found.entry.now in
     let waits = subst (λ e. is_waiting e.state ≡ true) (sym (some_of e t.entry (sym here ∙ t.is))) t.waits in
     record {

@@ -1,0 +1,77 @@
+-- By the serials of its sources' writers an entry's sources find their writers, where these haven't retired.
+use Rattle.std.proofs.Common.{◌≡◌, ℕ, zero, suc, ◌<◌, ◌≤◌, Bool, true, false, List, [], ◌∷◌, length, take, Option, Some, None, refl, ap, ap₂, ◌∙◌, arith, slice_get, ⊎_elim}
+use Rattle.std.specs.Prelude.{if◌then◌else◌, map, nat_le, ◌==◌}
+use Rattle.std.specs.List.{All}
+use Rattle.std.specs.Option.{option_map}
+use Rattle.std.proofs.lemmas.Bool.Decides.{nat_tests}
+use Rattle.std.proofs.lemmas.List.Elements.{All-weaker}
+use Rattle.rv_types.specs.Regs.{two}
+use Rattle.window_model.specs.declared.Entry.{Entry}
+use Rattle.window_model.specs.Order.{before_at, sources, writer}
+use Rattle.window_model.specs.Serials.{Rise}
+use Rattle.window_model.proofs.Serials.{none_below, place_of}
+use Rattle.rob_ring.specs.declared.beside.Sources.{Sources}
+use Rattle.refinement.specs.InFlight.{InFlight}
+use Rattle.refinement.specs.Refines.{Refines}
+use Rattle.refinement.specs.Roots.{unretired}
+use Rattle.refinement.specs.Waiters.{oldest_of}
+use Rattle.refinement.specs.Writers.{if_serial, in_flight, writer_of, writer_of_source}
+use Rattle.refinement.proofs.Answering.{sources_are}
+use Rattle.refinement.proofs.Serials.{oldest_least}
+use Rattle.refinement.proofs.Tables.{stands_in}
+
+taken_at : {X : Type 0} (xs : List X) (i k : ℕ) (x : X) → slice_get (take i xs) k ≡ Some x → slice_get xs k ≡ Some x
+taken_at xs zero k x h = absurd (cc)
+taken_at [] (suc i) k x h = absurd (cc)
+taken_at (y ∷ xs) (suc i) zero x h = h
+taken_at (y ∷ xs) (suc i) (suc k) x h = taken_at xs i k x h
+
+-- no entry has a serial that is below the oldest's
+old_serial : (next s : ℕ) (es : List Entry) → Rise es → s < oldest_of next es → in_flight es (Some s) ≡ None
+old_serial next s [] r lt = refl
+old_serial next s (x ∷ es) r lt =
+    let n = none_below s (x ∷ es) (All-weaker (λ d. x.serial ≤ d.serial) (λ d. s ≤ d.serial) (λ d le. omega (arith, lt, le)) (x ∷ es) (oldest_least next (x ∷ es) r)) in
+    let f : (x.serial == s) ≡ false = grind (arith, nat_tests) in
+    ap (λ ds. if_serial s (slice_get (x ∷ es) (length ds))) n ∙ ap (λ b. if b then Some x else None) f
+
+module _ (next : ℕ) (es : List Entry) (rise : Rise es) (i : ℕ) where
+  here : (r : ℕ) (w : Entry) → writer (before_at es i) r ≡ Some w → in_flight es (Some w.serial) ≡ Some w
+  here r w h =
+      ⊎_elim
+      (λ (k : (n : ℕ) × (slice_get (take i es) n ≡ Some w)).
+      let at = taken_at es i k.0 w k.1 in
+      let t : (w.serial == w.serial) ≡ true = grind (arith, nat_tests) in
+      ap (λ o. if_serial w.serial o) (ap (slice_get es) (place_of es k.0 w rise at) ∙ at) ∙ ap (λ b. if b then Some w else None) t)
+      (λ (k : writer [] r ≡ Some w). absurd (cc))
+      (stands_in r w [] (take i es) h)
+
+  none_named : (o : Option Entry) → None ≡ option_map (λ (e : Entry). e.serial) o → None ≡ o
+  none_named None h = refl
+  none_named (Some e) h = absurd (cc)
+
+  one : (ws o : Option ℕ) → unretired (oldest_of next es) ws ≡ writer_of_source (before_at es i) o → in_flight es ws ≡ writer_of (before_at es i) o
+  one None None h = refl
+  one None (Some r) h = none_named (writer (before_at es i) r) h
+  one (Some s) o h = by_age (nat_le (oldest_of next es) s) refl o h
+    where
+      by_writer : (r : ℕ) (w : Option Entry) → writer (before_at es i) r ≡ w → Some s ≡ option_map (λ (e : Entry). e.serial) w → in_flight es (Some s) ≡ w
+      by_writer r None k h = absurd (cc)
+      by_writer r (Some w) k h = let n : s ≡ w.serial = cc in ap (λ n. in_flight es (Some n)) n ∙ here r w k
+
+      by_age : (b : Bool) → nat_le (oldest_of next es) s ≡ b → (o : Option ℕ) → (if b then Some s else None) ≡ writer_of_source (before_at es i) o → in_flight es (Some s) ≡ writer_of (before_at es i) o
+      by_age true q None h = absurd (cc)
+      by_age true q (Some r) h = by_writer r (writer (before_at es i) r) refl h
+      by_age false q None h = let lt : s < oldest_of next es = grind (arith, nat_tests) in old_serial next s es rise lt
+      by_age false q (Some r) h = let lt : s < oldest_of next es = grind (arith, nat_tests) in old_serial next s es rise lt ∙ none_named (writer (before_at es i) r) h
+
+  -- pairs of serials of writers, some of which may have retired, find the writers
+  pub pairs : (ws os : List (Option ℕ)) → map (unretired (oldest_of next es)) ws ≡ map (writer_of_source (before_at es i)) os → map (in_flight es) ws ≡ map (writer_of (before_at es i)) os
+  pairs [] [] h = refl
+  pairs [] (o ∷ os) h = absurd (cc)
+  pairs (w ∷ ws) [] h = absurd (cc)
+  pairs (w ∷ ws) (o ∷ os) h = ap₂ (λ x xs. x ∷ xs) (one w o (cc)) (pairs ws os (cc))
+
+-- by the serials that stand at an entry's position its sources' writers are found
+pub tells_writers : (p : InFlight) (i : ℕ) (e : Entry) (x : Sources) → Refines p → slice_get p.window i ≡ Some e → slice_get p.sources i ≡ Some x →
+    map (in_flight p.window) x.writers ≡ map (writer_of (before_at p.window i)) (two (sources e))
+tells_writers p i e x s h k = pairs p.next p.window s.rise i x.writers (two (sources e)) (ap (λ (x : Sources). x.writers) (sources_are p i e x s h k))

@@ -1,0 +1,144 @@
+-- What the stations tell of the entries that wait, once the point has moved over the window: who is ready, and which part of it.
+use Rattle.std.proofs.Common.{◌≡◌, ℕ, zero, suc, ◌<◌, Bool, true, false, not, ◌&&◌, ◌||◌, cond, List, [], ◌∷◌, length, map, ◌≤◌, Option, Some, None, refl, ap, ap₂, sym, ◌∙◌, arith, subst, slice_get, is_none}
+use Rattle.std.specs.Prelude.{if◌then◌else◌}
+use Rattle.std.specs.List.{list_all, list_any}
+use Rattle.std.specs.Option.{option_map}
+use Rattle.rv_types.specs.Regs.{two}
+use Rattle.machine_desc.specs.declared.Desc.{Desc}
+use Rattle.window_model.specs.declared.Entry.{Entry}
+use Rattle.window_model.specs.Along.{Along, Behind, Fact}
+use Rattle.window_model.specs.Order.{base_of, before_at, is_done, is_load, is_waiting, others_of, sources, writer, writes}
+use Rattle.window_model.specs.Ready.{all_known, gives, holds, is_known, ready}
+use Rattle.window_model.specs.Taint.{visible}
+use Rattle.window_model.proofs.Booleans.{or_false}
+use Rattle.window_model.proofs.Serials.{behind_at}
+use Rattle.stations.specs.Stations.{Station, able_as, awaits_none, is_able, nothing_at, ready_part, source_of}
+use Rattle.stations.specs.declared.wants.Part.{Part}
+use Rattle.stations.specs.declared.wants.Part.TheVariants as part
+use Rattle.stations.specs.declared.wants.Wants.{Wants}
+use Rattle.stations.specs.declared.wants.Wants.TheVariants as wants
+use Rattle.visibility.specs.Point.{HasAdvanced, Point}
+use Rattle.refinement.specs.Waiters.{Hold, Waiter, awaited, awaited_of, awaits_of, gives_at, waiter_in, wants_of}
+use Rattle.refinement.specs.Stations.{station_of}
+use Rattle.refinement.specs.Telling.{has_sources, hold_of, own_of}
+use Rattle.refinement.proofs.Youngest.{Tells, few_reads}
+use Rattle.refinement.specs.InFlight.{InFlight, hold_in}
+use Rattle.refinement.specs.Refines.{Refines}
+use Rattle.refinement.proofs.Answering.{has_station}
+
+-- the point has moved over the window, and results are held back by it as the description says
+pub record MovedBy (d : Desc) (p : InFlight) : Type 0 where
+  pub advanced : HasAdvanced p.point p.window
+  pub model : p.point.model ≡ d.stt_model
+  pub holds : p.holds ≡ holds d.stt_defence
+
+-- an older entry gives its value by what results are held back by where it does by the machine's definition
+abbrev GivesAlike : Desc → Hold → Fact
+GivesAlike d hold before e = gives_at hold e ≡ gives d before e
+
+alike_behind : (d : Desc) (point : Point) (before : List Entry) → point.model ≡ d.stt_model → Behind (Tells point) before → Behind (GivesAlike d (hold_of d point)) before
+alike_behind d point [] q t = tt
+alike_behind d point (e ∷ before) q t =
+    (ap (λ v. not (holds d.stt_defence && is_load e.item.kind && not v) && is_done e.state) (t.0 ∙ ap (λ m. visible m before) q), alike_behind d point before q t.1)
+
+along_window : (point : Point) (es : List Entry) → HasAdvanced point es → Along (Tells point) [] es
+along_window point [] m = tt
+along_window point (e ∷ es) m = m.each
+
+alike_at : (d : Desc) (p : InFlight) (i : ℕ) → MovedBy d p → Behind (GivesAlike d (hold_in p)) (before_at p.window i)
+alike_at d p i b =
+    subst (λ h. Behind (GivesAlike d (record { holds = h; point = p.point.serial })) (before_at p.window i)) (sym b.holds)
+    (alike_behind d p.point (before_at p.window i) b.model (behind_at (Tells p.point) [] p.window i tt (along_window p.point p.window b.advanced)))
+
+module _ (d : Desc) (hold : Hold) where
+  none_awaited : (before : List Entry) (r : ℕ) → Behind (GivesAlike d hold) before → is_none (awaited_of hold (writer before r)) ≡ is_known d before r
+  none_awaited [] r k = refl
+  none_awaited (e ∷ before) r k = by_writer (writes r e) (none_awaited before r k.1)
+    where
+      by_given : (b : Bool) → is_none (if b then None else Some e.serial) ≡ b
+      by_given true = refl
+      by_given false = refl
+
+      by_writer : (w : Bool) → is_none (awaited_of hold (writer before r)) ≡ is_known d before r → is_none (awaited_of hold (if w then Some e else writer before r)) ≡ (if w then gives d before e else is_known d before r)
+      by_writer true h = by_given (gives_at hold e) ∙ k.0
+      by_writer false h = h
+
+  ready_by : (before : List Entry) (rs : List ℕ) → Behind (GivesAlike d hold) before → length rs ≤ 2 → list_all is_none (map (awaited hold before) (two rs)) ≡ list_all (is_known d before) rs
+  ready_by before [] k le = refl
+  ready_by before (a ∷ []) k le = ap (λ b. b && true) (none_awaited before a k)
+  ready_by before (a ∷ b ∷ []) k le = ap₂ (λ p q. p && (q && true)) (none_awaited before a k) (none_awaited before b k)
+  ready_by before (a ∷ b ∷ c ∷ rs) k le = absurd (omega (arith, le))
+
+  -- a source that is known is known, and so are all of one
+  one_known : (before : List Entry) (r : ℕ) → Behind (GivesAlike d hold) before → is_none (awaited_of hold (writer before r)) ≡ all_known d before (r ∷ [])
+  one_known before r k = none_awaited before r k ∙ sym (and_true (is_known d before r))
+    where
+      and_true : (b : Bool) → (b && true) ≡ b
+      and_true true = refl
+      and_true false = refl
+
+  -- each source by itself
+  part_by : (part : Part) (before : List Entry) (rs : List ℕ) → Behind (GivesAlike d hold) before → length rs ≤ 2 →
+      nothing_at (source_of part) (map (awaited hold before) (two rs)) ≡ all_known d before (own_of part rs)
+  part_by part.Base before [] k le = refl
+  part_by part.Other before [] k le = refl
+  part_by part.Base before (a ∷ []) k le = one_known before a k
+  part_by part.Other before (a ∷ []) k le = refl
+  part_by part.Base before (a ∷ b ∷ []) k le = one_known before a k
+  part_by part.Other before (a ∷ b ∷ []) k le = one_known before b k
+  part_by part before (a ∷ b ∷ c ∷ rs) k le = absurd (omega (arith, le))
+
+  or_none : (a b : Bool) → (a || (b || false)) ≡ (a || b)
+  or_none true b = refl
+  or_none false b = or_false b
+
+  either_by : (before : List Entry) (rs : List ℕ) → Behind (GivesAlike d hold) before → length rs ≤ 2 →
+      list_any is_none (map (awaited hold before) (two rs)) ≡ (all_known d before (base_of rs) || all_known d before (others_of rs))
+  either_by before [] k le = refl
+  either_by before (a ∷ []) k le = or_none (is_none (awaited hold before (Some a))) true ∙ ap (λ b. b || true) (one_known before a k)
+  either_by before (a ∷ b ∷ []) k le =
+      or_none (is_none (awaited hold before (Some a))) (is_none (awaited hold before (Some b))) ∙ ap₂ (λ p q. p || q) (one_known before a k) (one_known before b k)
+  either_by before (a ∷ b ∷ c ∷ rs) k le = absurd (omega (arith, le))
+
+  able_by : (w : Wants) (before : List Entry) (e : Entry) → Behind (GivesAlike d hold) before → able_as w (map (awaited hold before) (two (sources e))) ≡ has_sources w d before e
+  able_by wants.Whole before e k = ready_by before (sources e) k (few_reads e.item.instr)
+  able_by wants.Either before e k = either_by before (sources e) k (few_reads e.item.instr)
+  able_by wants.Base before e k = part_by part.Base before (sources e) k (few_reads e.item.instr)
+  able_by wants.Other before e k = part_by part.Other before (sources e) k (few_reads e.item.instr)
+
+some_within : {X Y : Type 0} (f : X → Y) (xs : List X) (i : ℕ) (y : Y) → option_map f (slice_get xs i) ≡ Some y → i < length xs
+some_within f [] i y h = absurd (cc)
+some_within f (x ∷ xs) zero y h = omega arith
+some_within f (x ∷ xs) (suc i) y h = let k = some_within f xs i y h in omega (arith, k)
+
+-- the station of an entry that waits is one of those that are held
+pub station_within : (p : InFlight) (i : ℕ) (e : Entry) → Refines p → slice_get p.window i ≡ Some e → is_waiting e.state ≡ true → station_of i p.window < length p.held
+station_within p i e s h w = some_within waiter_in p.held (station_of i p.window) _ (has_station p i e s h w)
+
+-- what is asked of what a station wants and awaits is asked of its waiter
+asked_as : (t : Wants → List (Option ℕ) → Bool) (o : Option Station) → option_map (λ s. t s.wants s.awaits) o ≡ option_map (λ (w : Waiter). t w.wants w.awaits) (option_map waiter_in o)
+asked_as t None = refl
+asked_as t (Some s) = refl
+
+-- what is asked of what an entry's station wants and awaits is asked of what the entry is to want and await
+asked_of : (t : Wants → List (Option ℕ) → Bool) (p : InFlight) (i : ℕ) (e : Entry) → Refines p → slice_get p.window i ≡ Some e → is_waiting e.state ≡ true →
+    option_map (λ s. t s.wants s.awaits) (slice_get p.held (station_of i p.window)) ≡ Some (t (wants_of p.version e) (awaits_of (hold_in p) (before_at p.window i) e))
+asked_of t p i e s h w = asked_as t (slice_get p.held (station_of i p.window)) ∙ ap (option_map (λ (w : Waiter). t w.wants w.awaits)) (has_station p i e s h w)
+
+-- the station of an entry that waits awaits nothing exactly where the entry is ready
+pub tells_ready : (d : Desc) (p : InFlight) (i : ℕ) (e : Entry) → Refines p → MovedBy d p → slice_get p.window i ≡ Some e → is_waiting e.state ≡ true →
+    option_map awaits_none (slice_get p.held (station_of i p.window)) ≡ Some (ready d (before_at p.window i) e)
+tells_ready d p i e s b h w =
+    asked_of (λ wants awaits. list_all is_none awaits) p i e s h w ∙ ap Some (ready_by d (hold_in p) (before_at p.window i) (sources e) (alike_at d p i b) (few_reads e.item.instr))
+
+-- it is able exactly where what its entry wants is there
+pub tells_able : (d : Desc) (p : InFlight) (i : ℕ) (e : Entry) → Refines p → MovedBy d p → slice_get p.window i ≡ Some e → is_waiting e.state ≡ true →
+    option_map is_able (slice_get p.held (station_of i p.window)) ≡ Some (has_sources (wants_of p.version e) d (before_at p.window i) e)
+tells_able d p i e s b h w = asked_of able_as p i e s h w ∙ ap Some (able_by d (hold_in p) (wants_of p.version e) (before_at p.window i) e (alike_at d p i b))
+
+-- a part of it is ready exactly where the part's own source is
+pub tells_part : (part : Part) (d : Desc) (p : InFlight) (i : ℕ) (e : Entry) → Refines p → MovedBy d p → slice_get p.window i ≡ Some e → is_waiting e.state ≡ true →
+    option_map (ready_part part) (slice_get p.held (station_of i p.window)) ≡ Some (all_known d (before_at p.window i) (own_of part (sources e)))
+tells_part part d p i e s b h w =
+    asked_of (λ wants awaits. nothing_at (source_of part) awaits) p i e s h w
+    ∙ ap Some (part_by d (hold_in p) part (before_at p.window i) (sources e) (alike_at d p i b) (few_reads e.item.instr))

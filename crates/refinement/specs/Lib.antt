@@ -1,0 +1,11 @@
+pub mod InFlight
+pub mod Footprint
+pub mod Refines
+pub mod Steps
+pub mod Roots
+pub mod Waiters
+pub mod Stations
+pub mod Telling
+pub mod Points
+pub mod Addresses
+pub mod Writers
