@@ -12,11 +12,13 @@ use rv_types::{Cause, Instr, Kind};
 mod blank;
 mod clocked;
 mod entries;
+mod index;
 mod line;
 mod position;
 mod row;
 
 pub use clocked::Clocked;
+pub use index::index;
 pub use line::{line_of, lines_of};
 pub use position::position_of;
 pub use row::{ROW_MAX, Row, empty_row};
