@@ -77,8 +77,8 @@ impl<R: RenameTaint> Core<R> {
     }
 
     /// The rename table: it names the writer and the youngest root that each register has for an entry behind the
-    /// window. For a register without a root in flight the root may be one that has retired. Kept for who looks at a core
-    /// from outside.
+    /// window. For a register without a root in flight the root may be one that has retired. Kept for who looks at a
+    /// core from outside.
     pub fn rename(&self) -> &R
         ensures writers { NamesWriters (R.writes result.now) self.now.machine.window }
         ensures roots { NamesRoots self.now.machine.next_serial (R.writes result.now) self.now.machine.window }
@@ -87,8 +87,8 @@ impl<R: RenameTaint> Core<R> {
     }
 
     /// The stations: they hold the entries that wait, and what these want and await, where results are held back by a
-    /// visibility point that has moved over the window; and they tell which are ready, and of a store which part is. Kept
-    /// for who looks at a core from outside.
+    /// visibility point that has moved over the window; and they tell which are ready, and of a store which part is.
+    /// Kept for who looks at a core from outside.
     pub fn stations(&self) -> &Stations
         ensures waiting { HoldsByPoint self.now.desc result.now self.now.machine.window }
         ensures ready { TellsReady self.now.desc result.now self.now.machine.window }

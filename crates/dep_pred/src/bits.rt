@@ -41,6 +41,7 @@ impl DepPred {
     pub fn described(&self)
         ensures { IsAsked (length self.now) }
     {
+        // The look inside is for the proof: by it the type's invariant is at hand, and that has the clause.
         let _ = &self.bits;
     }
 

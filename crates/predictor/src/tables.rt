@@ -60,6 +60,7 @@ impl Predictor {
     pub fn described(&self)
         ensures { IsAsked (length self.now.counters) (length self.now.targets) }
     {
+        // The look inside is for the proof: by it the type's invariant is at hand, and that has the clause.
         let _ = &self.targets;
     }
 

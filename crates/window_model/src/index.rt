@@ -1,4 +1,4 @@
-//! Where an address stands in a table (`docs/machine.md`, "State").
+//! Where an address stands in a table (`docs/machine.md`, "Resolve").
 ghost use Rattle.std.specs.Prelude.{◌≡◌, ◌<◌, ◌^◌};
 ghost use Rattle.window_model.specs.Resolve.{index};
 
