@@ -53,7 +53,7 @@ fn teach(entry: &Entry, history: &History, predictor: &mut Predictor, row: &mut 
     ensures few { IsLonger 2 row.old row.new }
 {
     if entry.item.kind == Kind::Branch {
-        let taken = entry.value() == 1;
+        let taken = entry.is_taken();
         row.push(Event::Res(entry.serial, way_of(taken)));
         let place = history.index(&entry.item.mark, entry.item.pc);
         row.push(predictor.learn_branch(place, taken));

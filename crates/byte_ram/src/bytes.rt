@@ -1,22 +1,29 @@
 //! Numbers in a slice of bytes, the lowest byte first.
-ghost use Rattle.std.specs.Prelude.{◌≡◌, ◌≤◌, ◌<◌, ◌+◌, ◌++◌, ◌∷◌, ◌%◌, ◌^◌, length, take, drop, slice_range};
+ghost use Rattle.std.specs.Prelude.{◌≡◌, ◌≤◌, ◌<◌, ◌+◌, ◌++◌, ◌∷◌, ◌%◌, ◌^◌, length, take, drop, slice_index, slice_range};
 ghost use Rattle.rv_types.specs.Word.{from_le, to_le};
 ghost use Rattle.byte_ram.specs.Access.{pasted};
 
 use byteorder::{ByteOrder, LittleEndian};
 
+/// The byte at a place, 0 past the end.
+pub fn byte_or_zero(bytes: &[u8], place: usize) -> u8
+    ensures { result ≡ slice_index bytes.now place }
+{
+    if place < bytes.len() { bytes[place] } else { 0 }
+}
+
 /// The number of the two bytes from a place on.
 #[tactic(auto, using(crate::proofs::Numbers::number_at))]
-pub(crate) fn half_at(bytes: &[u8], at: usize) -> u32
+pub fn half_at(bytes: &[u8], at: usize) -> u16
     requires { at + 2 ≤ length bytes.now }
     ensures { result ≡ from_le (slice_range bytes.now at (at + 2)) }
 {
-    u32::from(LittleEndian::read_u16(&bytes[at..]))
+    LittleEndian::read_u16(&bytes[at..])
 }
 
 /// The number of the four bytes from a place on.
 #[tactic(auto, using(crate::proofs::Numbers::number_at))]
-pub(crate) fn word_at(bytes: &[u8], at: usize) -> u32
+pub fn word_at(bytes: &[u8], at: usize) -> u32
     requires { at + 4 ≤ length bytes.now }
     ensures { result ≡ from_le (slice_range bytes.now at (at + 4)) }
 {

@@ -7,4 +7,5 @@
 mod bytes;
 mod ram;
 
+pub use bytes::{byte_or_zero, half_at, word_at};
 pub use ram::Ram;

@@ -81,7 +81,7 @@ impl Ram {
         self.bytes.as_slice()
     }
 
-    /// The byte at an address, None exactly outside.
+    /// The byte at an address, None exactly outside. Kept for who looks at a memory from outside, byte by byte.
     pub fn byte(&self, addr: u32) -> Option<u8>
         ensures { result ≡ byte_of self.now addr }
     {
@@ -161,7 +161,7 @@ impl Ram {
     {
         match self.load_fault(addr, 2) {
             Some(cause) => Err(cause),
-            None => Ok(half_at(self.bytes.as_slice(), (addr - self.base) as usize)),
+            None => Ok(half_at(self.bytes.as_slice(), (addr - self.base) as usize) as u32),
         }
     }
 

@@ -77,7 +77,8 @@ impl<R: RenameTaint> Core<R> {
     }
 
     /// The rename table: it names the writer and the youngest root that each register has for an entry behind the
-    /// window. For a register without a root in flight the root may be one that has retired.
+    /// window. For a register without a root in flight the root may be one that has retired. Kept for who looks at a
+    /// core from outside.
     pub fn rename(&self) -> &R
         ensures writers { NamesWriters (R.writes result.now) self.now.machine.window }
         ensures roots { NamesRoots self.now.machine.next_serial (R.writes result.now) self.now.machine.window }
@@ -87,6 +88,7 @@ impl<R: RenameTaint> Core<R> {
 
     /// The stations: they hold the entries that wait, and what these want and await, where results are held back by a
     /// visibility point that has moved over the window; and they tell which are ready, and of a store which part is.
+    /// Kept for who looks at a core from outside.
     pub fn stations(&self) -> &Stations
         ensures waiting { HoldsByPoint self.now.desc result.now self.now.machine.window }
         ensures ready { TellsReady self.now.desc result.now self.now.machine.window }
@@ -117,7 +119,7 @@ impl<R: RenameTaint> Core<R> {
     /// The youngest roots of taint (YRoT in the papers on speculative taint tracking) of the entry at a position,
     /// counted from the oldest: for its first and second source the serial of the youngest load from which the source's
     /// value flows. The value is tainted until that load is visible. For a source without a root in flight it may be
-    /// one that has retired.
+    /// one that has retired. Kept for who looks at a core from outside.
     pub fn yrot(&self, i: u32) -> [Option<u64>; 2]
         requires { i < length self.now.machine.window }
         ensures { HasRoots self.now.machine.next_serial self.now.machine.window i result }

@@ -1,7 +1,6 @@
 //! The bits of dependence, one for all loads that share it.
-ghost use Rattle.std.specs.Prelude.{◌≡◌, ◌<◌, ◌^◌, false, length, replicate, IfOk};
+ghost use Rattle.std.specs.Prelude.{◌≡◌, ◌<◌, false, length, replicate, IfOk};
 ghost use Rattle.window_model.specs.Dependence.{bit_index, bit_set, waits_for_stores};
-ghost use Rattle.window_model.specs.Resolve.{index};
 ghost use Rattle.window_model.specs.declared.Event.TheVariants as event;
 ghost use Rattle.dep_pred.specs.Bits.{InEach, IsAsked, is_set, place, with_set};
 
@@ -9,7 +8,7 @@ use machine_desc::Desc;
 use rv_types::NoMemory;
 use std::alloc::Global;
 use std::marker::Model;
-use window_model::Event;
+use window_model::{Event, index};
 
 /// The bits of dependence, seen as whether each is set. There are as many as some description asks for.
 #[derive(Drop)]
@@ -42,6 +41,7 @@ impl DepPred {
     pub fn described(&self)
         ensures { IsAsked (length self.now) }
     {
+        // The look inside is for the proof: by it the type's invariant is at hand, and that has the clause.
         let _ = &self.bits;
     }
 
@@ -68,14 +68,4 @@ impl DepPred {
         self.bits[place] = true;
         Event::Dp(place as u32, 1)
     }
-}
-
-// Where the bit of a load at an address stands among so many.
-fn index(pc: u32, size: usize) -> usize
-    requires { 0 < size }
-    ensures value { result ≡ index pc size }
-    ensures inside { result < size }
-    ensures small { result < 2 ^ 32 }
-{
-    (pc / 4) as usize % size
 }

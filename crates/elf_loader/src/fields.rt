@@ -1,8 +1,8 @@
 //! The fields of the header and of the program headers (ELF specification, "ELF Header" and "Program Header").
 ghost use Rattle.std.specs.Prelude.{◌≡◌, ◌≤◌, ◌<◌, ◌+◌, ◌*◌, length};
-ghost use Rattle.elf_loader.specs.Fields.{half, word, has_magic, header_of, program_header};
+ghost use Rattle.elf_loader.specs.Fields.{has_magic, header_of, program_header};
 
-use byteorder::{ByteOrder, LittleEndian};
+use byte_ram::{half_at, word_at};
 
 /// The first bytes of every ELF file.
 pub const MAGIC: [u8; 4] = [0x7f, 0x45, 0x4c, 0x46];
@@ -62,24 +62,6 @@ pub struct ProgramHeader {
     pub flags: u32,
 }
 
-/// The number of the two bytes from a place on.
-#[tactic(auto, using(byte_ram::proofs::Numbers::number_at), unfolding(crate::specs::Fields::half))]
-pub fn half_at(file: &[u8], at: usize) -> u16
-    requires { at + 2 ≤ length file.now }
-    ensures { result ≡ half file.now at }
-{
-    LittleEndian::read_u16(&file[at..])
-}
-
-/// The number of the four bytes from a place on.
-#[tactic(auto, using(byte_ram::proofs::Numbers::number_at), unfolding(crate::specs::Fields::word))]
-pub fn word_at(file: &[u8], at: usize) -> u32
-    requires { at + 4 ≤ length file.now }
-    ensures { result ≡ word file.now at }
-{
-    LittleEndian::read_u32(&file[at..])
-}
-
 /// Whether the file begins as every ELF file does.
 #[tactic(auto, unfolding(crate::specs::Fields::has_magic))]
 pub fn has_magic(file: &[u8]) -> bool
@@ -89,6 +71,7 @@ pub fn has_magic(file: &[u8]) -> bool
 }
 
 /// The fields of a file's header, its first 52 bytes.
+#[tactic(auto, unfolding(crate::specs::Fields::half, crate::specs::Fields::word))]
 pub fn header_of(file: &[u8]) -> Header
     requires { 52 ≤ length file.now }
     ensures { result ≡ header_of file.now }
@@ -108,6 +91,7 @@ pub fn header_of(file: &[u8]) -> Header
 }
 
 /// Program header i, which lies in the file.
+#[tactic(auto, unfolding(crate::specs::Fields::word))]
 pub fn program_header(file: &[u8], i: u16) -> ProgramHeader
     requires header { 52 ≤ length file.now }
     requires inside { (header_of file.now).table + 32 * i + 32 ≤ length file.now }

@@ -14,8 +14,8 @@ use byte_ram::Ram;
 use rv_types::NoMemory;
 use std::alloc::Global;
 
-/// The span is made of rows of so many bytes, as memory is.
-const ROW: usize = 16;
+/// The span begins and ends at multiples of so many bytes, as memory does.
+const ALIGNMENT: usize = 16;
 
 /// A span of memory's bytes: the place of the first one, and of the first behind it, both multiples of 16.
 #[derive(Clone, Copy)]
@@ -35,8 +35,8 @@ fn widened(span: Span, start: usize, end: usize) -> Span
     ensures whole_behind { span.to % 16 ≡ 0 → result.to % 16 ≡ 0 }
     ensures within { (n : ℕ) → n % 16 ≡ 0 → span.to ≤ n → end ≤ n → result.to ≤ n }
 {
-    let first = start / ROW * ROW;
-    let behind = (end + ROW - 1) / ROW * ROW;
+    let first = start / ALIGNMENT * ALIGNMENT;
+    let behind = (end + ALIGNMENT - 1) / ALIGNMENT * ALIGNMENT;
     Span {
         from: if first < span.from { first } else { span.from },
         to: if span.to < behind { behind } else { span.to },
@@ -81,11 +81,11 @@ fn at_least_a_row(span: Span, size: usize) -> Span
     if span.from < size {
         return Span {
             from: span.from,
-            to: span.from + ROW,
+            to: span.from + ALIGNMENT,
         };
     }
     Span {
-        from: size - ROW,
+        from: size - ALIGNMENT,
         to: size,
     }
 }

@@ -1,5 +1,5 @@
 -- What history and return stack have of all that was fetched (docs/theorems.md, "History and return stack").
-use Rattle.std.specs.Prelude.{◌≡◌, ℕ, zero, suc, ◌+◌, ◌-◌, Bool, ◌&&◌, ◌==◌, List, [], ◌∷◌, ◌++◌, length, map, take, drop, Some, if◌then◌else◌}
+use Rattle.std.specs.Prelude.{◌≡◌, ℕ, zero, suc, ◌+◌, ◌-◌, Bool, ◌&&◌, List, [], ◌∷◌, ◌++◌, length, map, take, drop, Some, if◌then◌else◌}
 use Rattle.rv_types.specs.Word.{word_add}
 use Rattle.rv_types.specs.Memory.{Code, Ram}
 use Rattle.rv_types.specs.declared.Kind.{Kind}
@@ -8,12 +8,11 @@ use Rattle.machine_desc.specs.declared.Desc.{Desc}
 use Rattle.window_model.specs.declared.Entry.{Entry}
 use Rattle.window_model.specs.declared.Item.{Item}
 use Rattle.window_model.specs.declared.Mark.{Mark}
-use Rattle.window_model.specs.Order.{value_of}
 use Rattle.window_model.specs.History.{mark_after, no_mark}
 use Rattle.window_model.specs.Fetch.{guess, target_of}
 use Rattle.window_model.specs.Issue.{issue}
 use Rattle.window_model.specs.Rename.{rename}
-use Rattle.window_model.specs.Resolve.{squashes}
+use Rattle.window_model.specs.Resolve.{is_taken, squashes}
 use Rattle.window_model.specs.Retire.{retire, unless_ended}
 use Rattle.window_model.specs.Cycle.{at, before_retire, begins_cycle, cycle}
 use Rattle.window_model.specs.State.{Machine, opening}
@@ -34,7 +33,7 @@ has_squashed e = e.resolved && squashes e
 
 -- an entry whose resolution squashed counts with its true direction, any other with the predicted one
 abbrev pub direction : Entry → Bool → Bool
-direction e predicted = if has_squashed e then value_of e.outcome == 1 else predicted
+direction e predicted = if has_squashed e then is_taken e.outcome else predicted
 
 -- ---- over what history and stack go on
 

@@ -64,6 +64,7 @@ impl History {
     pub fn described(&self)
         ensures { IsAsked self.now.counters self.now.directions self.now.returns }
     {
+        // The look inside is for the proof: by it the type's invariant is at hand, and that has the clause.
         let _ = &self.counters;
     }
 

@@ -6,19 +6,14 @@ ghost use Rattle.rv_types.specs.Regs.{unless_zero};
 use byte_ram::Ram;
 use elf_loader::{Code, Image};
 use rv_effect::{relative, write_reg};
-use rv_types::{Reg, unless_zero};
+use rv_types::{REGISTERS, Reg, SP, STACK_GAP, unless_zero};
 use std::marker::Model;
-
-// The stack pointer, and how many bytes below memory's end it begins.
-const SP: usize = 2;
-
-const STACK_GAP: u64 = 16;
 
 /// The machine of the instruction set, seen as its code and its state. It takes no memory of its own.
 #[derive(Drop)]
 pub struct Isa {
     pub(crate) pc: u32,
-    pub(crate) regs: [u32; 32],
+    pub(crate) regs: [u32; REGISTERS],
     pub(crate) ram: Ram,
     pub(crate) code: Code,
 }
@@ -38,7 +33,7 @@ impl Isa {
         ensures { result ≡ record { code = image.code; hart = start image.entry image.ram } }
     {
         let Image { ram, code, entry } = image;
-        let mut regs = [0u32; 32];
+        let mut regs = [0u32; REGISTERS];
         regs[SP] = (ram.base() as u64 + ram.size() as u64 - STACK_GAP) as u32;
         Isa {
             pc: entry,
@@ -56,7 +51,7 @@ impl Isa {
     }
 
     /// The registers of the instruction set's state.
-    pub fn regs(&self) -> &[u32; 32]
+    pub fn regs(&self) -> &[u32; REGISTERS]
         ensures { result.now ≡ self.now.hart.regs }
     {
         &self.regs

@@ -8,6 +8,7 @@ ghost use Rattle.machine_desc.specs.Table.{some_key, some_section, some_top, sta
 ghost use Rattle.machine_desc.specs.Version.{most, knows_off};
 
 use crate::Name;
+use crate::bounds::{ENTRIES_MAX, LOADS_MAX, QUEUE_MAX, STATIONS_MAX, STORES_MAX};
 use std::fmt;
 
 /// A table of a description.
@@ -270,11 +271,11 @@ impl Key {
         match self {
             Key::CoreFetchWidth => numbers(1, 4, Shape::Any),
             Key::CoreRetireWidth => numbers(1, 4, Shape::Any),
-            Key::CoreRob => numbers(4, most(64, 192, version), Shape::Any),
-            Key::CoreStations => numbers(2, most(32, 96, version), Shape::Any),
-            Key::CoreLoads => numbers(1, most(16, 64, version), Shape::Any),
-            Key::CoreStores => numbers(1, most(16, 48, version), Shape::Any),
-            Key::CoreQueue => numbers(1, most(16, 32, version), Shape::Any),
+            Key::CoreRob => numbers(4, most(64, ENTRIES_MAX, version), Shape::Any),
+            Key::CoreStations => numbers(2, most(32, STATIONS_MAX, version), Shape::Any),
+            Key::CoreLoads => numbers(1, most(16, LOADS_MAX, version), Shape::Any),
+            Key::CoreStores => numbers(1, most(16, STORES_MAX, version), Shape::Any),
+            Key::CoreQueue => numbers(1, most(16, QUEUE_MAX, version), Shape::Any),
             Key::UnitsAlus => numbers(1, 4, Shape::Any),
             Key::UnitsMulLatency => numbers(1, 8, Shape::Any),
             Key::PredictorCounters => numbers(2, 4096, Shape::PowerOfTwo),

@@ -10,6 +10,7 @@ ghost use Rattle.machine_desc.specs.Power.{IsZeroOrPower};
 ghost use Rattle.machine_desc.specs.inner.Power.{power_prop, zero_or_power_prop};
 ghost use Rattle.machine_desc.specs.Version.{most, knows_model, knows_defence, comes_between};
 
+mod bounds;
 mod document;
 mod example;
 mod fault;
@@ -20,6 +21,7 @@ mod progress;
 mod questions;
 mod read;
 
+pub use bounds::{ENTRIES_MAX, LOADS_MAX, QUEUE_MAX, STATIONS_MAX, STORES_MAX};
 pub use example::EXAMPLE;
 pub use fault::{DescFault, Subject};
 pub use keys::{Key, Section};

@@ -5,7 +5,7 @@ ghost use Rattle.machine_desc.specs.Ranges.{bound};
 use crate::Desc;
 
 /// The most cycles from one retirement to the next: within so many one more instruction retires, or the run ends
-/// (`docs/machine.md`, "Progress").
+/// (`docs/machine.md`, "Progress"). Kept for who runs a core from outside and asks how long it may go without.
 pub fn bound(desc: &Desc) -> u64
     ensures { result ≡ bound desc.now }
 {

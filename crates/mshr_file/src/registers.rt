@@ -75,7 +75,7 @@ impl Mshrs {
         self.room - self.len() as u32
     }
 
-    /// Whether no register is free.
+    /// Whether no register is free. Kept for who looks at a core from outside.
     pub fn full(&self) -> bool
         ensures { result ≡ not (nat_lt (length self.now.misses) self.now.room) }
     {

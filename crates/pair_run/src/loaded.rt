@@ -1,5 +1,5 @@
 //! Whether two memories agree on what a path loads. It takes no memory.
-ghost use Rattle.std.specs.Prelude.{◌≡◌, ◌↔◌, ◌-◌, IsTrue, All, length, slice_index};
+ghost use Rattle.std.specs.Prelude.{◌≡◌, ◌↔◌, ◌-◌, IsTrue, All, length};
 ghost use Rattle.rv_types.specs.Memory.{Agree, range};
 ghost use Rattle.rv_types.specs.Path.{reads};
 ghost use Rattle.elf_loader.specs.inner.Code.{word_at};
@@ -8,27 +8,16 @@ ghost use Rattle.pair_run.specs.inner.Loaded.{StartsAgree, SameByte, ends_path};
 ghost use Rattle.rv_types.specs.Isa.{start};
 
 use crate::starting::Start;
-use byte_ram::Ram;
+use byte_ram::{Ram, byte_or_zero};
 use isa_step::{Isa, Reached, Stepped};
 use machine_desc::SttModel;
 use rv_types::{Cause, Piece};
-
-// The byte at a place, 0 past the end.
-fn byte_or_zero(bytes: &[u8], place: u64) -> u8
-    ensures { result ≡ slice_index bytes.now place }
-{
-    if place < bytes.len() as u64 {
-        bytes[place as usize]
-    } else {
-        0
-    }
-}
 
 // Whether these bytes, from the memory's first address on, have the memory's byte at an address.
 fn same_byte(one: &Ram, two: &[u8], addr: u64) -> bool
     ensures { IsTrue result ↔ SameByte one.now two.now addr }
 {
-    let place = addr.saturating_sub(one.base() as u64);
+    let place = addr.saturating_sub(one.base() as u64) as usize;
     byte_or_zero(two, place) == byte_or_zero(one.bytes(), place)
 }
 

@@ -1,6 +1,6 @@
 //! The counters and the targets.
 ghost use Rattle.std.specs.Prelude.{◌≡◌, ◌<◌, length, replicate, slice_set, IfOk, None, Some};
-ghost use Rattle.window_model.specs.Resolve.{index, moved};
+ghost use Rattle.window_model.specs.Resolve.{moved};
 ghost use Rattle.window_model.specs.declared.Event.TheVariants as event;
 ghost use Rattle.predictor.specs.Tables.{IsAsked, target_place, is_taken, target_if, target_at, counter_after};
 
@@ -8,7 +8,7 @@ use machine_desc::Desc;
 use rv_types::NoMemory;
 use std::alloc::Global;
 use std::marker::Model;
-use window_model::{Event, Target};
+use window_model::{Event, Target, index};
 
 /// The value of each counter at first.
 const COUNTER_START: u8 = 1;
@@ -60,6 +60,7 @@ impl Predictor {
     pub fn described(&self)
         ensures { IsAsked (length self.now.counters) (length self.now.targets) }
     {
+        // The look inside is for the proof: by it the type's invariant is at hand, and that has the clause.
         let _ = &self.targets;
     }
 
@@ -77,7 +78,7 @@ impl Predictor {
     pub fn target(&self, pc: u32) -> Option<u32>
         ensures { result ≡ target_at self.now pc }
     {
-        target_for(self.targets[index(pc, self.targets.len() as u32)], pc)
+        target_for(self.targets[index(pc, self.targets.len())], pc)
     }
 
     /// Learns how the branch went whose counter stands at this place: the counter goes one up where it was taken, to at
@@ -104,19 +105,10 @@ impl Predictor {
         } }
         ensures event { result ≡ event.Bt (target_place self.old pc) target }
     {
-        let place = index(pc, self.targets.len() as u32);
+        let place = index(pc, self.targets.len());
         self.targets[place] = Some(Target { pc, target });
         Event::Bt(place as u32, target)
     }
-}
-
-// Where an address stands in a table of this size.
-fn index(pc: u32, size: u32) -> usize
-    requires { 0 < size }
-    ensures value { result ≡ index pc size }
-    ensures inside { result < size }
-{
-    (pc / 4 % size) as usize
 }
 
 // A counter after its branch went this way.

@@ -15,13 +15,13 @@ use crate::slots::{EMPTY, Slot, Undo};
 use crate::{RenameTaint, Source, Write};
 use circular_buffer::HeapCircularBuffer;
 use machine_desc::Desc;
-use rv_types::{NoMemory, Reg};
+use rv_types::{NoMemory, REGISTERS, Reg};
 use std::alloc::Global;
 
 /// The youngest writer and root of each register, and a list of the writes to undo them by.
 #[derive(Drop)]
 pub struct ByTable {
-    slots: [Slot; 32],
+    slots: [Slot; REGISTERS],
     undo: HeapCircularBuffer<Undo>,
     ghost table: { Table slots undo.items },
 }
@@ -34,7 +34,7 @@ impl RenameTaint for ByTable {
     fn new(alloc: Global, desc: &Desc) -> Result<Self, NoMemory> {
         match HeapCircularBuffer::with_capacity(alloc, desc.core_rob as usize) {
             Ok(undo) => Ok(ByTable {
-                slots: [EMPTY; 32],
+                slots: [EMPTY; REGISTERS],
                 undo,
             }),
             Err(_) => Err(NoMemory),

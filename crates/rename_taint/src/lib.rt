@@ -22,7 +22,7 @@ mod slots;
 
 pub use by_scan::ByScan;
 pub use by_table::ByTable;
-pub use roots::{later, root_written, roots_of};
+pub use roots::{later, root_at, root_written, roots_of};
 
 /// A write of a register by an entry in flight.
 #[derive(Clone, Copy, Debug, PartialEq, Eq)]

@@ -7,7 +7,7 @@ ghost use Rattle.rename_taint.specs.Writes.{root_at, later, root_written};
 use crate::RenameTaint;
 use rv_types::{Instr, Kind, Reg, reads_of};
 
-/// The youngest roots of the instruction's first and second source.
+/// The youngest roots of the instruction's first and second source. Kept for who looks at a table from outside.
 pub fn roots_of<R: RenameTaint>(table: &R, instr: &Instr) -> [Option<u64>; 2]
     ensures { result ≡ map (root_at (R.writes table.now)) (two (reads_of instr.now)) }
 {
@@ -15,8 +15,8 @@ pub fn roots_of<R: RenameTaint>(table: &R, instr: &Instr) -> [Option<u64>; 2]
     [root_at(table, first), root_at(table, second)]
 }
 
-// The youngest root of a source, if there is one.
-fn root_at<R: RenameTaint>(table: &R, source: Option<Reg>) -> Option<u64>
+/// The youngest root of a source, None where it has none or there is no source.
+pub fn root_at<R: RenameTaint>(table: &R, source: Option<Reg>) -> Option<u64>
     ensures { result ≡ root_at (R.writes table.now) (option_map (λ r. r.number) source) }
 {
     match source {

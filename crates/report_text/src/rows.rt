@@ -8,7 +8,7 @@ use line_text::Line;
 use tool_io::{Failed, Sink};
 
 /// The bytes of a row.
-const ROW: usize = 16;
+const ROW_BYTES: usize = 16;
 
 /// The rows of a block. Most blocks are as they were, and are passed by one comparison.
 const BLOCK: usize = 256;
@@ -18,7 +18,7 @@ fn row_of(bytes: &[u8], row: usize) -> &[u8]
     ensures row { result.now ≡ row_of bytes.now row }
     ensures len { length result.now ≡ 16 }
 {
-    &bytes[ROW * row..ROW * row + ROW]
+    &bytes[ROW_BYTES * row..ROW_BYTES * row + ROW_BYTES]
 }
 
 #[tactic(auto, unfolding(crate::specs::Report::row_line))]
@@ -49,7 +49,7 @@ fn write_row<S: Sink>(
     if row_of(before.bytes(), row) == bytes {
         return Ok(());
     }
-    let addr = after.base() + (ROW * row) as u32;
+    let addr = after.base() + (ROW_BYTES * row) as u32;
     fill_row(line, addr, bytes);
     out.put(line.as_slice())
 }
@@ -61,8 +61,8 @@ fn is_same_block(before: &[u8], after: &[u8], row: usize) -> bool
     ensures within { result ≡ true → 16 * (row + 256) ≤ length after.now }
     ensures same { result ≡ true → (k : ℕ) → row ≤ k → k < row + 256 → row_of before.now k ≡ row_of after.now k }
 {
-    let from = ROW * row;
-    let to = from + ROW * BLOCK;
+    let from = ROW_BYTES * row;
+    let to = from + ROW_BYTES * BLOCK;
     row % BLOCK == 0 && to <= after.len() && before[from..to] == after[from..to]
 }
 
@@ -76,7 +76,7 @@ pub(crate) fn write_rows<S: Sink>(
     requires { length before.now.bytes ≡ length after.now.bytes }
     ensures { Writes (row_lines before.now after.now) (S.told out.old) (S.told out.new) result }
 {
-    let rows = after.size() as usize / ROW;
+    let rows = after.size() as usize / ROW_BYTES;
     let mut row = 0;
     while row < rows {
         if is_same_block(before.bytes(), after.bytes(), row) {

@@ -65,7 +65,7 @@ fn write_registers<S: Sink>(regs: &[u32], line: &mut Line, out: &mut S) -> Resul
 /// one base and one size. Error: `Failed`, only where the sink's count of faults rose; then a prefix of the text was
 /// appended, maybe none of it.
 pub fn write_report<S: Sink>(
-    regs: &[u32; 32],
+    regs: &[u32; REGISTERS],
     pc: u32,
     before: &Ram,
     after: &Ram,

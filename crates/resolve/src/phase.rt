@@ -56,7 +56,7 @@ fn go_back_behind(entry: &Entry, history: &mut History)
     ensures { InEach history.old (λ d. history.new ≡ record history.old { mark = true_mark d entry.now }) }
 {
     history.restore(&entry.item.mark);
-    history.follow(&entry.item, entry.value() == 1);
+    history.follow(&entry.item, entry.is_taken());
 }
 
 // Where fetching goes on after an entry that was not rightly predicted: nowhere after a fault.

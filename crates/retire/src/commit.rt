@@ -75,6 +75,7 @@ fn write_store(ram: &mut Ram, store: &Entry)
         ≡ with_bytes ram.old (addr_of store.now.outcome) (to_le (width_of store.now) (stored_of store.now.outcome)) }
     ensures within { addr_of store.now.outcome + width_of store.now ≤ 2 ^ 32 }
 {
+    // Asked for its clauses alone: memory's end bounds the sum in the last one above.
     let _end = ram.size();
     let _ = ram.put(store.addr(), store.width(), store.stored());
 }

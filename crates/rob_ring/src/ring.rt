@@ -10,7 +10,7 @@ ghost use Rattle.rob_ring.specs.Issued.{as_resolved, with_issued};
 ghost use Rattle.rob_ring.specs.Ring.{Next, Ring, in_execution, is_busy, is_open, is_unsafe};
 
 use crate::issued::Issued;
-use crate::marks::{add_mark, drop_mark, keep_marks, next_mark, put_mark};
+use crate::marks::{WORDS, add_mark, drop_mark, keep_marks, next_mark, put_mark};
 use circular_buffer::HeapCircularBuffer;
 use machine_desc::Desc;
 use rv_types::NoMemory;
@@ -23,11 +23,11 @@ use window_model::{Entry, Progress, Window, position_of};
 pub struct RobRing {
     items: HeapCircularBuffer<Entry>,
     // By position, whether the entry executes.
-    busy: [u64; 3],
+    busy: [u64; WORDS],
     // By position, whether the entry isn't settled.
-    unsettled: [u64; 3],
+    unsettled: [u64; WORDS],
     // By position, whether the entry may yet squash what comes after it.
-    unsafes: [u64; 3],
+    unsafes: [u64; WORDS],
     // The oldest entry's serial where none is missing up to the youngest's: a guess, by which an entry is looked for
     // first.
     counted_from: u64,
@@ -61,9 +61,9 @@ impl RobRing {
         let items = HeapCircularBuffer::with_capacity(alloc, desc.core_rob as usize)?;
         Ok(RobRing {
             items,
-            busy: [0; 3],
-            unsettled: [0; 3],
-            unsafes: [0; 3],
+            busy: [0; WORDS],
+            unsettled: [0; WORDS],
+            unsafes: [0; WORDS],
             counted_from: 0,
         })
     }

@@ -6,7 +6,7 @@ ghost use Rattle.rv_types.specs.Word.{word_add};
 ghost use Rattle.rv_effect.specs.Called.{stepped_as};
 
 use byte_ram::Ram;
-use rv_types::{PIECE_MAX, Piece};
+use rv_types::{PIECE_MAX, Piece, REGISTERS};
 
 // The registers of the arguments, of which the first takes the answer, and of the number.
 const FIRST: usize = 10;
@@ -37,7 +37,7 @@ const BAD_ADDRESS: u32 = 0xffff_fff2;
 const NO_SUCH_CALL: u32 = 0xffff_ffda;
 
 // Goes on behind a call, with its answer.
-fn answer(pc: &mut u32, regs: &mut [u32; 32], value: u32)
+fn answer(pc: &mut u32, regs: &mut [u32; REGISTERS], value: u32)
     ensures pc { pc.new ≡ word_add pc.old 4 }
     ensures regs { regs.new ≡ slice_set regs.old 10 value }
 {
@@ -46,7 +46,14 @@ fn answer(pc: &mut u32, regs: &mut [u32; 32], value: u32)
 }
 
 // Puts the bytes from an address on out.
-fn write(pc: &mut u32, regs: &mut [u32; 32], ram: &Ram, from: u32, count: u32, out: &mut Piece)
+fn write(
+    pc: &mut u32,
+    regs: &mut [u32; REGISTERS],
+    ram: &Ram,
+    from: u32,
+    count: u32,
+    out: &mut Piece,
+)
     requires empty { out.old ≡ [] }
     requires few { count ≤ 1024 }
     ensures { Goes (record { pc = pc.new; regs = regs.new; ram = ram.now }) out.new
@@ -67,7 +74,7 @@ fn write(pc: &mut u32, regs: &mut [u32; 32], ram: &Ram, from: u32, count: u32, o
 
 /// An ECALL on pc, the registers and memory: it goes on behind the call with the answer in a0, or the run ends with the
 /// value that is answered. `out` holds the bytes that a write call puts out, else none.
-pub fn call(pc: &mut u32, regs: &mut [u32; 32], ram: &Ram, out: &mut Piece) -> Option<u32>
+pub fn call(pc: &mut u32, regs: &mut [u32; REGISTERS], ram: &Ram, out: &mut Piece) -> Option<u32>
     requires { out.old ≡ [] }
     ensures stepped { stepped_as (record { pc = pc.new; regs = regs.new; ram = ram.now }) out.new result
         ≡ call (record { pc = pc.old; regs = regs.old; ram = ram.now }) }

@@ -19,6 +19,12 @@ use thiserror::Error;
 /// The number of registers, x0 among them.
 pub const REGISTERS: usize = 32;
 
+/// The number of the stack pointer, x2.
+pub const SP: usize = 2;
+
+/// How many bytes below memory's end the stack pointer begins.
+pub const STACK_GAP: u64 = 16;
+
 /// There was no memory: the one answer that has no stated cause.
 #[derive(Clone, Copy, Debug, PartialEq, Eq, Error)]
 #[error("no memory is left")]

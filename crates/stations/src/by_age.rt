@@ -110,7 +110,7 @@ impl Stations {
         );
     }
 
-    /// Whether the entry at a position awaits nothing.
+    /// Whether the entry at a position awaits nothing. Kept for who looks at a core from outside.
     pub fn ready(&self, i: u32) -> bool
         requires { i < length self.now.held }
         ensures { option_map awaits_none (slice_get self.now.held i) ≡ Some result }
@@ -126,7 +126,8 @@ impl Stations {
         self.occupant(i).is_ready_part(part)
     }
 
-    /// Whether the entry at a position, or a part of it, may issue.
+    /// Whether the entry at a position, or a part of it, may issue. Kept for who looks at stations from outside: Issue
+    /// asks for all of them at once.
     pub fn able(&self, i: u32) -> bool
         requires { i < length self.now.held }
         ensures { option_map is_able (slice_get self.now.held i) ≡ Some result }

@@ -104,7 +104,7 @@ impl Ports {
         }
     }
 
-    /// Whether the port of a store's data part is left.
+    /// Whether the port of a store's data part is left. Kept for who looks at ports from outside, without taking one.
     pub fn has_data(&self) -> bool
         ensures { result ≡ nat_lt 0 (left_at DataPort self.now) }
     {
@@ -136,7 +136,7 @@ impl Ports {
         self.divider
     }
 
-    /// Whether the divider is free in this cycle.
+    /// Whether the divider is free in this cycle. Kept for who looks at a core from outside.
     pub fn free_div(&self) -> bool
         ensures { result ≡ nat_le self.now.divider.free_from self.now.cycle }
     {

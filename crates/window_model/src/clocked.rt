@@ -8,7 +8,7 @@ ghost use Rattle.window_model.specs.Committed.{Commits};
 
 use crate::Row;
 use byte_ram::Ram;
-use rv_types::{End, Piece};
+use rv_types::{End, Piece, REGISTERS};
 
 /// A core that is the written machine (`docs/machine.md`): what a call of it leaves is what `specs/Cycle.antt` says of
 /// the machine that it stands for. No call takes memory.
@@ -48,7 +48,7 @@ pub trait Clocked {
         ensures { result ≡ (machine self.now).retired };
 
     /// The registers, as the retired instructions left them.
-    fn regs(&self) -> &[u32; 32]
+    fn regs(&self) -> &[u32; REGISTERS]
         ensures { result.now ≡ (machine self.now).regs };
 
     /// The address of the instruction that retires next.

@@ -7,7 +7,7 @@ impl Entry {
     ghost use Rattle.rv_types.specs.Value.{bytes_in};
     ghost use Rattle.window_model.specs.Order.{is_done, is_load, is_store, is_control, is_faulty, fault_of, value_of};
     ghost use Rattle.window_model.specs.Taint.{safe, settled};
-    ghost use Rattle.window_model.specs.Resolve.{next_of, squashes};
+    ghost use Rattle.window_model.specs.Resolve.{is_taken, next_of};
     ghost use Rattle.window_model.specs.Retire.{may_leave, trap_of, addr_of, stored_of, op_of, width_of};
 
     /// Whether the entry is Done.
@@ -49,6 +49,13 @@ impl Entry {
             Some(outcome) => outcome.value,
             None => 0,
         }
+    }
+
+    /// Whether the entry, if it is a branch, is taken: its value says so.
+    pub fn is_taken(&self) -> bool
+        ensures { result ≡ is_taken self.now.outcome }
+    {
+        self.value() == 1
     }
 
     /// The address of the instruction that follows, 0 where the entry has no outcome yet.
@@ -130,19 +137,6 @@ impl Entry {
             Kind::Branch | Kind::Jalr => self.resolved,
             Kind::Store => self.cleared,
             _ => true,
-        }
-    }
-
-    /// Whether all that is younger is dropped as the entry is resolved: it was wrongly predicted, or traps.
-    pub fn squashes(&self) -> bool
-        ensures { result ≡ squashes self.now }
-    {
-        if self.is_faulty() {
-            return true;
-        }
-        match self.item.predicted {
-            Some(predicted) => predicted != self.next(),
-            None => true,
         }
     }
 

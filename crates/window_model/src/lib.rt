@@ -15,11 +15,13 @@ mod entries;
 mod line;
 mod position;
 mod row;
+mod table;
 
 pub use clocked::Clocked;
 pub use line::{line_of, lines_of};
 pub use position::position_of;
 pub use row::{ROW_MAX, Row, empty_row};
+pub use table::index;
 
 /// The most addresses that a return stack may hold.
 pub const RETURNS_MAX: usize = 16;
