@@ -21,8 +21,8 @@ use Rattle.core_parts.specs.Described.{Described}
 use Rattle.core_parts.specs.Dropped.{StopsBelow}
 use Rattle.core_parts.specs.Held.{Held, Whole, described, in_flight, machine_of}
 use Rattle.core_parts.proofs.Sizes.{sized_set}
-use Rattle.refinement.proofs.Answering.{queues_stand, queues_track}
 use Rattle.refinement.proofs.Noting.{stands_cleared}
+use Rattle.refinement.proofs.Queues.{queues_stand, queues_track}
 use Rattle.refinement.proofs.Steps.{stops_at}
 use Rattle.core_parts.proofs.Whole.{shown_by}
 use Rattle.clear.specs.Cleared.{clearing, violated, with_cleared}

@@ -1,29 +1,28 @@
 -- The point can move on, whatever changes in the window.
-use Rattle.std.proofs.Common.{◌≡◌, ℕ, zero, suc, ◌+◌, ◌-◌, ◌^◌, ◌<◌, ◌≤◌, Bool, true, false, not, ◌&&◌, cond, List, [], ◌∷◌, ◌++◌, Some, refl, ap, ap₂, sym, ◌∙◌, arith, subst, slice_get}
-use Rattle.std.specs.Prelude.{if◌then◌else◌, nat_le, nat_lt, slice_set}
-use Rattle.std.specs.List.{All}
+use Rattle.std.proofs.Common.{Bool, List, Some, [], ap, ap₂, arith, cond, false, not, refl, slice_get, subst, suc, sym, true, zero, ℕ, ◌&&◌, ◌++◌, ◌+◌, ◌-◌, ◌<◌, ◌^◌, ◌∙◌, ◌∷◌, ◌≡◌, ◌≤◌}
 use Rattle.std.proofs.lemmas.Bool.Decides.{nat_tests}
-use Rattle.std.proofs.lemmas.List.Elements.{All-nil, All-head, All-tail, All-weaker, All-push, All-set}
+use Rattle.std.proofs.lemmas.List.Elements.{All-head, All-nil, All-push, All-set, All-tail, All-weaker}
+use Rattle.std.specs.List.{All}
+use Rattle.std.specs.Prelude.{drop, if◌then◌else◌, nat_le, nat_lt, slice_set}
 use Rattle.machine_desc.specs.declared.SttModel.{SttModel}
+use Rattle.machine_desc.specs.declared.SttModel.TheVariants.{Futuristic, Off, Spectre}
+use Rattle.rob_ring.specs.Ring.{below}
+use Rattle.rv_types.specs.declared.Kind.{Kind}
+use Rattle.rv_types.specs.declared.Kind.TheVariants.{Branch, Call, Jalr, Load, Stop, Store}
+use Rattle.visibility.proofs.Moving.{all_passes, by_model, can_again, moves_on}
+use Rattle.visibility.specs.Point.{NotPast, Point, first_point, moved_over, next_after, passes}
+use Rattle.window_model.proofs.Booleans.{waiting_done}
+use Rattle.window_model.proofs.Passing.{passes_cleared, passes_done, passes_resolved}
+use Rattle.window_model.proofs.Serials.{all_at, all_left, rise_head, rise_left, rise_tail, splits}
+use Rattle.window_model.specs.Clear.{cleared_one}
+use Rattle.window_model.specs.Order.{is_done, is_faulty, is_waiting}
+use Rattle.window_model.specs.Serials.{Rise}
+use Rattle.window_model.specs.Taint.{protects, safe_as, settled, settled_as}
 use Rattle.window_model.specs.declared.Entry.{Entry}
 use Rattle.window_model.specs.declared.Item.{Item}
 use Rattle.window_model.specs.declared.Progress.TheVariants.{Done}
-use Rattle.window_model.specs.Clear.{cleared_one}
-use Rattle.window_model.specs.Order.{is_done, is_faulty, is_waiting}
-use Rattle.window_model.specs.Taint.{protects, safe_as, settled, settled_as}
-use Rattle.rv_types.specs.declared.Kind.{Kind}
-use Rattle.rv_types.specs.declared.Kind.TheVariants.{Branch, Call, Jalr, Load, Stop, Store}
-use Rattle.machine_desc.specs.declared.SttModel.TheVariants.{Spectre, Futuristic, Off}
-use Rattle.refinement.specs.Stations.{Issues}
-use Rattle.rob_ring.specs.Ring.{below}
-use Rattle.visibility.specs.Point.{Point, NotPast, moved_over, next_after, first_point, passes}
-use Rattle.visibility.proofs.Moving.{all_passes, by_model, can_again, moves_on}
-use Rattle.window_model.proofs.Booleans.{waiting_done}
-use Rattle.window_model.proofs.Passing.{passes_cleared, passes_done, passes_resolved}
 use Rattle.refinement.specs.Points.{Below, PointStands}
-use Rattle.window_model.specs.Serials.{Rise}
-use Rattle.window_model.proofs.Serials.{all_at, all_left, rise_head, rise_left, rise_tail, splits}
-use Rattle.std.specs.Prelude.{drop}
+use Rattle.refinement.specs.Stations.{Issues}
 
 -- an entry below the point passes
 abbrev Passes : Point → Entry → Type 0

@@ -1,24 +1,24 @@
 -- What stations await, as older entries come to give their values: one law for an entry that becomes Done and for a point that
 -- moves on.
-use Rattle.std.proofs.Common.{◌≡◌, ℕ, zero, suc, ◌<◌, ◌≤◌, Bool, true, false, not, ◌&&◌, ◌||◌, cond, List, [], ◌∷◌, Option, Some, None, refl, ap, ap₂, sym, ◌∙◌, arith, subst, slice_get}
-use Rattle.std.specs.Prelude.{if◌then◌else◌, map, nat_le, ◌==◌, slice_set}
-use Rattle.std.specs.List.{All, AllZip, AllByRecursion as Each, filter, list_any}
+use Rattle.std.proofs.Common.{Bool, List, None, Option, Some, [], ap, ap₂, arith, cond, false, not, refl, slice_get, subst, suc, sym, true, zero, ℕ, ◌&&◌, ◌<◌, ◌||◌, ◌∙◌, ◌∷◌, ◌≡◌, ◌≤◌}
 use Rattle.std.proofs.lemmas.Bool.Decides.{nat_tests}
 use Rattle.std.proofs.lemmas.List.Elements.{All-head, All-tail}
-use Rattle.rv_types.specs.Regs.{reads_of, writes_of, two}
+use Rattle.std.specs.List.{All, AllByRecursion as Each, AllZip, filter, list_any}
+use Rattle.std.specs.Prelude.{if◌then◌else◌, map, nat_le, slice_set, ◌==◌}
+use Rattle.rv_types.specs.Regs.{writes_of}
+use Rattle.stations.specs.Stations.{Station, strike, struck}
+use Rattle.window_model.proofs.Booleans.{or_true}
+use Rattle.window_model.proofs.Serials.{all_at, rise_head, rise_tail}
+use Rattle.window_model.specs.Order.{is_done, is_load, is_register, is_waiting, writer, writes}
+use Rattle.window_model.specs.Serials.{Rise}
 use Rattle.window_model.specs.declared.Entry.{Entry}
 use Rattle.window_model.specs.declared.Item.{Item}
 use Rattle.window_model.specs.declared.Progress.TheVariants.{Done}
-use Rattle.window_model.specs.Order.{is_done, is_load, is_register, is_waiting, writer, writes, sources}
-use Rattle.window_model.specs.Serials.{Rise}
-use Rattle.window_model.proofs.Booleans.{or_true}
-use Rattle.window_model.proofs.Serials.{all_at, rise_head, rise_tail}
-use Rattle.stations.specs.Stations.{Station, strike, struck}
-use Rattle.refinement.specs.Waiters.{Hold, Waiter, awaited, awaited_of, gives_at, waiter_in, waiter_of, waiters_from, wants_of}
-use Rattle.refinement.specs.Stations.{GoesOn, MovesOn, released, struck_each, struck_if_given}
-use Rattle.refinement.proofs.Youngest.{map_same, map_twice}
-use Rattle.refinement.proofs.Keeping.{goes_same}
+use Rattle.refinement.proofs.Lists.{map_same, map_twice}
+use Rattle.refinement.proofs.Serials.{goes_same}
 use Rattle.refinement.specs.Footprint.{Found, Terms, footprint_by, waiter_footprint}
+use Rattle.refinement.specs.Stations.{GoesOn, MovesOn, released, struck_each, struck_if_given}
+use Rattle.refinement.specs.Waiters.{Hold, Waiter, awaited, awaited_of, gives_at, waiter_in}
 
 -- ---- serials that are struck
 
@@ -83,7 +83,6 @@ awaited_woken h h2 ss (e ∷ b) (e2 ∷ b2) v (Some r) =
 -- a station that awaits none of these serials any more
 abbrev pub woken : List ℕ → Waiter → Waiter
 woken ss w = record w { awaits = map (strike_each ss) w.awaits }
-
 
 -- ---- the stations, told of it
 

@@ -7,5 +7,4 @@ pub mod Waiters
 pub mod Stations
 pub mod Telling
 pub mod Points
-pub mod Addresses
 pub mod Writers

@@ -25,3 +25,8 @@ source_roots before e = map (root_of_source before) (two (sources e))
 abbrev pub unretired : ℕ → Option ℕ → Option ℕ
 unretired oldest None = None
 unretired oldest (Some root) = if nat_le oldest root then Some root else None
+
+-- the root of the base register, by those of an entry's sources
+abbrev pub base_root : List (Option ℕ) → Option ℕ
+base_root [] = None
+base_root (r ∷ rs) = r

@@ -23,7 +23,7 @@ use Rattle.lsq.specs.Queues.{Queues, cut_at, without}
 use Rattle.queue_laws.specs.Window.{PartsGoOn, TracksOn, cleared_in, noted, noted_load}
 use Rattle.visibility.specs.Point.{NotPast, first_point, moved_over}
 use Rattle.refinement.specs.Waiters.{awaits_of, gives_at, write_of}
-use Rattle.refinement.specs.Addresses.{base_root}
+use Rattle.refinement.specs.Roots.{base_root}
 use Rattle.refinement.specs.Stations.{Issues, left_held, seated, station_of, struck_by_move, struck_if_given}
 use Rattle.refinement.specs.Writers.{named}
 use Rattle.refinement.specs.InFlight.{InFlight, hold_in}

@@ -10,8 +10,6 @@ use Rattle.rename_taint.specs.declared.Source.{Source}
 use Rattle.rename_taint.specs.declared.Source.TheVariants as source
 use Rattle.rename_taint.specs.declared.Write.{Write}
 use Rattle.rename_taint.specs.Writes.{source_of}
-use Rattle.refinement.specs.Roots.{unretired}
-use Rattle.refinement.specs.Waiters.{Parts, Stand, oldest_of}
 
 -- a source's writer, if there is one in flight
 abbrev pub writer_of : List Entry → Option ℕ → Option Entry
@@ -27,17 +25,6 @@ writer_of_source before (Some r) = option_map (λ e. e.serial) (writer before r)
 abbrev pub source_writers : List Entry → Entry → List (Option ℕ)
 source_writers before e = map (writer_of_source before) (two (sources e))
 
--- there is a pair of serials for each entry: its sources' writers, and for a source without one maybe one that has
--- retired
-abbrev pub WritersStand : ℕ → List Entry → List Entry → List (List (Option ℕ)) → Type 0
-WritersStand oldest before [] [] = Unit {0}
-WritersStand oldest before (e ∷ es) (ws ∷ writers) = (map (unretired oldest) ws ≡ source_writers before e) × WritersStand oldest (e ∷ before) es writers
-WritersStand oldest before _ _ = ⊥
-
--- the pairs stand for the window
-abbrev pub WritersOf : ℕ → List Entry → List (List (Option ℕ)) → Type 0
-WritersOf next window writers = WritersStand (oldest_of next window) [] window writers
-
 -- ---- what they tell
 
 -- the entry, if it has this serial
@@ -50,12 +37,6 @@ abbrev pub in_flight : List Entry → Option ℕ → Option Entry
 in_flight window None = None
 in_flight window (Some serial) = if_serial serial (slice_get window (length (below serial window)))
 
--- by an entry's pair its sources' writers are found
-abbrev pub TellsWriters : Type 0
-TellsWriters = (p : Parts) (writers : List (List (Option ℕ))) (i : ℕ) (e : Entry) (ws : List (Option ℕ)) → Stand p → WritersOf p.next p.window writers →
-    slice_get p.window i ≡ Some e → slice_get writers i ≡ Some ws →
-    map (in_flight p.window) ws ≡ map (writer_of (before_at p.window i)) (two (sources e))
-
 -- ---- which steps keep them
 
 -- the serial that the table names, if it names one
@@ -67,7 +48,3 @@ serial_in (source.Entry serial) = Some serial
 abbrev pub named : List Write → Option ℕ → Option ℕ
 named writes None = None
 named writes (Some r) = serial_in (source_of writes r)
-
--- as many pairs as entries
-abbrev pub CountsWriters : Type 0
-CountsWriters = (next : ℕ) (window : List Entry) (writers : List (List (Option ℕ))) → WritersOf next window writers → length writers ≡ length window

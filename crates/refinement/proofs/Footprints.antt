@@ -1,34 +1,30 @@
 -- What is kept of an entry, as it, and the older ones, go on, and the oldest leaves.
-use Rattle.std.proofs.Common.{◌≡◌, ℕ, ◌<◌, ◌≤◌, Bool, true, false, not, ◌&&◌, ◌||◌, cond, List, [], ◌∷◌, ◌++◌, Option, Some, None, refl, ap, ap₂, sym, ◌∙◌, arith, slice_get}
-use Rattle.std.specs.Prelude.{if◌then◌else◌, map, nat_le, slice_set}
-use Rattle.std.specs.List.{All, AllZip, AllByRecursion as Each, filter}
+use Rattle.std.proofs.Common.{Bool, List, None, Option, Some, [], ap, ap₂, cond, false, refl, sym, true, ℕ, ◌++◌, ◌<◌, ◌∙◌, ◌∷◌, ◌≡◌, ◌≤◌}
+use Rattle.std.proofs.lemmas.List.Elements.{All-cons, All-head, All-nil, All-tail}
+use Rattle.std.specs.List.{All, AllByRecursion as Each, AllZip, filter}
 use Rattle.std.specs.Option.{option_map}
-use Rattle.std.proofs.lemmas.Bool.Decides.{nat_tests}
-use Rattle.std.proofs.lemmas.List.Elements.{All-nil, All-cons, All-head, All-tail}
-use Rattle.rv_types.specs.Regs.{reads_of, writes_of, two}
-use Rattle.window_model.specs.declared.Entry.{Entry}
-use Rattle.window_model.specs.declared.Item.{Item}
+use Rattle.std.specs.Prelude.{if◌then◌else◌, map}
+use Rattle.queue_laws.specs.Window.{ShownLoad}
+use Rattle.rename_taint.specs.Writes.{root_written}
+use Rattle.rename_taint.specs.declared.Write.{Write}
+use Rattle.rv_types.specs.Regs.{reads_of, two, writes_of}
+use Rattle.window_model.proofs.Booleans.{or_false}
+use Rattle.window_model.proofs.Serials.{rise_head, rise_tail}
 use Rattle.window_model.specs.Order.{each_from, is_load, is_register, is_store, is_waiting, sources, writer, writes}
 use Rattle.window_model.specs.Serials.{Rise}
-use Rattle.window_model.proofs.Booleans.{or_false}
-use Rattle.window_model.proofs.EntryByEntry.{zip_same}
-use Rattle.window_model.proofs.Serials.{rise_head, rise_tail}
-use Rattle.rename_taint.specs.declared.Write.{Write}
-use Rattle.rename_taint.specs.Writes.{root_written}
-use Rattle.rob_ring.specs.declared.beside.Sources.{Sources}
-use Rattle.queue_laws.specs.Window.{ShownLoad}
-use Rattle.refinement.specs.Addresses.{base_root}
-use Rattle.refinement.specs.Waiters.{Hold, Waiter, awaited, awaited_of, gives_at, write_of}
-use Rattle.refinement.specs.Roots.{root_of_source, unretired, youngest_root}
+use Rattle.window_model.specs.declared.Entry.{Entry}
+use Rattle.window_model.specs.declared.Item.{Item}
+use Rattle.refinement.proofs.Columns.{Numbered, Rises}
+use Rattle.refinement.proofs.Each.{each_on}
+use Rattle.refinement.proofs.Lists.{keeps_all, keeps_none, map_id, map_same, map_twice}
+use Rattle.refinement.proofs.Serials.{goes_same}
+use Rattle.refinement.proofs.Waking.{Gives, Wakes, awaited_woken, gives_go, strike_each, woken}
+use Rattle.refinement.proofs.Youngest.{root_without, unretired_in, unretired_out, unretired_roots, unretired_written}
+use Rattle.refinement.specs.Footprint.{Footprint, Found, StoreFootprint, Terms, footprint_by, footprint_of, load_footprint, look_back, store_footprint, unretired_sources, unretired_write, waiter_footprint}
+use Rattle.refinement.specs.Roots.{base_root, root_of_source, unretired, youngest_root}
 use Rattle.refinement.specs.Stations.{GoesOn}
+use Rattle.refinement.specs.Waiters.{Hold, Waiter, awaited, awaited_of, gives_at, write_of}
 use Rattle.refinement.specs.Writers.{writer_of_source}
-use Rattle.refinement.proofs.Keeping.{goes_same, zip_set}
-use Rattle.refinement.proofs.Tables.{keeps_all, keeps_none}
-use Rattle.refinement.proofs.Youngest.{unretired_in, unretired_out, unretired_roots, unretired_written, map_same, map_twice, root_without}
-use Rattle.refinement.specs.Footprint.{Footprint, StoreFootprint, Found, Terms, unretired_sources, unretired_write, footprint_by, footprint_of, load_footprint, look_back, column, store_footprint, waiter_footprint}
-use Rattle.refinement.proofs.Each.{each_on, map_id}
-use Rattle.refinement.proofs.Shows.{Numbered, Rises}
-use Rattle.refinement.proofs.Waking.{Gives, Wakes, among, awaited_woken, gives_go, strike_each, woken}
 
 -- ---- serials
 
