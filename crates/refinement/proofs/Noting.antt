@@ -7,7 +7,6 @@ use Rattle.lsq.specs.Queues.{Queues, addressed_at, filled_at, issued_at}
 use Rattle.lsq.specs.declared.load.Load.{Load as QueuedLoad}
 use Rattle.lsq.specs.declared.store.Span.{Span}
 use Rattle.lsq.specs.declared.store.Store.{Store as QueuedStore}
-use Rattle.queue_laws.proofs.Issuing.{gone}
 use Rattle.queue_laws.specs.Window.{PartsGoOn, Reading, ShownLoad, access_in, area_in, area_of, cycle_or_first, has_read, shown_reader, span_in, with_span, with_stored}
 use Rattle.rename_taint.specs.Writes.{root_written}
 use Rattle.rv_types.specs.Regs.{reads_of, two, writes_of}
@@ -101,6 +100,11 @@ store_is s u a b c d e f g =
     ∙ ap₂ (λ k v. record s { serial = u.serial; root = u.root; span = k; stored = v }) c d
     ∙ ap₂ (λ p k. record u { computed = p; known_from = k; cleared = s.cleared }) e f
     ∙ ap (λ c. record u { cleared = c }) g
+
+-- what wasn't there once it isn't
+gone : (b c : Bool) → (b ≡ true → c ≡ true) → c ≡ false → b ≡ false
+gone true c h k = let x = h refl in absurd (cc)
+gone false c h k = refl
 
 none_of : {X Y : Type 0} (f : X → Y) (o : Option X) → option_map f o ≡ None → o ≡ None
 none_of f None h = refl

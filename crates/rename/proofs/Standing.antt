@@ -19,7 +19,7 @@ use Rattle.rename_taint.specs.Writes.{root_at}
 use Rattle.stations.specs.Stations.{Stations}
 use Rattle.lsq.specs.Queues.{Queues}
 use Rattle.fetch_unit.specs.Unit.{FetchUnit}
-use Rattle.queue_laws.proofs.Renaming.{room_is}
+use Rattle.queue_laws.proofs.Keeping.{room_is}
 use Rattle.refinement.proofs.Queues.{queues_stand}
 use Rattle.refinement.proofs.Room.{counts_held, counts_writes}
 use Rattle.refinement.proofs.Steps.{stands_renamed}
