@@ -202,25 +202,27 @@ module _ {T X : Type 0} (f : T → X) (field : Footprint → Option X) where
         let no : (tn x == n) ≡ false = grind (arith, nat_tests) in
         ap₂ (λ b ys. f (if b then v x else x) ∷ ys) no (others n v xs (All-tail (λ x. tn x ≢ n) x xs a))
 
-    -- what is kept of the entry at a position changes so
-    pub noted : (v : T → T) (xs : List T) (ks : List Footprint) (i n : ℕ) (k k2 : Footprint) (y : X) → Each (Numbered xn field) ks → Rises ks → slice_get ks i ≡ Some k → n ≡ k.serial → field k ≡ Some y →
-        ((x : T) → f x ≡ y → Some (f (v x)) ≡ field k2) → map f xs ≡ column field ks → map f (map (noted_in n v) xs) ≡ column field (slice_set ks i k2)
-    noted v xs [] i n k k2 y e r h m q own s = absurd (cc)
-    noted v xs (d ∷ ks) zero n k k2 y e r h m q own s =
+    -- what is kept of the entry at a position changes so, if anything is
+    pub noted_at : (v : T → T) (xs : List T) (ks : List Footprint) (i n : ℕ) (k k2 : Footprint) → Each (Numbered xn field) ks → Rises ks → slice_get ks i ≡ Some k → n ≡ k.serial →
+        ((o : Option T) → option_map f o ≡ field k → option_map (λ x. f (v x)) o ≡ field k2) → map f xs ≡ column field ks → map f (map (noted_in n v) xs) ≡ column field (slice_set ks i k2)
+    noted_at v xs [] i n k k2 e r h m own s = absurd (cc)
+    noted_at v xs (d ∷ ks) zero n k k2 e r h m own s =
         let a : d ≡ k = cc in
-        let rest : All (λ (d : Footprint). d.serial ≢ n) ks = λ j c within. (let lt = r.0 j c within in let same : d.serial ≡ k.serial = ap (λ (k : Footprint). k.serial) a in omega (arith, lt, same, m)) in
-        let number : xn y ≡ k.serial = some_same y k.serial (sym (ap (option_map xn) q) ∙ subst (Numbered xn field) a e.0 ∙ ap (option_map (λ x. k.serial)) q) in
-        head xs rest number (s ∙ ap (λ o. cons_option o (column field ks)) (ap field a ∙ q))
+        let same : d.serial ≡ n = ap (λ (k : Footprint). k.serial) a ∙ sym m in
+        let rest : All (λ (d : Footprint). d.serial ≢ n) ks = λ j c within. (let lt = r.0 j c within in omega (arith, lt, same)) in
+        head (field d) (subst (λ n. option_map xn (field d) ≡ option_map (λ x. n) (field d)) same e.0) (λ o q. own o (q ∙ ap field a)) rest xs s
       where
-        head : (xs : List T) → All (λ (d : Footprint). d.serial ≢ n) ks → xn y ≡ k.serial → map f xs ≡ y ∷ column field ks → map f (map (noted_in n v) xs) ≡ cons_option (field k2) (column field ks)
-        head [] rest number s = absurd (cc)
-        head (x ∷ xs) rest number s =
+        head : (o : Option X) → option_map xn o ≡ option_map (λ x. n) o → ((q : Option T) → option_map f q ≡ o → option_map (λ x. f (v x)) q ≡ field k2) → All (λ (d : Footprint). d.serial ≢ n) ks →
+            (xs : List T) → map f xs ≡ cons_option o (column field ks) → map f (map (noted_in n v) xs) ≡ cons_option (field k2) (column field ks)
+        head None num own rest xs s = others n v xs (items_have (λ m. m ≢ n) xs ks e.1 rest s) ∙ s ∙ ap (λ o. cons_option o (column field ks)) (own None refl)
+        head (Some y) num own rest [] s = absurd (cc)
+        head (Some y) num own rest (x ∷ xs) s =
             let is : f x ≡ y = cc in
             let tail : map f xs ≡ column field ks = cc in
-            let here : tn x ≡ n = sym (of_item x) ∙ ap xn is ∙ number ∙ sym m in
+            let here : tn x ≡ n = sym (of_item x) ∙ ap xn is ∙ some_same y n num in
             let yes : (tn x == n) ≡ true = grind (arith, nat_tests) in
-            ap₂ (λ b ys. f (if b then v x else x) ∷ ys) yes (others n v xs (items_have (λ m. m ≢ n) xs ks e.1 rest tail) ∙ tail) ∙ ap (λ o. cons_option o (column field ks)) (own x is)
-    noted v xs (d ∷ ks) (suc i) n k k2 y e r h m q own s = by_field (field d) e.0 xs s (λ xs s. noted v xs ks i n k k2 y e.1 r.1 h m q own s)
+            ap₂ (λ b ys. f (if b then v x else x) ∷ ys) yes (others n v xs (items_have (λ m. m ≢ n) xs ks e.1 rest tail) ∙ tail) ∙ ap (λ o. cons_option o (column field ks)) (own (Some x) (ap Some is))
+    noted_at v xs (d ∷ ks) (suc i) n k k2 e r h m own s = by_field (field d) e.0 xs s (λ xs s. noted_at v xs ks i n k k2 e.1 r.1 h m own s)
       where
         older : d.serial ≢ n
         older = let lt = at ks i r.0 h in omega (arith, lt, m)
@@ -241,3 +243,12 @@ module _ {T X : Type 0} (f : T → X) (field : Footprint → Option X) where
             let ne = subst (λ m. m ≢ n) (sym here) older in
             let no : (tn x == n) ≡ false = grind (arith, nat_tests) in
             ap₂ (λ b ys. f (if b then v x else x) ∷ ys) no (more xs tail) ∙ ap (λ y. y ∷ column field (slice_set ks i k2)) is
+
+    -- and so where something is
+    pub noted : (v : T → T) (xs : List T) (ks : List Footprint) (i n : ℕ) (k k2 : Footprint) (y : X) → Each (Numbered xn field) ks → Rises ks → slice_get ks i ≡ Some k → n ≡ k.serial → field k ≡ Some y →
+        ((x : T) → f x ≡ y → Some (f (v x)) ≡ field k2) → map f xs ≡ column field ks → map f (map (noted_in n v) xs) ≡ column field (slice_set ks i k2)
+    noted v xs ks i n k k2 y e r h m q own s = noted_at v xs ks i n k k2 e r h m by_item s
+      where
+        by_item : (o : Option T) → option_map f o ≡ field k → option_map (λ x. f (v x)) o ≡ field k2
+        by_item None p = absurd (cc)
+        by_item (Some x) p = let is : f x ≡ y = cc in own x is

@@ -100,12 +100,12 @@ with_resolved i e p = record p { window = slice_set p.window i (record e { resol
 abbrev pub ResolvesAt : Type 0
 ResolvesAt = (p : InFlight) (i : ℕ) (e : Entry) → Refines p → slice_get p.window i ≡ Some e → is_waiting e.state ≡ false → Refines (with_resolved i e p)
 
--- it is a store, and is cleared
+-- it is cleared, in the window and in the queue of stores; only a store is
 abbrev pub with_cleared : ℕ → Entry → InFlight → InFlight
 with_cleared i e p = record p { window = slice_set p.window i (cleared_one e); queues = cleared_in e.serial p.queues }
 
 abbrev pub ClearsAt : Type 0
-ClearsAt = (p : InFlight) (i : ℕ) (e : Entry) → Refines p → slice_get p.window i ≡ Some e → is_store e.item.kind ≡ true → Refines (with_cleared i e p)
+ClearsAt = (p : InFlight) (i : ℕ) (e : Entry) → Refines p → slice_get p.window i ≡ Some e → Refines (with_cleared i e p)
 
 -- ---- entries go
 
