@@ -15,7 +15,8 @@ use Rattle.window_model.proofs.Clearing.{cleared_goes}
 use Rattle.rob_ring.specs.Ring.{Ring}
 use Rattle.lsq.specs.Clearing.{violated_by as violated_in}
 use Rattle.lsq.specs.Queues.{Queues, cleared_at}
-use Rattle.queue_laws.specs.Window.{StandFor, Tracks, cleared_in}
+use Rattle.queue_laws.specs.Window.{StandFor, Tracks}
+use Rattle.refinement.specs.Noted.{cleared_in}
 use Rattle.queue_laws.proofs.Violating.{violates}
 use Rattle.core_parts.specs.Described.{Described}
 use Rattle.core_parts.specs.Dropped.{StopsBelow}

@@ -14,7 +14,7 @@ use Rattle.window_model.specs.Order.{is_waiting}
 use Rattle.window_model.specs.Retire.{width_of}
 use Rattle.lsq.specs.Queues.{Queues, issued_at}
 use Rattle.lsq.specs.declared.load.Load.{Load}
-use Rattle.queue_laws.specs.Window.{access_in, has_read, noted}
+use Rattle.refinement.specs.Noted.{access_in, has_read, noted}
 use Rattle.machine_desc.specs.declared.SttModel.TheVariants.{Futuristic}
 use Rattle.rob_ring.specs.Issued.{with_issued}
 use Rattle.rob_ring.specs.Ring.{Ring, is_unsafe}

@@ -7,7 +7,8 @@ use Rattle.lsq.specs.Queues.{Queues, addressed_at, filled_at, issued_at}
 use Rattle.lsq.specs.declared.load.Load.{Load as QueuedLoad}
 use Rattle.lsq.specs.declared.store.Span.{Span}
 use Rattle.lsq.specs.declared.store.Store.{Store as QueuedStore}
-use Rattle.queue_laws.specs.Window.{PartsGoOn, Reading, ShownLoad, access_in, area_in, area_of, cycle_or_first, has_read, shown_reader, span_in, with_span, with_stored}
+use Rattle.queue_laws.specs.Window.{Reading, ShownLoad, area_in, area_of, shown_reader}
+use Rattle.refinement.specs.Noted.{PartsGoOn, access_in, cycle_or_first, has_read, span_in, with_span, with_stored}
 use Rattle.rename_taint.specs.Writes.{root_written}
 use Rattle.rv_types.specs.Regs.{reads_of, two, writes_of}
 use Rattle.rv_types.specs.Value.{bytes_in}
@@ -35,7 +36,7 @@ use Rattle.refinement.specs.Stations.{GoesOn, left_held, station_of}
 use Rattle.refinement.specs.Steps.{ClearsAt, IssuesAt, with_cleared, with_issued}
 use Rattle.refinement.specs.Waiters.{Hold, Waiter, awaited, gives_at, oldest_of, waiter_in, wants_of}
 use Rattle.refinement.specs.Writers.{writer_of_source}
-use Rattle.queue_laws.specs.Window as window
+use Rattle.refinement.specs.Noted as queues
 
 -- ---- an entry that gives its value or not as before
 
@@ -232,7 +233,7 @@ stands_issued p i e e2 w s h waits issued on_so tracks_so =
     let at : slice_get ks i ≡ Some k = each_at (footprint_of t) [] p.window i e h in
     let x = waiter_footprint t (look_back t.hold b e).awaits e in
     let rises = footprint_rise t [] p.window s.rise in
-    let noted = window.noted w e2 p.queues in
+    let noted = queues.noted w e2 p.queues in
     let reads = p.tracked && has_read e2 in
     record {
       rise = rise_on p.window new go s.rise;

@@ -8,3 +8,4 @@ pub mod Stations
 pub mod Telling
 pub mod Points
 pub mod Writers
+pub mod Noted

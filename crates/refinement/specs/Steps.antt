@@ -20,7 +20,7 @@ use Rattle.rob_ring.specs.declared.beside.Sources.{Sources}
 use Rattle.rename_taint.specs.Writes.{before_serial, root_at, without_retired}
 use Rattle.lsq.specs.Queues as queues
 use Rattle.lsq.specs.Queues.{Queues, cut_at, without}
-use Rattle.queue_laws.specs.Window.{PartsGoOn, TracksOn, cleared_in, noted, noted_load}
+use Rattle.refinement.specs.Noted.{PartsGoOn, TracksOn, cleared_in, noted, noted_load}
 use Rattle.visibility.specs.Point.{NotPast, first_point, moved_over}
 use Rattle.refinement.specs.Waiters.{awaits_of, gives_at, write_of}
 use Rattle.refinement.specs.Roots.{base_root}
