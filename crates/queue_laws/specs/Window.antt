@@ -97,7 +97,7 @@ reading_of a = record { area = record { addr = a.addr; bytes = bytes_in a.width;
 abbrev pub shown_load : Load → ShownLoad
 shown_load l = record { serial = l.serial; reading = option_map reading_of l.access }
 
--- and of a load in the window
+-- what is tracked of a load in the window
 abbrev pub shown_reader : Entry → ShownLoad
 shown_reader e = record { serial = e.serial; reading = option_map (λ cycle. record { area = area_in e; cycle = cycle }) e.issued }
 

@@ -1,4 +1,4 @@
--- What is kept of an entry, as it, and the older ones, go on, and the oldest leaves.
+-- The footprint of an entry, as it, and the older ones, go on, and the oldest leaves.
 use Rattle.std.proofs.Common.{Bool, List, None, Option, Some, [], ap, ap₂, cond, false, refl, sym, true, ℕ, ◌++◌, ◌<◌, ◌∙◌, ◌∷◌, ◌≡◌, ◌≤◌}
 use Rattle.std.proofs.lemmas.List.Elements.{All-cons, All-head, All-nil, All-tail}
 use Rattle.std.specs.List.{All, AllByRecursion as Each, AllZip, filter}
@@ -25,6 +25,8 @@ use Rattle.refinement.specs.Roots.{base_root, root_of_source, unretired, younges
 use Rattle.refinement.specs.Stations.{GoesOn}
 use Rattle.refinement.specs.Waiters.{Hold, Waiter, awaited, awaited_of, gives_at, write_of}
 use Rattle.refinement.specs.Writers.{writer_of_source}
+use Rattle.refinement.proofs.Lists.{if_mapped}
+use Rattle.refinement.proofs.Waking.{strike_nothing}
 
 -- ---- serials
 
@@ -38,21 +40,20 @@ pub footprint_rise : (t : Terms) (b es : List Entry) → Rise es → Rises (each
 footprint_rise t b [] r = tt
 footprint_rise t b (e ∷ es) r = (footprint_have t (λ n. e.serial < n) (e ∷ b) es (rise_head e es r), footprint_rise t (e ∷ b) es (rise_tail e es r))
 
--- those whose serials pass a test, where all do or none does
+-- the footprints whose serials pass a test, where all do or none does
 pub footprint_pass : (t : Terms) (p : ℕ → Bool) (b es : List Entry) → All (λ e. p e.serial ≡ true) es → filter (λ (k : Footprint). p k.serial) (each_from (footprint_of t) b es) ≡ each_from (footprint_of t) b es
 footprint_pass t p b es a = keeps_all (λ (k : Footprint). p k.serial) (each_from (footprint_of t) b es) (footprint_have t (λ n. p n ≡ true) b es a)
 
 pub footprint_fail : (t : Terms) (p : ℕ → Bool) (b es : List Entry) → All (λ e. p e.serial ≡ false) es → filter (λ (k : Footprint). p k.serial) (each_from (footprint_of t) b es) ≡ []
 footprint_fail t p b es a = keeps_none (λ (k : Footprint). p k.serial) (each_from (footprint_of t) b es) (footprint_have t (λ n. p n ≡ false) b es a)
 
--- what is kept in each part has the entry's serial
+-- what a footprint has for each part has the entry's serial
 each_has : (t : Terms) (P : Footprint → Type 0) → ((l : Found) (e : Entry) → P (footprint_by t l e)) → (b es : List Entry) → Each P (each_from (footprint_of t) b es)
 each_has t P h b [] = tt
 each_has t P h b (e ∷ es) = (h (look_back t.hold b e) e, each_has t P h (e ∷ b) es)
 
 if_numbered : {X : Type 0} (xn : X → ℕ) (b : Bool) (x : X) → option_map xn (if b then Some x else None) ≡ option_map (λ y. xn x) (if b then Some x else None)
-if_numbered xn true x = refl
-if_numbered xn false x = refl
+if_numbered xn b x = sym (if_mapped xn b x) ∙ if_mapped (λ y. xn x) b x
 
 pub writes_numbered : (t : Terms) (b es : List Entry) → Each (Numbered (λ (w : Write). w.serial) (λ k. k.write)) (each_from (footprint_of t) b es)
 writes_numbered t b es = each_has t (Numbered (λ (w : Write). w.serial) (λ k. k.write)) (λ l e. by_write l e (writes_of e.item.instr)) b es
@@ -115,10 +116,6 @@ look_woken h h2 ss b b2 e v =
 abbrev pub wake : List ℕ → Footprint → Footprint
 wake ss k = record k { waiter = option_map (woken ss) k.waiter }
 
-if_mapped : {X Y : Type 0} (w : X → Y) (b : Bool) (x : X) → (if b then Some (w x) else None) ≡ option_map w (if b then Some x else None)
-if_mapped w true x = refl
-if_mapped w false x = refl
-
 -- an entry wakes, and so do the older ones
 pub footprint_woken : (t : Terms) (h2 : Hold) (ss : List ℕ) (b b2 : List Entry) (e e2 : Entry) → AllZip (Gives t.hold h2 ss) b b2 → Wakes t.hold h2 ss e e2 →
     footprint_of (record t { hold = h2 }) b2 e2 ≡ wake ss (footprint_of t b e)
@@ -136,9 +133,6 @@ footprints_woken t h2 ss es es2 v =
     each_on (footprint_of t) (footprint_of (record t { hold = h2 })) (wake ss) (AllZip (Gives t.hold h2 ss)) (Wakes t.hold h2 ss) (λ b b2 e e2 p w. (w.gives, p)) (footprint_woken t h2 ss) [] [] es es2 tt v
 
 -- older ones that give their values as before aren't seen to go on
-strike_nothing : (os : List (Option ℕ)) → map (strike_each []) os ≡ os
-strike_nothing os = map_id (strike_each []) (λ o. refl) os
-
 pub footprint_alike : (t : Terms) (b b2 : List Entry) (e : Entry) → AllZip (Gives t.hold t.hold []) b b2 → footprint_of t b2 e ≡ footprint_of t b e
 footprint_alike t b b2 e v =
     ap (λ l. footprint_by t l e) (look_woken t.hold t.hold [] b b2 e v ∙ ap (λ a. record (look_back t.hold b e) { awaits = a }) (strike_nothing (look_back t.hold b e).awaits))

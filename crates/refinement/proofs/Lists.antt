@@ -1,4 +1,4 @@
--- Lists, mapped, filtered and cut: what the other proofs ask of them.
+-- Lists, mapped, filtered, cut and changed at a place.
 use mathlib.Core.List.{reverse_aux}
 use Rattle.std.proofs.Common.{Bool, List, Some, [], ap, ap₂, arith, cond, drop, false, length, refl, slice_get, subst, suc, sym, take, true, zero, ℕ, ◌++◌, ◌+◌, ◌∙◌, ◌∷◌, ◌≡◌, ◌≤◌}
 use Rattle.std.proofs.lemmas.List.Elements.{All-head, All-tail}
@@ -6,6 +6,9 @@ use Rattle.std.specs.List.{All, AllZip, filter, remove}
 use Rattle.std.specs.Prelude.{map, slice_set}
 use Rattle.window_model.proofs.EntryByEntry.{zip_same}
 use Rattle.window_model.specs.declared.Entry.{Entry}
+use Rattle.std.proofs.Common.{Option, None}
+use Rattle.std.specs.Prelude.{is_some, if◌then◌else◌}
+use Rattle.std.specs.Option.{option_map}
 
 pub map_same : {X Y : Type 0} (f g : X → Y) (xs : List X) → ((x : X) → f x ≡ g x) → map f xs ≡ map g xs
 map_same f g [] h = refl
@@ -45,7 +48,7 @@ pub keeps_none : {X : Type 0} (t : X → Bool) (xs : List X) → All (λ x. t x 
 keeps_none t [] a = refl
 keeps_none t (x ∷ xs) a = ap (λ b. cond b (x ∷ filter t xs) (filter t xs)) (All-head (λ x. t x ≡ false) x xs a) ∙ keeps_none t xs (All-tail (λ x. t x ≡ false) x xs a)
 
--- ---- entries are dropped
+-- ---- cuts
 
 pub take_first : {X : Type 0} (xs ys : List X) → take (length xs) (xs ++ ys) ≡ xs
 take_first [] [] = refl
@@ -68,3 +71,15 @@ take_set xs zero m x le = refl
 take_set [] (suc i) m x le = refl
 take_set (y ∷ xs) (suc i) zero x le = absurd (omega (arith, le))
 take_set (y ∷ xs) (suc i) (suc m) x le = ap (λ ys. y ∷ ys) (take_set xs i m x (omega (arith, le)))
+
+-- ---- what may be missing
+
+-- what isn't there is none
+pub unknown : {X : Type 0} (o : Option X) → is_some o ≡ false → None ≡ o
+unknown None h = refl
+unknown (Some x) h = absurd (cc)
+
+-- what is there under a test changes under it
+pub if_mapped : {X Y : Type 0} (f : X → Y) (b : Bool) (x : X) → (if b then Some (f x) else None) ≡ option_map f (if b then Some x else None)
+if_mapped f true x = refl
+if_mapped f false x = refl

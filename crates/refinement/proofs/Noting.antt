@@ -1,4 +1,4 @@
--- An entry issues, or a part of it, and a store is cleared: what is kept of it is what the parts then note.
+-- An entry issues, or a part of it, and a store is cleared: its footprint is what the parts then note.
 use Rattle.std.proofs.Common.{Bool, List, None, Option, Some, [], ap, ap₂, false, map, refl, slice_get, subst, suc, sym, take, true, zero, ℕ, ◌<◌, ◌∙◌, ◌∷◌, ◌≡◌}
 use Rattle.std.specs.List.{AllByRecursion as Each, remove}
 use Rattle.std.specs.Option.{option_map}
@@ -37,10 +37,11 @@ use Rattle.refinement.specs.Steps.{ClearsAt, IssuesAt, with_cleared, with_issued
 use Rattle.refinement.specs.Waiters.{Hold, Waiter, awaited, gives_at, oldest_of, waiter_in, wants_of}
 use Rattle.refinement.specs.Writers.{writer_of_source}
 use Rattle.refinement.specs.Noted as queues
+use Rattle.refinement.proofs.Lists.{unknown}
 
 -- ---- an entry that gives its value or not as before
 
--- it goes on, Done or not as it was
+-- an entry that goes on, Done or not as it was, gives its value or not as it did
 steady : (h : Hold) (e e2 : Entry) → GoesOn e e2 → is_done e2.state ≡ is_done e.state → Gives h h [] e e2
 steady h e e2 on done = record {
   on = on;
@@ -48,7 +49,7 @@ steady h e e2 on done = record {
       ∙ ap (λ d. not (h.holds && is_load e.item.kind && not (nat_le e.serial h.point)) && d) done ∙ sym (or_false (gives_at h e));
 }
 
--- what is kept of it changes, and of no other entry
+-- the footprint of an entry changes, and of no other one
 footprints_set : (t : Terms) (es : List Entry) (i : ℕ) (e e2 : Entry) → slice_get es i ≡ Some e → Gives t.hold t.hold [] e e2 →
     each_from (footprint_of t) [] (slice_set es i e2) ≡ slice_set (each_from (footprint_of t) [] es) i (footprint_of t (reverse (take i es)) e2)
 footprints_set t es i e e2 h g = each_set (footprint_of t) (Gives t.hold t.hold []) (gives_same t.hold) (footprint_alike t) [] es i e e2 h g
@@ -138,10 +139,6 @@ own_store t f root w e e2 x n g c h =
     known None k = absurd (cc)
     known (Some c) k = refl
 
-    unknown : (o : Option ℕ) → is_some o ≡ false → None ≡ o
-    unknown None k = refl
-    unknown (Some c) k = absurd (cc)
-
     by_known : (tracked b : Bool) → has_address e2 ≡ b → (if tracked then option_map (λ (k : Span). k.known_from) (if b then Some (span_in w e2) else x.span) else None) ≡ (if tracked then e2.addr_due else None)
     by_known false b q = refl
     by_known true true q = known e2.addr_due q
@@ -151,7 +148,7 @@ own_store t f root w e e2 x n g c h =
     by_cleared true h c = h ∙ sym (c refl)
     by_cleared false h c = refl
 
--- what is kept of the store at a position, by whether there is one
+-- the footprint of the store at a position, by whether there is one
 stores_issued : (store : Bool) (t : Terms) (f : ℕ) (stores : List QueuedStore) (ks : List Footprint) (i : ℕ) (k k2 : Footprint) (root : Option ℕ) (w : Width) (e e2 : Entry) →
     Each (Numbered (λ (s : StoreFootprint). s.serial) (λ k. k.store)) ks → Rises ks → slice_get ks i ≡ Some k → k.serial ≡ e.serial → e2.serial ≡ e.serial →
     k.store ≡ (if store then Some (store_footprint t root e) else None) → k2.store ≡ (if store then Some (store_footprint t root e2) else None) →

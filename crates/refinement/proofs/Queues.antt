@@ -31,6 +31,7 @@ use Rattle.refinement.specs.Waiters.{oldest_of}
 use Rattle.refinement.specs.Telling.{QueuesStand}
 use Rattle.refinement.specs.Telling.{QueuesTrack}
 use Rattle.refinement.specs.Telling.{TellsEachStore}
+use Rattle.refinement.proofs.Lists.{if_mapped, map_id}
 
 -- ---- the queues
 
@@ -49,8 +50,7 @@ of_kind {X = X} t field view g test h b (e ∷ es) = mapped (field (footprint_of
     by_test false = refl
 
 if_view : {X Y : Type 0} (view : X → Y) (b : Bool) (x : X) (y : Y) → view x ≡ y → option_map view (if b then Some x else None) ≡ (if b then Some y else None)
-if_view view true x y h = ap Some h
-if_view view false x y h = refl
+if_view view b x y h = sym (if_mapped view b x) ∙ ap (λ y. if b then Some y else None) h
 
 abbrev column_of : StoreFootprint → Shown
 column_of s = record { serial = s.serial; span = s.span; stored = s.stored; computed = s.computed }
@@ -70,14 +70,14 @@ queues_stand p s =
 abbrev clearing_of : StoreFootprint → ShownClearing
 clearing_of s = record { serial = s.serial; known_from = s.known_from; cleared = s.cleared }
 
--- and track them
+-- the queues track what loads have read and which stores are cleared, where loads may pass stores
 pub queues_track : QueuesTrack
 queues_track p s tr =
     let t = terms p in
     let f = oldest_of p.next p.window in
     record {
       loads = map_same shown_load (load_in t) p.queues.loads (λ l. ap (λ b. record { serial = l.serial; reading = if b then (shown_load l).reading else None }) (sym tr))
-          ∙ s.columns.loads ∙ map_itself (column (λ k. k.load) (footprints p))
+          ∙ s.columns.loads ∙ sym (map_id (λ x. x) (λ x. refl) (column (λ k. k.load) (footprints p)))
           ∙ of_kind t (λ k. k.load) (λ l. l) shown_reader (λ e. is_load e.item.kind)
           (λ b e. if_view (λ l. l) (is_load e.item.kind) _ (shown_reader e) (ap (λ b. record { serial = e.serial; reading = if b then (shown_reader e).reading else None }) tr)) [] p.window;
       stores = map_same shown_cleared (λ x. clearing_of (store_in t f x)) p.queues.stores
@@ -86,10 +86,6 @@ queues_track p s tr =
           ∙ of_kind t (λ k. k.store) clearing_of shown_clearing (λ e. is_store e.item.kind)
           (λ b e. if_view clearing_of (is_store e.item.kind) _ (shown_clearing e) (ap (λ b. record { serial = e.serial; known_from = if b then e.addr_due else None; cleared = b && e.cleared }) tr)) [] p.window;
     }
-  where
-    map_itself : {X : Type 0} (xs : List X) → xs ≡ map (λ x. x) xs
-    map_itself [] = refl
-    map_itself (x ∷ xs) = ap (λ ys. x ∷ ys) (map_itself xs)
 
 -- ---- what the roots tell
 
@@ -113,7 +109,7 @@ base_hidden point b e u v =
     same (None ∷ os) = ap (λ os. None ∷ os) (same os)
     same (Some n ∷ os) = ap₂ (λ o os. o ∷ os) (unretired_in 0 n (omega arith)) (same os)
 
--- of the entries from one on, youngest first
+-- whether the addresses of the entries' stores are tainted, youngest first
 hidden_turned : (t : Terms) (point : Point) (b es : List Entry) → Behind (Tells point) b → Behind Falls b → Along (Tells point) b es → Along Falls b es →
     reverse_aux (map (λ (x : StoreFootprint). is_hidden point.serial x.root) (column (λ k. k.store) (each_from (footprint_of t) b es))) (tainted_stores point.model b) ≡ tainted_stores point.model (reverse_aux es b)
 hidden_turned t point b [] u v a c = refl
@@ -124,7 +120,7 @@ hidden_turned t point b (e ∷ es) u v a c = by_store (is_store e.item.kind) (ba
     by_store true base = ap (λ b2. reverse_aux (map (λ (x : StoreFootprint). is_hidden point.serial x.root) (column (λ k. k.store) (each_from (footprint_of t) (e ∷ b) es))) (b2 ∷ tainted_stores point.model b)) base
     by_store false base = refl
 
--- by the root of each store that is older than an entry
+-- the root of each store that is older than an entry tells whether its address is tainted
 pub tells_each_store : TellsEachStore
 tells_each_store p i e s m h = by_window p.window s.rise m h has
   where

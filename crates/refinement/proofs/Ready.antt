@@ -75,7 +75,7 @@ module _ (d : Desc) (hold : Hold) where
       and_true true = refl
       and_true false = refl
 
-  -- each source by itself
+  -- what a part of a store awaits, by its own source
   part_by : (part : Part) (before : List Entry) (rs : List ℕ) → Behind (GivesAlike d hold) before → length rs ≤ 2 →
       nothing_at (source_of part) (map (awaited hold before) (two rs)) ≡ all_known d before (own_of part rs)
   part_by part.Base before [] k le = refl
@@ -119,11 +119,11 @@ pub tells_ready : TellsReady
 tells_ready d p i e s b h w =
     asked_of (λ wants awaits. list_all is_none awaits) p i e s h w ∙ ap Some (ready_by d (hold_in p) (before_at p.window i) (sources e) (alike_at d p i b) (few_reads e.item.instr))
 
--- it is able exactly where what its entry wants is there
+-- a station is able exactly where what its entry wants is there
 pub tells_able : TellsAble
 tells_able d p i e s b h w = asked_of able_as p i e s h w ∙ ap Some (able_by d (hold_in p) (wants_of p.version e) (before_at p.window i) e (alike_at d p i b))
 
--- a part of it is ready exactly where the part's own source is
+-- a part of a store is ready exactly where the part's own source is
 pub tells_part : TellsPart
 tells_part part d p i e s b h w =
     asked_of (λ wants awaits. nothing_at (source_of part) awaits) p i e s h w

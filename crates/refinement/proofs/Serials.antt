@@ -29,12 +29,12 @@ pub oldest_push : (next : ℕ) (es : List Entry) (e : Entry) → e.serial ≡ ne
 oldest_push next [] e h = h
 oldest_push next (x ∷ es) e h = refl
 
--- ---- the oldest, which gives its value, retires
-
+-- without the oldest the next one is the oldest, and younger
 pub oldest_above : (next : ℕ) (x : Entry) (es : List Entry) → Rise (x ∷ es) → x.serial < next → x.serial < oldest_of next es
 oldest_above next x [] r lt = lt
 oldest_above next x (e ∷ es) r lt = All-head (λ d. x.serial < d.serial) e es (rise_head x (e ∷ es) r)
 
+-- the oldest stays where entries from a serial on are dropped, but not all
 pub oldest_below : (next first : ℕ) (es : List Entry) (i : ℕ) (e : Entry) → Rise es → slice_get es i ≡ Some e → e.serial < first → oldest_of next (below first es) ≡ oldest_of next es
 oldest_below next first [] i e r h lt = absurd (cc)
 oldest_below next first (x ∷ es) i e r h lt =
@@ -47,6 +47,8 @@ pub below_is : (es : List Entry) (i : ℕ) (e : Entry) → Rise es → slice_get
 below_is es i e r h =
     let t = splits e.serial es r in
     sym (take_first (below e.serial es) t.gone) ∙ ap (take (length (below e.serial es))) (sym t.whole) ∙ ap (λ n. take n es) (place_of es i e r h)
+
+-- ---- entries go on
 
 pub goes_same : (e : Entry) → GoesOn e e
 goes_same e = record { serial = refl; item = refl }

@@ -1,4 +1,4 @@
--- Each step keeps the parts standing for the window.
+-- Each step keeps the parts refining the window.
 use Rattle.std.proofs.Common.{Bool, List, None, Option, Some, [], ap, ap₂, arith, cond, drop, false, length, map, not, refl, slice_get, subst, sym, take, true, ℕ, ◌++◌, ◌+◌, ◌<◌, ◌∙◌, ◌∷◌, ◌≡◌, ◌≤◌}
 use Rattle.std.proofs.lemmas.Bool.Decides.{nat_tests}
 use Rattle.std.proofs.lemmas.List.{append-nil}
@@ -45,6 +45,8 @@ use Rattle.refinement.specs.Steps.{CompletesAt, DropsFrom, OpensEmpty, PointMove
 use Rattle.refinement.specs.Telling.{source_by}
 use Rattle.refinement.specs.Waiters.{Hold, Waiter, gives_at, oldest_of, waiter_in, wants_of, write_of}
 use Rattle.refinement.specs.Writers.{named, serial_in, source_writers, writer_of_source}
+use Rattle.refinement.proofs.Lists.{unknown}
+use Rattle.refinement.proofs.Youngest.{unretired_twice}
 
 pub stands_empty : OpensEmpty
 stands_empty d = record {
@@ -89,10 +91,6 @@ stores_queued : (k : Kind) (n : ℕ) (root : Option ℕ) (q : Queues) →
 stores_queued Load n root q = refl
 stores_queued Store n root q = refl
 stores_queued _ n root q = refl
-
-unknown : (o : Option ℕ) → is_some o ≡ false → None ≡ o
-unknown None h = refl
-unknown (Some c) h = absurd (cc)
 
 -- no part of a fresh store has issued, and a fresh load has read nothing
 fresh_store : (t : Terms) (root : Option ℕ) (e : Entry) → has_address e ≡ false → has_data e ≡ false → (t.tracked ≡ true → e.cleared ≡ false) →
@@ -157,7 +155,7 @@ wakes_go h h2 ss [] (e2 ∷ es2) v = absurd v
 wakes_go h h2 ss (e ∷ es) [] v = absurd v
 wakes_go h h2 ss (e ∷ es) (e2 ∷ es2) v = (v.0.gives.on, wakes_go h h2 ss es es2 v.1)
 
--- those with these serials come to give their values, under a point that has moved maybe, and the stations are told
+-- entries with these serials come to give their values, under a point that has moved maybe, and the stations are told
 wakes_on : (p : InFlight) (point : Point) (ss : List ℕ) (window : List Entry) → Refines p → AllZip (Wakes (hold_in p) (record { holds = p.holds; point = point.serial }) ss) p.window window →
     PointStands point p.next window → Refines (record p { window = window; point = point; held = struck_each ss p.held })
 wakes_on p point ss window s v at =
@@ -205,7 +203,7 @@ stops_at p i e s h u = point_stops p.point p.next p.window i e s.point h u
 above_test : (m n : ℕ) → n ≤ m → nat_lt m n ≡ false
 above_test m n le = grind (arith, nat_tests)
 
--- what is kept of those below a serial
+-- the footprints of those below a serial
 pub footprints_below : (t : Terms) (first : ℕ) (es : List Entry) → Rise es → filter (λ (k : Footprint). nat_lt k.serial first) (each_from (footprint_of t) [] es) ≡ each_from (footprint_of t) [] (below first es)
 footprints_below t first es r =
     let s = splits first es r in
@@ -249,18 +247,15 @@ stands_dropped p first i e s h older l =
 
 -- ---- the oldest retires
 
-once : (f g : ℕ) (o : Option ℕ) → f ≤ g → unretired g o ≡ unretired g (unretired f o)
-once f g o le = ap base_root (sym (unretired_all_twice f g (o ∷ []) le))
-
 -- fewer roots and writers are told
 holds_aged : (t : Terms) (f g : ℕ) (p : Parts) (ks : List Footprint) → f ≤ g → Columns t f p ks → Columns t g p (map (footprint_unretired g) ks)
 holds_aged t f g p ks le s = record {
   sources = viewed (unretired_sources f) (λ k. Some k.sources) (unretired_sources g) (unretired_sources g) (footprint_unretired g)
       (λ x. ap₂ (λ r w. record { roots = r; writers = w }) (sym (unretired_all_twice f g x.roots le)) (sym (unretired_all_twice f g x.writers le))) (λ k. refl) p.sources ks s.sources;
-  writes = viewed (unretired_write f) (λ k. k.write) (unretired_write g) (unretired_write g) (footprint_unretired g) (λ w. ap (λ r. record w { root = r }) (once f g w.root le)) (λ k. refl) p.writes ks s.writes;
+  writes = viewed (unretired_write f) (λ k. k.write) (unretired_write g) (unretired_write g) (footprint_unretired g) (λ w. ap (λ r. record w { root = r }) (sym (unretired_twice f g w.root le))) (λ k. refl) p.writes ks s.writes;
   waiters = s.waiters ∙ aside waiter_in (λ k. k.waiter) (footprint_unretired g) (λ k. refl) ks;
   loads = s.loads ∙ aside (load_in t) (λ k. k.load) (footprint_unretired g) (λ k. refl) ks;
-  stores = viewed (store_in t f) (λ k. k.store) (store_in t g) (unretired_store g) (footprint_unretired g) (λ x. ap (λ r. record (store_in t g x) { root = r }) (once f g x.root le)) (λ k. refl) p.queues.stores ks s.stores;
+  stores = viewed (store_in t f) (λ k. k.store) (store_in t g) (unretired_store g) (footprint_unretired g) (λ x. ap (λ r. record (store_in t g x) { root = r }) (sym (unretired_twice f g x.root le))) (λ k. refl) p.queues.stores ks s.stores;
 }
 
 -- the write that goes is the only one of its serial

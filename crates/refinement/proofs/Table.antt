@@ -1,4 +1,4 @@
--- What the rename table names, where its writes are those that are kept of the entries.
+-- What the rename table names, where its writes are those of the footprints.
 use mathlib.Core.List.{reverse_aux}
 use Rattle.std.proofs.Common.{Bool, List, None, Option, Some, [], ap, cond, false, refl, sym, true, ℕ, ◌∙◌, ◌∷◌, ◌≡◌}
 use Rattle.std.specs.List.{cons_option, find}
@@ -30,7 +30,7 @@ abbrev writes_behind : List Entry → List Write
 writes_behind [] = []
 writes_behind (e ∷ b) = cons_option (write_of e (source_roots b e)) (writes_behind b)
 
--- they are those that are kept, youngest first
+-- the writes in the footprints, youngest first
 turned : (t : Terms) (b es : List Entry) → reverse_aux (column (λ k. k.write) (each_from (footprint_of t) b es)) (writes_behind b) ≡ writes_behind (reverse_aux es b)
 turned t b [] = refl
 turned t b (e ∷ es) = over (write_of e (source_roots b e)) (column (λ k. k.write) (each_from (footprint_of t) (e ∷ b) es)) (writes_behind b) ∙ turned t (e ∷ b) es
@@ -100,7 +100,7 @@ source_aged f r ws = of (last_write ws r) ∙ ap source_from (sym (last_aged f r
 
 -- ---- what it names
 
--- each register's writer
+-- the table names each register's writer
 pub names_writer : NamesWriter
 names_writer p r s =
     let f = oldest_of p.next p.window in
@@ -119,7 +119,7 @@ finds_writer p r s = ap (entry_of p.window) (names_writer p r s) ∙ found r p.w
 pub finds_awaited : FindsAwaited
 finds_awaited p r s = ap (awaited_of (hold_in p)) (finds_writer p r s)
 
--- and youngest root, or one that has retired where it has none
+-- the table names each register's youngest root, or one that has retired where it has none
 pub names_root : NamesRoot
 names_root p r s =
     let f = oldest_of p.next p.window in

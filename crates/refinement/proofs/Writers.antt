@@ -34,7 +34,7 @@ stands_in r w before (e ∷ es) h = ⊎_elim (λ (k : (i : ℕ) × (slice_get es
     by_writes true k = inl (0, k)
     by_writes false k = inr k
 
--- it is found by its serial
+-- a writer is found by its serial
 pub writer_place : (r : ℕ) (w : Entry) (es : List Entry) → Rise es → writer (reverse es) r ≡ Some w → slice_get es (length (below w.serial es)) ≡ Some w
 writer_place r w es rise h = ⊎_elim (λ (k : (i : ℕ) × (slice_get es i ≡ Some w)). ap (slice_get es) (place_of es k.0 w rise k.1) ∙ k.1) (λ (k : writer [] r ≡ Some w). absurd (cc)) (stands_in r w [] es h)
 

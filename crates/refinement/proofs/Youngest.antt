@@ -60,7 +60,7 @@ pub unretired_written : (f : ℕ) (k : Kind) (s : ℕ) (os : List (Option ℕ)) 
 unretired_written f Load s os le = unretired_in f s le
 unretired_written f _ s os le = unretired_latest f os
 
-unretired_twice : (f g : ℕ) (o : Option ℕ) → f ≤ g → unretired g (unretired f o) ≡ unretired g o
+pub unretired_twice : (f g : ℕ) (o : Option ℕ) → f ≤ g → unretired g (unretired f o) ≡ unretired g o
 unretired_twice f g None le = refl
 unretired_twice f g (Some s) le = by_f (nat_le f s) refl
   where

@@ -1,5 +1,5 @@
--- What the parts of a core hold of one entry in flight: a function of the entry and the older ones (docs/architecture.md, "How
--- they stand for it"). `before` is always a list of the older entries, youngest first.
+-- What an entry in flight leaves in the parts of a core, its footprint: a function of the entry and the older ones
+-- (docs/architecture.md, "How they stand for it"). `before` is always a list of the older entries, youngest first.
 use Rattle.std.specs.Prelude.{◌≡◌, ℕ, Bool, true, not, ◌&&◌, ◌||◌, List, [], ◌∷◌, is_some, map, Option, Some, None, if◌then◌else◌}
 use Rattle.std.specs.List.{cons_option}
 use Rattle.std.specs.Option.{option_map}
@@ -29,7 +29,7 @@ pub record Found : Type 0 where
 abbrev pub look_back : Hold → List Entry → Entry → Found
 look_back h before e = record { roots = source_roots before e; writers = source_writers before e; awaits = awaits_of h before e }
 
--- ---- what is held of an entry
+-- ---- what an entry leaves in the parts
 
 -- a store: its serial, the root of its address, where it writes and what, each once that part has issued, whether it has its
 -- outcome once one has, and, where loads may pass stores, from which cycle on its address is known, and whether it is cleared
@@ -73,7 +73,7 @@ store_footprint t root e = record {
   cleared = t.tracked && e.cleared;
 }
 
--- by what it finds among the older ones
+-- an entry's footprint by what it finds among the older ones
 abbrev pub footprint_by : Terms → Found → Entry → Footprint
 footprint_by t l e = record {
   serial = e.serial;
@@ -87,7 +87,7 @@ footprint_by t l e = record {
 abbrev pub footprint_of : Terms → List Entry → Entry → Footprint
 footprint_of t before e = footprint_by t (look_back t.hold before e) e
 
--- what is held in one of the parts
+-- what one of the parts holds: a field of the footprints, of the entries that have it
 abbrev pub column : {X : Type 0} → (Footprint → Option X) → List Footprint → List X
 column field [] = []
 column field (k ∷ ks) = cons_option (field k) (column field ks)
@@ -103,7 +103,7 @@ unretired_write oldest w = record w { root = unretired oldest w.root }
 abbrev pub load_in : Terms → Load → ShownLoad
 load_in t l = record { serial = l.serial; reading = if t.tracked then option_map reading_of l.access else None }
 
--- none of which a part has issued lacks its outcome
+-- a store in the queue, none of which a part has issued without its outcome
 abbrev pub store_in : Terms → ℕ → Store → StoreFootprint
 store_in t oldest s = record {
   serial = s.serial;

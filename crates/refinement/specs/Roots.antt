@@ -12,12 +12,12 @@ youngest_root [] r = None
 youngest_root (e ∷ before) r =
     if writes r e then root_written e.item.kind e.serial (map (youngest_root before) (sources e)) else youngest_root before r
 
--- the same of a source, if there is one
+-- the youngest root of a source, if there is one
 abbrev pub root_of_source : List Entry → Option ℕ → Option ℕ
 root_of_source before None = None
 root_of_source before (Some r) = youngest_root before r
 
--- of an entry's first and second source
+-- the youngest roots of an entry's first and second source
 abbrev pub source_roots : List Entry → Entry → List (Option ℕ)
 source_roots before e = map (root_of_source before) (two (sources e))
 

@@ -45,7 +45,7 @@ pub record HoldsOlder (p : InFlight) : Type 0 where
   pub writes : All (λ w. w.serial < p.next) p.writes
   pub held : All (λ s. s.serial < p.next) p.held
 
--- so what is added for the next entry is the youngest
+-- what is added for the next entry is the youngest of its part
 abbrev pub HoldsOlderOnes : Type 0
 HoldsOlderOnes = (p : InFlight) → Refines p → HoldsOlder p
 
@@ -69,11 +69,11 @@ abbrev pub entry_of : List Entry → Source → Option Entry
 entry_of window source.Committed = None
 entry_of window (source.Entry s) = slice_get window (length (below s window))
 
--- it is the writer
+-- by the serial that the table names the writer is found
 abbrev pub FindsWriter : Type 0
 FindsWriter = (p : InFlight) (r : ℕ) → Refines p → entry_of p.window (source_of p.writes r) ≡ writer (reverse p.window) r
 
--- so what a source of the next entry awaits is found
+-- what a source of the next entry awaits is found by the serial that the table names
 abbrev pub FindsAwaited : Type 0
 FindsAwaited = (p : InFlight) (r : ℕ) → Refines p → awaited_of (hold_in p) (entry_of p.window (source_of p.writes r)) ≡ awaited (hold_in p) (reverse p.window) (Some r)
 
@@ -84,7 +84,7 @@ TellsWriters = (p : InFlight) (i : ℕ) (e : Entry) (x : Sources) → Refines p 
 
 -- ---- stations
 
--- they are those of the entries that wait
+-- the stations are those of the entries that wait
 abbrev pub HoldsWaiters : Type 0
 HoldsWaiters = (p : InFlight) → Refines p → map waiter_in p.held ≡ waiters_from p.version (hold_in p) [] p.window
 
@@ -106,7 +106,7 @@ CountsStations = (window : List Entry) (i : ℕ) (e : Entry) → slice_get windo
 abbrev pub StationsOlder : Type 0
 StationsOlder = (window : List Entry) (i m : ℕ) (e : Entry) → i ≤ m → station_of i (slice_set window m e) ≡ station_of i window
 
--- and one that no longer waits moves each younger one's station by one
+-- an entry that no longer waits moves each younger one's station by one
 abbrev pub StationsYounger : Type 0
 StationsYounger = (window : List Entry) (i m : ℕ) (e e2 : Entry) → m < i → slice_get window m ≡ Some e → is_waiting e.state ≡ true → is_waiting e2.state ≡ false →
     station_of i (slice_set window m e2) + 1 ≡ station_of i window
@@ -123,12 +123,12 @@ pub record MovedBy (d : Desc) (p : InFlight) : Type 0 where
 abbrev pub hold_of : Desc → Point → Hold
 hold_of d point = record { holds = holds d.stt_defence; point = point.serial }
 
--- then each entry gives its value where it does by the machine's definition
+-- each entry gives its value where it does by the machine's definition
 abbrev pub TellsGiven : Type 0
 TellsGiven = (d : Desc) (p : InFlight) (i : ℕ) (e : Entry) → MovedBy d p → slice_get p.window i ≡ Some e →
     gives_at (hold_in p) e ≡ gives d (before_at p.window i) e
 
--- and a station awaits nothing exactly where its entry is ready
+-- a station awaits nothing exactly where its entry is ready
 abbrev pub TellsReady : Type 0
 TellsReady = (d : Desc) (p : InFlight) (i : ℕ) (e : Entry) → Refines p → MovedBy d p → slice_get p.window i ≡ Some e → is_waiting e.state ≡ true →
     option_map awaits_none (slice_get p.held (station_of i p.window)) ≡ Some (ready d (before_at p.window i) e)
@@ -150,7 +150,7 @@ abbrev pub TellsAble : Type 0
 TellsAble = (d : Desc) (p : InFlight) (i : ℕ) (e : Entry) → Refines p → MovedBy d p → slice_get p.window i ≡ Some e → is_waiting e.state ≡ true →
     option_map is_able (slice_get p.held (station_of i p.window)) ≡ Some (has_sources (wants_of p.version e) d (before_at p.window i) e)
 
--- and a part of it is ready exactly where the part's own source is
+-- a part of a store is ready exactly where the part's own source is
 abbrev pub TellsPart : Type 0
 TellsPart = (part : Part) (d : Desc) (p : InFlight) (i : ℕ) (e : Entry) → Refines p → MovedBy d p → slice_get p.window i ≡ Some e → is_waiting e.state ≡ true →
     option_map (ready_part part) (slice_get p.held (station_of i p.window)) ≡ Some (all_known d (before_at p.window i) (own_of part (sources e)))
@@ -176,18 +176,18 @@ pub record OperandsTold (point : Point) (before : List Entry) (e : Entry) (roots
   pub any : list_any (is_hidden point.serial) roots ≡ any_tainted point.model before e
   pub base : list_any (is_hidden point.serial) (take 1 roots) ≡ address_tainted point.model before e
 
--- the roots at an entry's position tell that
+-- the roots at an entry's position tell which of its operands are tainted
 abbrev pub TellsOperands : Type 0
 TellsOperands = (p : InFlight) (i : ℕ) (e : Entry) (x : Sources) → Refines p → HasAdvanced p.point p.window →
     slice_get p.window i ≡ Some e → slice_get p.sources i ≡ Some x → OperandsTold p.point (before_at p.window i) e x.roots
 
 -- ---- the queues
 
--- they hold the window's loads and stores, as `queue_laws` asks
+-- the queues hold the window's loads and stores, as `queue_laws` asks
 abbrev pub QueuesStand : Type 0
 QueuesStand = (p : InFlight) → Refines p → StandFor p.queues p.window
 
--- and what loads have read and which stores are cleared, where that is tracked
+-- the queues track what loads have read and which stores are cleared, where loads may pass stores
 abbrev pub QueuesTrack : Type 0
 QueuesTrack = (p : InFlight) → Refines p → p.tracked ≡ true → Tracks p.queues p.window
 

@@ -1,6 +1,5 @@
--- What the parts of a core hold, and when they stand for the machine's window (docs/machine.md, "The parts stand for
--- the machine"). All lists are oldest first, as the parts have them; `before` is youngest first, as in the machine's
--- definitions.
+-- What holds results back, and what an entry that waits awaits and wants (docs/machine.md, "Issue"). `before` is always a list of the
+-- older entries, youngest first.
 use Rattle.std.specs.Prelude.{◌≡◌, ℕ, ◌<◌, Bool, true, false, not, ◌&&◌, ◌==◌, nat_le, List, [], ◌∷◌, map, Option, Some, None, if◌then◌else◌}
 use Rattle.std.specs.List.{All, cons_option}
 use Rattle.std.specs.Option.{option_map}
@@ -77,7 +76,7 @@ waiter_in s = record { serial = s.serial; awaits = s.awaits; wants = s.wants }
 abbrev pub waiter_of : ℕ → Hold → List Entry → Entry → Waiter
 waiter_of version h before e = record { serial = e.serial; awaits = awaits_of h before e; wants = wants_of version e }
 
--- those of the entries that wait, where the older ones are `before`
+-- the stations of the entries that wait, where the older ones are `before`
 abbrev pub waiters_from : ℕ → Hold → List Entry → List Entry → List Waiter
 waiters_from version h before [] = []
 waiters_from version h before (e ∷ es) =

@@ -14,7 +14,9 @@ ghost use Rattle.refinement.specs.Steps.{
   RetiresHead,
 };
 
-/// Parts go on to stand for the window as it changes.
+/// Parts go on to refine the window as it changes: as entries are renamed into it, issue, in parts or whole, become
+/// Done, are resolved, are cleared, are dropped, and retire, and as the visibility point moves (`docs/machine.md`, "A
+/// cycle").
 pub fn steps_keep_refinement()
     ensures opens { OpensEmpty }
     ensures rename { RenamesIn }
