@@ -1,15 +1,14 @@
 -- The loads and stores of a window around one of its entries.
-use Rattle.std.proofs.Common.{◌≡◌, ◌≢◌, ℕ, zero, suc, ◌<◌, Bool, true, false, cond, List, [], ◌∷◌, ◌++◌, Some, refl, ap, ap₂, sym, ◌∙◌, arith, slice_get}
-use Rattle.std.specs.Prelude.{map, ◌==◌, if◌then◌else◌, take, drop}
+use Rattle.std.proofs.Common.{◌≡◌, ◌≢◌, ℕ, zero, suc, ◌<◌, true, cond, List, [], ◌∷◌, ◌++◌, Some, ap, ◌∙◌, arith, slice_get}
+use Rattle.std.specs.Prelude.{map, take, drop}
 use Rattle.std.specs.List.{filter}
 use Rattle.std.proofs.lemmas.List.{map-append}
-use Rattle.std.proofs.lemmas.List.Elements.{filter-append, All-cons, All-head, All-nil, All-tail, All-weaker}
-use Rattle.std.proofs.lemmas.Bool.Decides.{nat_tests}
+use Rattle.std.proofs.lemmas.List.Elements.{filter-append, All-cons, All-head, All-nil, All-weaker}
 use Rattle.window_model.specs.declared.Entry.{Entry}
-use Rattle.window_model.specs.Order.{is_load, is_store}
+use Rattle.window_model.specs.Order.{is_store}
 use Rattle.window_model.specs.Serials.{Rise}
 use Rattle.window_model.proofs.Serials.{all_right, rise_head, rise_tail}
-use Rattle.queue_laws.specs.Window.{Others, Shown, loads_in, shown_entry, stores_in}
+use Rattle.queue_laws.specs.Window.{Others, shown_entry, stores_in}
 
 pub stores_around : (old : List Entry) (e : Entry) (young : List Entry) → stores_in (old ++ e ∷ young) ≡ stores_in old ++ (stores_in (e ∷ []) ++ stores_in young)
 stores_around old e young =

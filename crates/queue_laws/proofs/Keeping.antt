@@ -1,22 +1,17 @@
 -- The stores with some serials are those of the entries with them, and there are as many as the window has.
-use Rattle.std.proofs.Common.{◌≡◌, ◌≢◌, ◌<◌, ◌≤◌, ℕ, Bool, true, false, cond, not, List, [], ◌∷◌, ◌++◌, refl, ap, sym, ◌∙◌, arith, append-nil}
-use Rattle.std.specs.Prelude.{map, reverse, nat_lt, ◌==◌}
+use Rattle.std.proofs.Common.{◌≡◌, ◌<◌, ◌≤◌, ℕ, Bool, true, false, cond, List, [], ◌∷◌, ◌++◌, refl, ap, sym, ◌∙◌, arith, append-nil, length}
+use Rattle.std.specs.Prelude.{map, reverse, nat_lt}
 use Rattle.std.specs.List.{filter}
-use Rattle.std.proofs.lemmas.List.{map-append, reverse-append}
+use Rattle.std.proofs.lemmas.List.{map-append, reverse-append, length-map}
 use Rattle.std.proofs.lemmas.List.Elements.{filter-append, All-head, All-tail}
 use Rattle.std.proofs.lemmas.Bool.Decides.{nat_tests}
 use Rattle.window_model.specs.declared.Entry.{Entry}
 use Rattle.window_model.specs.Order.{is_load, is_store}
 use Rattle.lsq.specs.declared.store.Store.{Store}
-use Rattle.queue_laws.specs.Window.{NotOlder, Older, Others, Shown, StoresStandFor, loads_in, shown_entry, shown_store, stores_in}
-use Rattle.queue_laws.specs.Laws.{HoldsOlder}
+use Rattle.queue_laws.specs.Window.{NotOlder, Older, Shown, StoresStandFor, shown_entry, shown_store, stores_in}
+use Rattle.queue_laws.specs.Laws.{HoldsOlder, RoomAsCounted}
 use Rattle.lsq.specs.declared.load.Load.{Load as Queued}
-use Rattle.lsq.specs.Queues.{Queues, cut_at, without}
-use Rattle.queue_laws.specs.Window.{StandFor, serials_of}
-use Rattle.std.proofs.Common.{length}
-use Rattle.std.proofs.lemmas.List.{length-map}
 use Rattle.std.proofs.lemmas.List.Sums.{length-filter}
-use Rattle.queue_laws.specs.Laws.{RoomAsCounted}
 
 -- ---- a filter by serials
 

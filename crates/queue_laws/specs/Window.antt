@@ -4,7 +4,6 @@ use Rattle.std.specs.List.{filter, list_all}
 use Rattle.std.specs.Option.{option_map}
 use Rattle.rv_types.specs.Value.{bytes_in}
 use Rattle.rv_types.specs.declared.Cause.{Cause}
-use Rattle.rv_types.specs.declared.Width.{Width}
 use Rattle.machine_desc.specs.declared.SttModel.{SttModel}
 use Rattle.window_model.specs.declared.Entry.{Entry}
 use Rattle.window_model.specs.Order.{fault_of, has_address, has_data, is_load, is_store}
@@ -15,7 +14,7 @@ use Rattle.lsq.specs.declared.load.Access.{Access}
 use Rattle.lsq.specs.declared.load.Load.{Load}
 use Rattle.lsq.specs.declared.store.Span.{Span}
 use Rattle.lsq.specs.declared.store.Store.{Store}
-use Rattle.lsq.specs.Queues.{Queues, addressed_at, cleared_at, filled_at, issued_at}
+use Rattle.lsq.specs.Queues.{Queues}
 
 -- ---- what queue and window both show of a store
 

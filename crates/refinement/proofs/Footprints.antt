@@ -16,17 +16,15 @@ use Rattle.window_model.specs.declared.Entry.{Entry}
 use Rattle.window_model.specs.declared.Item.{Item}
 use Rattle.refinement.proofs.Columns.{Numbered, Rises}
 use Rattle.refinement.proofs.Each.{each_on}
-use Rattle.refinement.proofs.Lists.{keeps_all, keeps_none, map_id, map_same, map_twice}
+use Rattle.refinement.proofs.Lists.{keeps_all, keeps_none, map_same, map_twice, if_mapped}
 use Rattle.refinement.proofs.Serials.{goes_same}
-use Rattle.refinement.proofs.Waking.{Gives, Wakes, awaited_woken, gives_go, strike_each, woken}
+use Rattle.refinement.proofs.Waking.{Gives, Wakes, awaited_woken, gives_go, strike_each, woken, strike_nothing}
 use Rattle.refinement.proofs.Youngest.{root_without, unretired_in, unretired_out, unretired_roots, unretired_written}
 use Rattle.refinement.specs.Footprint.{Footprint, Found, StoreFootprint, Terms, footprint_by, footprint_of, load_footprint, look_back, store_footprint, unretired_sources, unretired_write, waiter_footprint}
 use Rattle.refinement.specs.Roots.{base_root, root_of_source, unretired, youngest_root}
 use Rattle.refinement.specs.Stations.{GoesOn}
 use Rattle.refinement.specs.Waiters.{Hold, Waiter, awaited, awaited_of, gives_at, write_of}
 use Rattle.refinement.specs.Writers.{writer_of_source}
-use Rattle.refinement.proofs.Lists.{if_mapped}
-use Rattle.refinement.proofs.Waking.{strike_nothing}
 
 -- ---- serials
 

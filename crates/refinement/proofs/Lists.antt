@@ -1,13 +1,11 @@
 -- Lists, mapped, filtered, cut and changed at a place.
 use mathlib.Core.List.{reverse_aux}
-use Rattle.std.proofs.Common.{Bool, List, Some, [], ap, ap₂, arith, cond, drop, false, length, refl, slice_get, subst, suc, sym, take, true, zero, ℕ, ◌++◌, ◌+◌, ◌∙◌, ◌∷◌, ◌≡◌, ◌≤◌}
+use Rattle.std.proofs.Common.{Bool, List, Some, [], ap, ap₂, arith, cond, drop, false, length, refl, slice_get, subst, suc, sym, take, true, zero, ℕ, ◌++◌, ◌∙◌, ◌∷◌, ◌≡◌, ◌≤◌, Option, None}
 use Rattle.std.proofs.lemmas.List.Elements.{All-head, All-tail}
 use Rattle.std.specs.List.{All, AllZip, filter, remove}
-use Rattle.std.specs.Prelude.{map, slice_set}
+use Rattle.std.specs.Prelude.{map, slice_set, is_some, if◌then◌else◌}
 use Rattle.window_model.proofs.EntryByEntry.{zip_same}
 use Rattle.window_model.specs.declared.Entry.{Entry}
-use Rattle.std.proofs.Common.{Option, None}
-use Rattle.std.specs.Prelude.{is_some, if◌then◌else◌}
 use Rattle.std.specs.Option.{option_map}
 
 pub map_same : {X Y : Type 0} (f g : X → Y) (xs : List X) → ((x : X) → f x ≡ g x) → map f xs ≡ map g xs

@@ -24,7 +24,7 @@ use Rattle.window_model.specs.declared.Item.{Item}
 use Rattle.refinement.proofs.Columns.{Numbered, Rises, column_at, column_removed, column_set, noted, noted_at, place, unset}
 use Rattle.refinement.proofs.Each.{each_at, each_set}
 use Rattle.refinement.proofs.Footprints.{footprint_alike, footprint_rise, gives_same, loads_numbered, stores_numbered}
-use Rattle.refinement.proofs.Lists.{map_id, map_remove, map_same, map_twice, zip_set}
+use Rattle.refinement.proofs.Lists.{map_id, map_remove, map_same, map_twice, zip_set, unknown}
 use Rattle.refinement.proofs.Moving.{point_clears, point_issues}
 use Rattle.refinement.proofs.Serials.{all_on, goes_same, oldest_on, rise_on}
 use Rattle.refinement.proofs.Stations.{station_place}
@@ -37,7 +37,6 @@ use Rattle.refinement.specs.Steps.{ClearsAt, IssuesAt, with_cleared, with_issued
 use Rattle.refinement.specs.Waiters.{Hold, Waiter, awaited, gives_at, oldest_of, waiter_in, wants_of}
 use Rattle.refinement.specs.Writers.{writer_of_source}
 use Rattle.refinement.specs.Noted as queues
-use Rattle.refinement.proofs.Lists.{unknown}
 
 -- ---- an entry that gives its value or not as before
 

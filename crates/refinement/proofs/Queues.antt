@@ -6,7 +6,7 @@ use Rattle.std.specs.Option.{option_map}
 use Rattle.std.specs.Prelude.{if◌then◌else◌, nat_le, nat_lt}
 use Rattle.lsq.specs.Queues.{older}
 use Rattle.lsq.specs.declared.store.Store.{Store as QueuedStore}
-use Rattle.queue_laws.specs.Window.{Shown, ShownClearing, ShownLoad, StandFor, Tracks, hides, shown_cleared, shown_clearing, shown_entry, shown_load, shown_reader, tainted_stores}
+use Rattle.queue_laws.specs.Window.{Shown, ShownClearing, ShownLoad, hides, shown_cleared, shown_clearing, shown_entry, shown_load, shown_reader, tainted_stores}
 use Rattle.visibility.specs.Point.{HasAdvanced, Point, is_hidden}
 use Rattle.window_model.proofs.Booleans.{or_false}
 use Rattle.window_model.proofs.EntryByEntry.{along_front}
@@ -18,20 +18,16 @@ use Rattle.window_model.specs.Taint.{address_tainted}
 use Rattle.window_model.specs.declared.Entry.{Entry}
 use Rattle.refinement.proofs.Columns.{filtered}
 use Rattle.refinement.proofs.Footprints.{stores_numbered}
-use Rattle.refinement.proofs.Lists.{halves, map_back, map_same, map_twice}
+use Rattle.refinement.proofs.Lists.{halves, map_back, map_same, map_twice, if_mapped, map_id}
 use Rattle.refinement.proofs.Serials.{below_is}
 use Rattle.refinement.proofs.Steps.{footprints_below}
 use Rattle.refinement.proofs.Visible.{operands_told, told}
 use Rattle.refinement.proofs.Youngest.{Tells, retired_shown, unretired_in}
 use Rattle.refinement.specs.Footprint.{Footprint, StoreFootprint, Terms, column, footprint_of, load_in, store_footprint, store_in}
-use Rattle.refinement.specs.InFlight.{InFlight}
-use Rattle.refinement.specs.Refines.{Refines, footprints, terms}
+use Rattle.refinement.specs.Refines.{footprints, terms}
 use Rattle.refinement.specs.Roots.{base_root, source_roots, unretired}
 use Rattle.refinement.specs.Waiters.{oldest_of}
-use Rattle.refinement.specs.Telling.{QueuesStand}
-use Rattle.refinement.specs.Telling.{QueuesTrack}
-use Rattle.refinement.specs.Telling.{TellsEachStore}
-use Rattle.refinement.proofs.Lists.{if_mapped, map_id}
+use Rattle.refinement.specs.Telling.{QueuesStand, QueuesTrack, TellsEachStore}
 
 -- ---- the queues
 

@@ -5,7 +5,7 @@ use Rattle.std.specs.Option.{option_map}
 use Rattle.std.specs.Prelude.{if◌then◌else◌}
 use Rattle.machine_desc.specs.declared.Desc.{Desc}
 use Rattle.rv_types.specs.Regs.{two}
-use Rattle.stations.specs.Stations.{Station, able_as, awaits_none, is_able, nothing_at, ready_part, source_of}
+use Rattle.stations.specs.Stations.{Station, able_as, nothing_at, source_of}
 use Rattle.stations.specs.declared.wants.Part.{Part}
 use Rattle.stations.specs.declared.wants.Wants.{Wants}
 use Rattle.visibility.specs.Point.{HasAdvanced, Point}
@@ -13,7 +13,7 @@ use Rattle.window_model.proofs.Booleans.{or_false}
 use Rattle.window_model.proofs.Serials.{behind_at}
 use Rattle.window_model.specs.Along.{Along, Behind, Fact}
 use Rattle.window_model.specs.Order.{base_of, before_at, is_done, is_load, is_waiting, others_of, sources, writer, writes}
-use Rattle.window_model.specs.Ready.{all_known, gives, holds, is_known, ready}
+use Rattle.window_model.specs.Ready.{all_known, gives, holds, is_known}
 use Rattle.window_model.specs.Taint.{visible}
 use Rattle.window_model.specs.declared.Entry.{Entry}
 use Rattle.refinement.proofs.Stations.{has_station}
@@ -21,14 +21,10 @@ use Rattle.refinement.proofs.Youngest.{Tells, few_reads}
 use Rattle.refinement.specs.InFlight.{InFlight, hold_in}
 use Rattle.refinement.specs.Refines.{Refines}
 use Rattle.refinement.specs.Stations.{station_of}
-use Rattle.refinement.specs.Telling.{has_sources, hold_of, own_of}
+use Rattle.refinement.specs.Telling.{has_sources, hold_of, own_of, TellsReady, TellsAble, TellsPart, MovedBy}
 use Rattle.refinement.specs.Waiters.{Hold, Waiter, awaited, awaited_of, awaits_of, gives_at, waiter_in, wants_of}
 use Rattle.stations.specs.declared.wants.Part.TheVariants as part
 use Rattle.stations.specs.declared.wants.Wants.TheVariants as wants
-use Rattle.refinement.specs.Telling.{TellsReady}
-use Rattle.refinement.specs.Telling.{TellsAble}
-use Rattle.refinement.specs.Telling.{TellsPart}
-use Rattle.refinement.specs.Telling.{MovedBy}
 
 -- an older entry gives its value by what results are held back by where it does by the machine's definition
 abbrev GivesAlike : Desc → Hold → Fact

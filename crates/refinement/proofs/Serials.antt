@@ -3,7 +3,6 @@ use Rattle.std.proofs.Common.{List, Some, [], ap, arith, cond, length, refl, sli
 use Rattle.std.proofs.lemmas.List.Elements.{All-cons, All-head, All-nil, All-tail, All-weaker}
 use Rattle.std.specs.List.{All, AllZip}
 use Rattle.std.specs.Prelude.{nat_lt}
-use Rattle.lsq.specs.Queues.{older}
 use Rattle.rob_ring.specs.Ring.{below}
 use Rattle.window_model.proofs.Booleans.{is_below}
 use Rattle.window_model.proofs.Serials.{all_at, place_of, rise_cons, rise_head, rise_tail, splits}

@@ -28,7 +28,7 @@ pub sources_are : (p : InFlight) (i : ℕ) (e : Entry) (x : Sources) → Refines
 sources_are p i e x s h k =
     let f = oldest_of p.next p.window in
     let there = sym (ap (option_map (unretired_sources f)) k) ∙ sym (slice_get-map (unretired_sources f) p.sources i) ∙ ap (λ xs. slice_get xs i) s.columns.sources
-        ∙ at_each (λ k. k.sources) (footprints p) i (footprint_of (terms p) (before_at p.window i) e) (each_at (footprint_of (terms p)) [] p.window i e h) in
+    ∙ at_each (λ k. k.sources) (footprints p) i (footprint_of (terms p) (before_at p.window i) e) (each_at (footprint_of (terms p)) [] p.window i e h) in
     some_same _ _ there
   where
     some_same : (a b : Sources) → Some a ≡ Some b → a ≡ b

@@ -1,5 +1,5 @@
 -- The stations of the entries that wait.
-use Rattle.std.proofs.Common.{Bool, List, None, Some, [], ap, ap₂, arith, cond, false, length, map, refl, slice_get, suc, sym, take, true, zero, ℕ, ◌++◌, ◌+◌, ◌<◌, ◌∙◌, ◌∷◌, ◌≡◌}
+use Rattle.std.proofs.Common.{Bool, List, None, Some, [], ap, ap₂, arith, cond, false, length, refl, slice_get, suc, sym, take, true, zero, ℕ, ◌++◌, ◌+◌, ◌<◌, ◌∙◌, ◌∷◌, ◌≡◌}
 use Rattle.std.proofs.lemmas.List.{take_more}
 use Rattle.std.proofs.lemmas.Option.{get_or_from_slice_get, slice_get-map, slice_get_within}
 use Rattle.std.specs.List.{cons_option, count_by}
@@ -15,10 +15,8 @@ use Rattle.refinement.specs.Footprint.{Terms, column, footprint_of, look_back, w
 use Rattle.refinement.specs.InFlight.{InFlight, hold_in}
 use Rattle.refinement.specs.Refines.{Refines, footprints, terms}
 use Rattle.refinement.specs.Stations.{station_of}
-use Rattle.refinement.specs.Telling.{CountsStations, StationsOlder, StationsYounger}
+use Rattle.refinement.specs.Telling.{CountsStations, StationsOlder, StationsYounger, HoldsWaiters, HasStation}
 use Rattle.refinement.specs.Waiters.{waiter_in, waiter_of, waiters_from}
-use Rattle.refinement.specs.Telling.{HoldsWaiters}
-use Rattle.refinement.specs.Telling.{HasStation}
 
 -- ---- stations
 

@@ -28,13 +28,13 @@ use Rattle.window_model.specs.declared.Progress.TheVariants.{Done}
 use Rattle.refinement.proofs.Columns.{aside, column_mapped, dropped, filtered, items_have, pushed, pushed_if, taken, viewed}
 use Rattle.refinement.proofs.Each.{each_join, each_take}
 use Rattle.refinement.proofs.Footprints.{first_shown, footprint_fail, footprint_have, footprint_pass, footprint_unretired, footprints_without, footprints_woken, gives_same, loads_numbered, stores_numbered, unretired_store, waiters_numbered, wake, write_shown, writes_numbered}
-use Rattle.refinement.proofs.Lists.{map_same, map_twice, take_first, zip_set}
+use Rattle.refinement.proofs.Lists.{map_same, map_twice, take_first, zip_set, unknown}
 use Rattle.refinement.proofs.Moving.{point_advances, point_completes, point_moves_on, point_opens, point_renames, point_resolves, point_retires, point_squashes, point_stops}
 use Rattle.refinement.proofs.Serials.{all_on, oldest_above, oldest_below, oldest_first, oldest_least, oldest_on, oldest_push, rise_on}
 use Rattle.refinement.proofs.Table.{names_root, names_writer}
 use Rattle.refinement.proofs.Waking.{Wakes, given, held_woken, struck_given, wakes_done, wakes_moved, woken}
 use Rattle.refinement.proofs.Writers.{writer_place}
-use Rattle.refinement.proofs.Youngest.{unretired_all_twice, unretired_in}
+use Rattle.refinement.proofs.Youngest.{unretired_all_twice, unretired_in, unretired_twice}
 use Rattle.refinement.specs.Footprint.{Footprint, StoreFootprint, Terms, column, footprint_of, load_footprint, load_in, look_back, store_footprint, store_in, unretired_sources, unretired_write, waiter_footprint}
 use Rattle.refinement.specs.InFlight.{InFlight, hold_in}
 use Rattle.refinement.specs.Points.{PointStands}
@@ -45,8 +45,6 @@ use Rattle.refinement.specs.Steps.{CompletesAt, DropsFrom, OpensEmpty, PointMove
 use Rattle.refinement.specs.Telling.{source_by}
 use Rattle.refinement.specs.Waiters.{Hold, Waiter, gives_at, oldest_of, waiter_in, wants_of, write_of}
 use Rattle.refinement.specs.Writers.{named, serial_in, source_writers, writer_of_source}
-use Rattle.refinement.proofs.Lists.{unknown}
-use Rattle.refinement.proofs.Youngest.{unretired_twice}
 
 pub stands_empty : OpensEmpty
 stands_empty d = record {
@@ -291,9 +289,9 @@ holds_without t next p x es r b gives s =
     let self : (n == n) ≡ true = grind (arith, nat_tests) in
     let cut : filter (λ (k : Footprint). not (k.serial == n)) (k ∷ rest) ≡ rest = head_gone (λ m. not (m == n)) (ap not self) (All-weaker (λ d. n < d.serial) (λ d. not (d.serial == n) ≡ true) (λ d lt. other d.serial lt) es young) in
     let older : filter (λ (k : Footprint). nat_lt n k.serial) (k ∷ rest) ≡ rest =
-        head_gone (λ m. nat_lt n m) (above_test n n (omega arith)) (All-weaker (λ d. n < d.serial) (λ d. nat_lt n d.serial ≡ true) (λ d lt. is_below n d.serial lt) es young) in
+    head_gone (λ m. nat_lt n m) (above_test n n (omega arith)) (All-weaker (λ d. n < d.serial) (λ d. nat_lt n d.serial ≡ true) (λ d lt. is_below n d.serial lt) es young) in
     let have = items_have (unretired_write n) (λ k. k.write) (λ (w : Write). w.serial) (λ (w : Write). w.serial) (λ w. refl) (λ m. n ≤ m) p.writes (k ∷ rest) (writes_numbered t [] (x ∷ es))
-        (footprint_have t (λ m. n ≤ m) [] (x ∷ es) (All-cons (λ d. n ≤ d.serial) x es (omega arith) (All-weaker (λ d. n < d.serial) (λ d. n ≤ d.serial) (λ d lt. omega (arith, lt)) es young))) s.writes in
+    (footprint_have t (λ m. n ≤ m) [] (x ∷ es) (All-cons (λ d. n ≤ d.serial) x es (omega arith) (All-weaker (λ d. n < d.serial) (λ d. n ≤ d.serial) (λ d lt. omega (arith, lt)) es young))) s.writes in
     subst (Columns t g (parts_without n p)) (sym (footprints_without t g x es (oldest_least next es (rise_tail x es r)) above gives))
     (holds_aged t n g (parts_without n p) rest (omega (arith, above)) (record {
       sources = dropped (unretired_sources n) (λ k. k.sources) p.sources k rest s.sources;

@@ -10,20 +10,13 @@ use Rattle.rv_types.specs.Regs.{writes_of}
 use Rattle.window_model.specs.Order.{each_from, is_register, sources, writer}
 use Rattle.window_model.specs.declared.Entry.{Entry}
 use Rattle.refinement.proofs.Lists.{map_back}
-use Rattle.refinement.proofs.Writers.{found}
+use Rattle.refinement.proofs.Writers.{found, within}
 use Rattle.refinement.proofs.Youngest.{written_by}
 use Rattle.refinement.specs.Footprint.{Terms, column, footprint_of, unretired_write}
-use Rattle.refinement.specs.InFlight.{InFlight, hold_in}
-use Rattle.refinement.specs.Refines.{Refines}
+use Rattle.refinement.specs.InFlight.{hold_in}
 use Rattle.refinement.specs.Roots.{source_roots, unretired, youngest_root}
-use Rattle.refinement.specs.Telling.{entry_of, source_by}
-use Rattle.refinement.specs.Waiters.{awaited, awaited_of, oldest_of, write_of}
-use Rattle.refinement.specs.Telling.{NamesWriter}
-use Rattle.refinement.specs.Telling.{NamesRoot}
-use Rattle.refinement.specs.Telling.{FindsWriter}
-use Rattle.refinement.specs.Telling.{FindsAwaited}
-use Rattle.refinement.specs.Telling.{NamesEntry}
-use Rattle.refinement.proofs.Writers.{within}
+use Rattle.refinement.specs.Telling.{entry_of, source_by, NamesWriter, NamesRoot, FindsWriter, FindsAwaited, NamesEntry}
+use Rattle.refinement.specs.Waiters.{awaited_of, oldest_of, write_of}
 
 -- the writes of entries that are looked back on
 abbrev writes_behind : List Entry → List Write

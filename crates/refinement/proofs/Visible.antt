@@ -1,41 +1,28 @@
 -- What a point that has moved over the window tells: who is visible, and by roots what is tainted.
 use mathlib.Core.List.{reverse_aux}
-use Rattle.std.proofs.Common.{List, Option, Some, [], ap, ap₂, arith, false, length, refl, slice_get, subst, suc, sym, take, zero, ℕ, ◌<◌, ◌||◌, ◌∙◌, ◌∷◌, ◌≡◌, ◌≤◌}
+use Rattle.std.proofs.Common.{List, Option, Some, [], ap, ap₂, arith, false, length, refl, slice_get, subst, suc, sym, take, zero, ℕ, ◌<◌, ◌||◌, ◌∙◌, ◌∷◌, ◌≡◌, ◌≤◌, not, ◌&&◌}
 use Rattle.std.proofs.lemmas.List.Elements.{All-cons, All-weaker}
 use Rattle.std.specs.List.{list_any}
-use Rattle.std.specs.Prelude.{map}
-use Rattle.lsq.specs.Queues.{older}
+use Rattle.std.specs.Prelude.{map, reverse}
 use Rattle.rob_ring.specs.declared.beside.Sources.{Sources}
 use Rattle.rv_types.specs.Regs.{two}
 use Rattle.visibility.specs.Point.{HasAdvanced, HasMoved, Point, is_hidden}
-use Rattle.window_model.proofs.Serials.{Falls, behind_at, falls, rise_head}
+use Rattle.window_model.proofs.Serials.{Falls, behind_at, falls, rise_head, behind}
 use Rattle.window_model.specs.Along.{Along, Behind, Fact}
-use Rattle.window_model.specs.Order.{base_of, before_at, sources}
+use Rattle.window_model.specs.Order.{base_of, before_at, sources, is_done, is_load}
 use Rattle.window_model.specs.Serials.{Rise}
 use Rattle.window_model.specs.Taint.{tainted, visible}
 use Rattle.window_model.specs.declared.Entry.{Entry}
 use Rattle.refinement.proofs.Sources.{sources_are}
 use Rattle.refinement.proofs.Youngest.{Tells, few_reads, retired_shown, root_tells}
-use Rattle.refinement.specs.InFlight.{InFlight}
-use Rattle.refinement.specs.Refines.{Refines}
 use Rattle.refinement.specs.Roots.{root_of_source, source_roots, unretired, youngest_root}
-use Rattle.refinement.specs.Telling.{OperandsTold, TellsVisible}
-use Rattle.refinement.specs.Waiters.{oldest_of}
-use Rattle.refinement.specs.Telling.{TellsOperands}
-use Rattle.refinement.specs.Telling.{TellsGiven}
-use Rattle.refinement.specs.Waiters.{gives_at}
-use Rattle.std.proofs.Common.{not, ◌&&◌}
-use Rattle.window_model.specs.Order.{is_done, is_load}
+use Rattle.refinement.specs.Telling.{OperandsTold, TellsVisible, TellsOperands, TellsGiven, TellsTaint}
+use Rattle.refinement.specs.Waiters.{oldest_of, gives_at}
 use Rattle.window_model.specs.Ready.{holds}
-use Rattle.window_model.specs.Taint.{visible}
-use Rattle.refinement.specs.Telling.{TellsTaint}
 use Rattle.refinement.proofs.Room.{counts_writes}
 use Rattle.refinement.proofs.Table.{names_root}
-use Rattle.std.proofs.Common.{false}
-use Rattle.std.specs.Prelude.{reverse}
 use Rattle.rename_taint.specs.declared.Write.{Write}
 use Rattle.rename_taint.specs.Writes.{root_of}
-use Rattle.window_model.proofs.Serials.{behind}
 
 -- what is known where the point has moved: what it tells of each entry, and that all that have retired are visible
 pub record Told (point : Point) (oldest : ℕ) (window : List Entry) : Type 0 where

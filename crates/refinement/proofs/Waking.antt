@@ -14,12 +14,11 @@ use Rattle.window_model.specs.Serials.{Rise}
 use Rattle.window_model.specs.declared.Entry.{Entry}
 use Rattle.window_model.specs.declared.Item.{Item}
 use Rattle.window_model.specs.declared.Progress.TheVariants.{Done}
-use Rattle.refinement.proofs.Lists.{map_same, map_twice}
+use Rattle.refinement.proofs.Lists.{map_same, map_twice, map_id}
 use Rattle.refinement.proofs.Serials.{goes_same}
 use Rattle.refinement.specs.Footprint.{Found, Terms, footprint_by, waiter_footprint}
 use Rattle.refinement.specs.Stations.{GoesOn, MovesOn, released, struck_each, struck_if_given}
 use Rattle.refinement.specs.Waiters.{Hold, Waiter, awaited, awaited_of, gives_at, waiter_in}
-use Rattle.refinement.proofs.Lists.{map_id}
 
 -- ---- serials that are struck
 

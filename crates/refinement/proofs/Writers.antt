@@ -4,7 +4,6 @@ use Rattle.std.proofs.Common.{Bool, List, None, Option, Some, [], ap, ap₂, ari
 use Rattle.std.proofs.lemmas.Bool.Decides.{nat_tests}
 use Rattle.std.proofs.lemmas.List.Elements.{All-weaker}
 use Rattle.std.proofs.lemmas.Option.{slice_get_within}
-use Rattle.std.specs.List.{find}
 use Rattle.std.specs.Option.{option_map}
 use Rattle.std.specs.Prelude.{if◌then◌else◌, map, nat_le, reverse, ◌==◌, ◌⊎◌}
 use Rattle.rob_ring.specs.Ring.{below}
@@ -16,14 +15,11 @@ use Rattle.window_model.specs.Serials.{Rise}
 use Rattle.window_model.specs.declared.Entry.{Entry}
 use Rattle.refinement.proofs.Serials.{oldest_least}
 use Rattle.refinement.proofs.Sources.{sources_are}
-use Rattle.refinement.specs.InFlight.{InFlight}
-use Rattle.refinement.specs.Refines.{Refines}
 use Rattle.refinement.specs.Roots.{unretired}
-use Rattle.refinement.specs.Telling.{entry_of, source_by}
+use Rattle.refinement.specs.Telling.{entry_of, source_by, TellsWriters}
 use Rattle.refinement.specs.Waiters.{oldest_of}
 use Rattle.refinement.specs.Writers.{if_serial, in_flight, writer_of, writer_of_source}
 use Rattle.rename_taint.specs.declared.Source.TheVariants as source
-use Rattle.refinement.specs.Telling.{TellsWriters}
 
 -- a writer stands among these entries, or before them
 pub stands_in : (r : ℕ) (w : Entry) (before es : List Entry) → writer (reverse_aux es before) r ≡ Some w → ((i : ℕ) × (slice_get es i ≡ Some w)) ⊎ (writer before r ≡ Some w)

@@ -1,6 +1,6 @@
 -- What an entry in flight leaves in the parts of a core, its footprint: a function of the entry and the older ones
 -- (docs/architecture.md, "How they stand for it"). `before` is always a list of the older entries, youngest first.
-use Rattle.std.specs.Prelude.{◌≡◌, ℕ, Bool, true, not, ◌&&◌, ◌||◌, List, [], ◌∷◌, is_some, map, Option, Some, None, if◌then◌else◌}
+use Rattle.std.specs.Prelude.{ℕ, Bool, true, not, ◌&&◌, ◌||◌, List, [], ◌∷◌, is_some, map, Option, Some, None, if◌then◌else◌}
 use Rattle.std.specs.List.{cons_option}
 use Rattle.std.specs.Option.{option_map}
 use Rattle.window_model.specs.declared.Entry.{Entry}
@@ -8,14 +8,12 @@ use Rattle.window_model.specs.Order.{has_address, has_data, is_load, is_store, i
 use Rattle.window_model.specs.Retire.{stored_of}
 use Rattle.rename_taint.specs.declared.Write.{Write}
 use Rattle.rob_ring.specs.declared.beside.Sources.{Sources}
-use Rattle.stations.specs.Stations.{Station}
 use Rattle.lsq.specs.declared.load.Load.{Load}
 use Rattle.lsq.specs.declared.store.Span.{Span}
 use Rattle.lsq.specs.declared.store.Store.{Store}
 use Rattle.queue_laws.specs.Window.{Area, ShownLoad, area_in, area_of, reading_of, shown_reader}
-use Rattle.refinement.specs.Roots.{base_root}
+use Rattle.refinement.specs.Roots.{base_root, source_roots, unretired}
 use Rattle.refinement.specs.Waiters.{Hold, Waiter, awaits_of, wants_of, write_of}
-use Rattle.refinement.specs.Roots.{source_roots, unretired}
 use Rattle.refinement.specs.Writers.{source_writers}
 
 -- ---- what an entry looks back on

@@ -1,18 +1,11 @@
 -- What the queues note of an entry as it issues, in parts or whole, and is cleared.
-use Rattle.std.specs.Prelude.{◌≡◌, ◌≢◌, ◌<◌, ◌≤◌, ◌&&◌, ◌||◌, ℕ, Bool, true, false, not, if◌then◌else◌, List, [], ◌∷◌, is_some, map, Option, Some, None, All}
-use Rattle.std.specs.List.{filter, list_all}
-use Rattle.std.specs.Option.{option_map}
+use Rattle.std.specs.Prelude.{◌≡◌, ◌&&◌, ◌||◌, ℕ, Bool, true, false, if◌then◌else◌, List, is_some, map, Option, Some, None}
 use Rattle.rv_types.specs.Value.{bytes_in}
-use Rattle.rv_types.specs.declared.Cause.{Cause}
 use Rattle.rv_types.specs.declared.Width.{Width}
-use Rattle.machine_desc.specs.declared.SttModel.{SttModel}
 use Rattle.window_model.specs.declared.Entry.{Entry}
 use Rattle.window_model.specs.Order.{fault_of, has_address, has_data, is_load, is_store}
 use Rattle.window_model.specs.Retire.{addr_of, stored_of, width_of}
-use Rattle.window_model.specs.Taint.{address_tainted}
-use Rattle.lsq.specs.declared.clearing.StoreInfo.{StoreInfo}
 use Rattle.lsq.specs.declared.load.Access.{Access}
-use Rattle.lsq.specs.declared.load.Load.{Load}
 use Rattle.lsq.specs.declared.store.Span.{Span}
 use Rattle.lsq.specs.declared.store.Store.{Store}
 use Rattle.lsq.specs.Queues.{Queues, addressed_at, cleared_at, filled_at, issued_at}

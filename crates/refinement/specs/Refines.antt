@@ -4,7 +4,6 @@
 -- doesn't touch, are the frame (`unset` and `aside` of proofs/Columns.antt).
 use Rattle.std.specs.Prelude.{◌≡◌, ℕ, ◌<◌, List, map, Some}
 use Rattle.std.specs.List.{All}
-use Rattle.window_model.specs.declared.Entry.{Entry}
 use Rattle.window_model.specs.Order.{each}
 use Rattle.window_model.specs.Serials.{Rise}
 use Rattle.rob_ring.specs.declared.beside.Sources.{Sources}

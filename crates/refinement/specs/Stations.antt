@@ -1,11 +1,10 @@
 -- How entries go on, and what becomes of the stations then (docs/architecture.md, "How they stand for it").
-use Rattle.std.specs.Prelude.{◌≡◌, ℕ, ◌+◌, ◌≤◌, false, not, ◌&&◌, List, [], ◌∷◌, ◌++◌, map, take, Option, if◌then◌else◌}
+use Rattle.std.specs.Prelude.{◌≡◌, ℕ, ◌≤◌, false, not, ◌&&◌, List, [], ◌∷◌, ◌++◌, map, take, Option, if◌then◌else◌}
 use Rattle.std.specs.List.{count_by, filter, remove}
-use Rattle.std.specs.Option.{option_to_list}
 use Rattle.window_model.specs.declared.Entry.{Entry}
 use Rattle.window_model.specs.Order.{is_done, is_waiting}
 use Rattle.stations.specs.Stations.{Station, left_wanting, struck}
-use Rattle.refinement.specs.Waiters.{Hold, gives_at, wants_of, write_of}
+use Rattle.refinement.specs.Waiters.{Hold, gives_at, wants_of}
 
 -- a station more, in some place, where the entry waits
 abbrev pub seated : ℕ → ℕ → List (Option ℕ) → Entry → List Station → List Station

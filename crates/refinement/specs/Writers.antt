@@ -1,10 +1,10 @@
 -- The writers of an entry's sources, by their serials, as they were when the entry was renamed: so a source's value is found without
 -- a search (docs/architecture.md, "How they stand for it").
-use Rattle.std.specs.Prelude.{◌≡◌, ℕ, ◌==◌, List, [], ◌∷◌, length, map, slice_get, Option, Some, None, if◌then◌else◌}
+use Rattle.std.specs.Prelude.{ℕ, ◌==◌, List, length, map, slice_get, Option, Some, None, if◌then◌else◌}
 use Rattle.std.specs.Option.{option_map}
 use Rattle.rv_types.specs.Regs.{two}
 use Rattle.window_model.specs.declared.Entry.{Entry}
-use Rattle.window_model.specs.Order.{before_at, sources, writer}
+use Rattle.window_model.specs.Order.{sources, writer}
 use Rattle.rob_ring.specs.Ring.{below}
 use Rattle.rename_taint.specs.declared.Source.{Source}
 use Rattle.rename_taint.specs.declared.Source.TheVariants as source

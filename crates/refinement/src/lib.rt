@@ -29,6 +29,7 @@ pub fn steps_keep_refinement()
     ensures point { PointMoves }
     ensures stops { PointStops }
 {}
+
 ghost use Rattle.refinement.specs.Telling.{
   CountsRoom,
   CountsStations,
