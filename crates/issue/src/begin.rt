@@ -7,10 +7,11 @@ ghost use Rattle.rob_ring.specs.Issued.{issued_of};
 
 use crate::access::Access;
 use crate::loads::Loaded;
+use crate::operands::Computed;
 use crate::seen::{Place, Seen};
 use rob_ring::Issued;
 use rv_alu::div_time;
-use rv_effect::{Effect, effect};
+use rv_effect::Effect;
 use rv_types::{Cause, Kind};
 use unit_ports::Ports;
 use window_model::{Entry, Event, Outcome, Progress, Row};
@@ -70,20 +71,20 @@ impl<'a> Seen<'a> {
     fn begin_division(
         &self,
         place: &Place,
-        made: &Effect,
-        first: u32,
+        computed: &Computed,
         ports: &mut Ports,
         row: &mut Row,
     ) -> Issued
-        requires effect { seen made.now ≡ effect_here self.now place.now }
-        requires first { first ≡ first_of self.now place.now }
+        requires effect { seen computed.now.effect ≡ effect_here self.now place.now }
+        requires first { computed.now.first ≡ first_of self.now place.now }
         requires room { HasRoom 1 row.old }
         ensures divider { ports.new ≡ record ports.old {
           divider = divider_by true self.now place.now ports.old.divider;
         } }
         ensures comes { Comes (here (begin_as kind.Div) self.now place.now) (Some result) row.old row.new }
     {
-        let time = div_time(place.entry.op(), first);
+        let made = &computed.effect;
+        let time = div_time(place.entry.op(), computed.first);
         let due = self.cycle as u64 + time as u64;
         ports.divide(due, place.entry.serial);
         row.push(Event::Div(place.entry.serial, time));
@@ -127,11 +128,14 @@ impl<'a> Seen<'a> {
     pub(crate) fn begin(
         &self,
         place: &Place,
+        computed: &Computed,
         load: &mut Option<Access>,
         ports: &mut Ports,
         row: &mut Row,
     ) -> Option<Issued>
         requires turn { HasTurn self.now place.now }
+        requires effect { seen computed.now.effect ≡ effect_here self.now place.now }
+        requires first { computed.now.first ≡ first_of self.now place.now }
         requires whole { is_store place.now.entry.now.item.kind ≡ false }
         requires goes { is_load place.now.entry.now.item.kind ≡ true → here goes_behind self.now place.now ≡ true }
         requires room { HasRoom (most_events_of place.now.entry.now.item.kind) row.old }
@@ -142,18 +146,16 @@ impl<'a> Seen<'a> {
           divider = divider_by (is_division place.now.entry.now.item.kind) self.now place.now ports.old.divider;
         } }
     {
-        let operands = self.operands(place);
-        let item = &place.entry.item;
-        let made = effect(item.pc, &item.instr, operands.first, operands.second);
-        match item.kind {
+        let made = &computed.effect;
+        match place.entry.item.kind {
             Kind::Load => {
-                let found = self.load(place, &made);
+                let found = self.load(place, made);
                 *load = Some(found.access);
-                self.begin_load(place, &made, &found, row)
+                self.begin_load(place, made, &found, row)
             }
-            Kind::Div => Some(self.begin_division(place, &made, operands.first, ports, row)),
-            Kind::Mul => Some(self.begin_product(place, &made, row)),
-            _ => Some(self.begin_simple(place, &made, row)),
+            Kind::Div => Some(self.begin_division(place, computed, ports, row)),
+            Kind::Mul => Some(self.begin_product(place, made, row)),
+            _ => Some(self.begin_simple(place, made, row)),
         }
     }
 }

@@ -119,10 +119,14 @@ impl<'a> Seen<'a> {
         requires room { HasRoom (events_left ports.old) row.old }
         ensures { HadTurn self.now place.now ports.old decided.old row.old ports.new decided.new row.new }
     {
-        if !self.is_served(place, ports) {
+        if !self.may_ask(place, ports) {
             return;
         }
-        let after = self.begin(place, &mut decided.load, ports, row);
+        let computed = self.compute(place);
+        if !self.has_besides(place, &computed.effect) {
+            return;
+        }
+        let after = self.begin(place, &computed, &mut decided.load, ports, row);
         let _ = ports.grant(place.entry.item.kind);
         decided.note(place, after);
     }

@@ -2,18 +2,20 @@
 use crate::seen::{Place, Seen};
 use lsq::Pending;
 use rob_ring::{Sources, sources_at};
-use rv_effect::effect;
+use rv_effect::Effect;
 use rv_types::Kind;
 use transmit_gate::may_transmit;
 use unit_ports::Ports;
 
 impl<'a> Seen<'a> {
-    ghost use Rattle.std.specs.Prelude.{◌≡◌, Some, false, slice_get};
-    ghost use Rattle.window_model.specs.MayIssue.{goes_behind, may_issue};
+    ghost use Rattle.std.specs.Prelude.{◌≡◌, ◌&&◌, Some, false, slice_get};
+    ghost use Rattle.rv_effect.specs.Seen.{seen};
+    ghost use Rattle.window_model.specs.MayIssue.{address_of, goes_behind};
     ghost use Rattle.window_model.specs.Order.{is_store};
     ghost use Rattle.issue.specs.Ports.{LeftFor, besides, is_served};
     ghost use Rattle.issue.specs.Pending.{lets_by, passes_here, pending_here};
-    ghost use Rattle.issue.specs.State.{HasTurn, here};
+    ghost use Rattle.issue.specs.State.{HasTurn, before_of, here};
+    ghost use Rattle.issue.specs.Turns.{effect_here};
 
     /// What stands of the entry's sources at its position: their youngest roots, and the serials of their writers.
     pub(crate) fn sources_of(&self, place: &Place) -> Sources
@@ -23,10 +25,11 @@ impl<'a> Seen<'a> {
         *sources_at(self.sources, place.position)
     }
 
-    // Whether the older stores let a load go: each has both its parts; or in version 2 each has its address, unless the
-    // load passes stores, and each without data an untainted one that covers none of the load's bytes.
-    fn goes(&self, place: &Place) -> bool
+    // Whether the older stores let a load go that has this effect: each has both its parts; or in version 2 each has its
+    // address, unless the load passes stores, and each without data an untainted one that covers none of the load's bytes.
+    fn goes(&self, place: &Place, made: &Effect) -> bool
         requires turn { HasTurn self.now place.now }
+        requires effect { seen made.now ≡ effect_here self.now place.now }
         ensures { result ≡ here goes_behind self.now place.now }
     {
         if self.lsq.all_older_known(place.entry.serial) {
@@ -35,7 +38,7 @@ impl<'a> Seen<'a> {
         if self.desc.version == 1 {
             return false;
         }
-        self.is_let(self.passes(place), &self.pending(place))
+        self.is_let(self.passes(place), &self.pending(place, made.addr))
     }
 
     // Whether a load passes stores of unknown address: there are bits of dependence, and its own isn't set.
@@ -53,54 +56,45 @@ impl<'a> Seen<'a> {
         (passes || !pending.address) && !pending.overlap && !self.point.tainted(pending.root)
     }
 
-    // What a load waits for in the older stores, by its address: its base alone decides it.
-    fn pending(&self, place: &Place) -> Pending
-        requires turn { HasTurn self.now place.now }
+    // What a load waits for in the older stores, by its address.
+    fn pending(&self, place: &Place, addr: u32) -> Pending
+        requires address { addr ≡ address_of self.now.regs.now (before_of self.now place.now) place.now.entry.now }
         ensures { result ≡ pending_here self.now place.now }
     {
-        let item = &place.entry.item;
-        let first = self.operands(place).first;
-        let addr = effect(item.pc, &item.instr, first, 0).addr;
         let fault = self.ram.load_fault(addr, place.entry.bytes());
         self.lsq
             .pending(place.entry.serial, addr, place.entry.width(), fault)
     }
 
-    // What an entry asks for besides untainted operands: a load older stores that let it go, a division a free divider.
-    fn has_besides(&self, place: &Place) -> bool
+    /// Whether an entry with this effect has what it asks for besides untainted operands: a load older stores that let
+    /// it go, a division a free divider.
+    pub(crate) fn has_besides(&self, place: &Place, made: &Effect) -> bool
         requires turn { HasTurn self.now place.now }
+        requires effect { seen made.now ≡ effect_here self.now place.now }
         ensures { result ≡ besides self.now place.now }
     {
         match place.entry.item.kind {
-            Kind::Load => self.goes(place),
+            Kind::Load => self.goes(place, made),
             Kind::Div => self.free_from <= self.cycle as u64,
             _ => true,
         }
     }
 
-    // Whether the entry, which is no store, may issue.
-    fn may_issue(&self, place: &Place) -> bool
-        requires turn { HasTurn self.now place.now }
-        requires whole { is_store place.now.entry.now.item.kind ≡ false }
-        ensures { result ≡ here may_issue self.now place.now }
-    {
-        let roots = self.sources_of(place).roots;
-        if !may_transmit(place.entry.item.kind, roots, self.point) {
-            return false;
-        }
-        self.has_besides(place)
-    }
-
-    /// Whether the entry, which is no store, is granted a port: one of its kind is left, and it may issue.
-    pub(crate) fn is_served(&self, place: &Place, ports: &Ports) -> bool
+    /// Whether the entry, which is no store, may ask for its port: one is left, and no tainted operand holds it back. It
+    /// is served then where it has what it asks for besides.
+    pub(crate) fn may_ask(&self, place: &Place, ports: &Ports) -> bool
         requires turn { HasTurn self.now place.now }
         requires whole { is_store place.now.entry.now.item.kind ≡ false }
         requires left { LeftFor self.now place.now ports.now }
-        ensures { result ≡ is_served self.now place.now }
+        ensures { is_served self.now place.now ≡ (result && besides self.now place.now) }
     {
         if !ports.has(place.entry.item.kind) {
             return false;
         }
-        self.may_issue(place)
+        may_transmit(
+            place.entry.item.kind,
+            self.sources_of(place).roots,
+            self.point,
+        )
     }
 }

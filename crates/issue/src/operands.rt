@@ -11,6 +11,7 @@ ghost use Rattle.issue.specs.Operands.{value_by};
 
 use crate::seen::{Place, Seen};
 use rob_ring::RobRing;
+use rv_effect::{Effect, effect};
 use rv_types::{REGISTERS, Reg, reads_of};
 
 // The value of the entry with this serial, if it is in flight; else this one.
@@ -60,14 +61,25 @@ pub(crate) struct Operands {
     pub(crate) second: u32,
 }
 
+/// What an entry's instruction makes of its operands, computed once in its turn.
+#[derive(Clone, Copy, Debug, PartialEq, Eq)]
+pub(crate) struct Computed {
+    /// The first operand.
+    pub(crate) first: u32,
+    /// What the instruction makes of both.
+    pub(crate) effect: Effect,
+}
+
 impl<'a> Seen<'a> {
     ghost use Rattle.std.specs.Prelude.{◌≡◌};
+    ghost use Rattle.rv_effect.specs.Seen.{seen};
     ghost use Rattle.issue.specs.Operands.{first_of, second_of};
     ghost use Rattle.issue.specs.State.{HasTurn};
+    ghost use Rattle.issue.specs.Turns.{effect_here};
 
-    /// The values of the entry's sources.
+    // The values of the entry's sources.
     #[inline(always)]
-    pub(crate) fn operands(&self, place: &Place) -> Operands
+    fn operands(&self, place: &Place) -> Operands
         requires turn { HasTurn self.now place.now }
         ensures first { result.first ≡ first_of self.now place.now }
         ensures second { result.second ≡ second_of self.now place.now }
@@ -77,6 +89,21 @@ impl<'a> Seen<'a> {
         Operands {
             first: source_value(self.rob, self.regs, first, writers[0]),
             second: source_value(self.rob, self.regs, second, writers[1]),
+        }
+    }
+
+    /// What the entry's instruction makes of the values of its sources.
+    #[inline(always)]
+    pub(crate) fn compute(&self, place: &Place) -> Computed
+        requires turn { HasTurn self.now place.now }
+        ensures first { result.first ≡ first_of self.now place.now }
+        ensures effect { seen result.effect ≡ effect_here self.now place.now }
+    {
+        let operands = self.operands(place);
+        let item = &place.entry.item;
+        Computed {
+            first: operands.first,
+            effect: effect(item.pc, &item.instr, operands.first, operands.second),
         }
     }
 }

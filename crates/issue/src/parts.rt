@@ -7,7 +7,7 @@ ghost use Rattle.issue.specs.Ports.{has_issued};
 use crate::decide::Decided;
 use crate::seen::{Place, Seen};
 use rob_ring::Issued;
-use rv_effect::{Effect, effect};
+use rv_effect::Effect;
 use stations::Part;
 use unit_ports::Ports;
 use window_model::{Entry, Event, Outcome, Progress, Row};
@@ -171,9 +171,7 @@ impl<'a> Seen<'a> {
         requires room { HasRoom (one_if address + one_if stored) row.old }
         ensures { Goes (parts_by address stored self.now place.now) result row.old row.new }
     {
-        let operands = self.operands(place);
-        let item = &place.entry.item;
-        let made = effect(item.pc, &item.instr, operands.first, operands.second);
+        let made = self.compute(place).effect;
         let mut issued = issued_of(place.entry);
         if address {
             self.issue_address(place.entry, &mut issued, &made, row);

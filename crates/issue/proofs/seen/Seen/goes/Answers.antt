@@ -1,11 +1,12 @@
 use Rattle.std.proofs.Common.{◌∙◌, ap, ap₂, sym}
 use Rattle.std.specs.Prelude.{◌==◌}
+use Rattle.rv_types.specs.Isa.{Effect}
 use Rattle.rv_types.specs.Memory.{load_fault}
 use Rattle.window_model.specs.MayIssue.{address_of}
 use Rattle.window_model.specs.Retire.{width_of}
 use Rattle.issue.specs.Pending.{lets_by, passes_here}
 use Rattle.issue.specs.State.{before_of}
-use Rattle.issue.proofs.Behind.{goes_is, goes_known, goes_not}
+use Rattle.issue.proofs.Behind.{address_is, goes_is, goes_known, goes_not}
 use Rattle.issue.proofs.Bytes.{let_is}
 use Rattle.issue.proofs.seen.Seen.goes.Goals as goal
 
@@ -18,6 +19,9 @@ pub returns-then-self-eq1 : goal.returns-then-self-eq1
 returns-then-self-eq1 c =
     let t = c.requires.turn in
     sym (goes_not c.args.self.now _ _ t.stands t.at (ap (λ v. v == 1) c.if-self-eq1.true) (sym c.all_older_known.ensures ∙ c.if-all_older_known.false))
+
+pub pending-requires : goal.pending-requires
+pending-requires c = record { address = ap (λ (f : Effect). f.addr) c.requires.effect ∙ address_is c.args.self.now.regs.now (before_of c.args.self.now c.args.place.now) c.args.place.now.entry.now }
 
 pub returns : goal.returns
 returns c =
