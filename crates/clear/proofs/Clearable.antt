@@ -14,15 +14,14 @@ use Rattle.window_model.proofs.Serials.{Falls}
 use Rattle.lsq.specs.declared.store.Store.{Store}
 use Rattle.queue_laws.specs.Window.{area_in, area_of}
 use Rattle.visibility.specs.Point.{HasAdvanced, Point, is_hidden}
-use Rattle.refinement.specs.Addresses.{base_root}
-use Rattle.refinement.specs.Waiters.{oldest_of}
-use Rattle.refinement.specs.Roots.{source_roots}
-use Rattle.refinement.proofs.OldAnswering.{told}
+use Rattle.refinement.proofs.Queues.{base_hidden}
+use Rattle.refinement.proofs.Visible.{told}
 use Rattle.refinement.proofs.Youngest.{Tells, retired_shown}
+use Rattle.refinement.specs.Footprint.{StoreFootprint, Terms, column, footprint_of, store_footprint, store_in}
 use Rattle.refinement.specs.InFlight.{InFlight}
-use Rattle.refinement.specs.Footprint.{StoreFootprint, Terms, footprint_of, column, store_footprint, store_in}
 use Rattle.refinement.specs.Refines.{Refines, terms}
-use Rattle.refinement.proofs.Answering.{base_hidden}
+use Rattle.refinement.specs.Roots.{base_root, source_roots}
+use Rattle.refinement.specs.Waiters.{oldest_of}
 use Rattle.clear.specs.Clearable.{FindsClearable, can_clear}
 
 -- the same three tests, in another order

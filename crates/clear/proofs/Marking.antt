@@ -15,14 +15,15 @@ use Rattle.window_model.proofs.Clearing.{cleared_goes}
 use Rattle.rob_ring.specs.Ring.{Ring}
 use Rattle.lsq.specs.Clearing.{violated_by as violated_in}
 use Rattle.lsq.specs.Queues.{Queues, cleared_at}
-use Rattle.queue_laws.specs.Window.{StandFor, Tracks, cleared_in}
+use Rattle.queue_laws.specs.Window.{StandFor, Tracks}
+use Rattle.refinement.specs.Noted.{cleared_in}
 use Rattle.queue_laws.proofs.Violating.{violates}
 use Rattle.core_parts.specs.Described.{Described}
 use Rattle.core_parts.specs.Dropped.{StopsBelow}
 use Rattle.core_parts.specs.Held.{Held, Whole, described, in_flight, machine_of}
 use Rattle.core_parts.proofs.Sizes.{sized_set}
-use Rattle.refinement.proofs.Answering.{queues_stand, queues_track}
 use Rattle.refinement.proofs.Noting.{stands_cleared}
+use Rattle.refinement.proofs.Queues.{queues_stand, queues_track}
 use Rattle.refinement.proofs.Steps.{stops_at}
 use Rattle.core_parts.proofs.Whole.{shown_by}
 use Rattle.clear.specs.Cleared.{clearing, violated, with_cleared}

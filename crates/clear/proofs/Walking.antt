@@ -16,11 +16,11 @@ use Rattle.lsq.specs.declared.store.Store.{Store}
 use Rattle.visibility.specs.Point.{HasAdvanced}
 use Rattle.core_parts.specs.Described.{Described}
 use Rattle.core_parts.specs.Held.{Held, Sizes, Whole, described, in_flight}
-use Rattle.refinement.proofs.Answering.{queues_stand}
+use Rattle.refinement.proofs.Queues.{queues_stand}
 use Rattle.clear.specs.Cleared.{clearing}
 use Rattle.clear.specs.Clearable.{can_clear, may_clear_by}
 use Rattle.clear.proofs.Clearable.{finds_clearable}
-use Rattle.queue_laws.proofs.Renaming.{room_is}
+use Rattle.queue_laws.proofs.Keeping.{room_is}
 use Rattle.clear.proofs.Effects.{none_is}
 
 -- ---- the walk over the stores

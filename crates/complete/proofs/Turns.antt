@@ -15,7 +15,7 @@ use Rattle.window_model.specs.Row.{Row}
 use Rattle.rob_ring.specs.Ring.{IsNext, in_execution, is_busy}
 use Rattle.window_model.proofs.Booleans.{some_of}
 use Rattle.rob_ring.proofs.Gaps.{to_end, to_next}
-use Rattle.refinement.proofs.Standing.{halves}
+use Rattle.refinement.proofs.Lists.{halves}
 use Rattle.core_parts.specs.Described.{Described}
 
 -- the entry, once it is Done

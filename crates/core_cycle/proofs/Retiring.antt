@@ -22,7 +22,7 @@ use Rattle.rename_taint.specs.declared.Write.{Write}
 use Rattle.lsq.specs.Queues.{Queues, without}
 use Rattle.visibility.specs.Point.{HasAdvanced}
 use Rattle.cache_tags.specs.Sets.{Cache}
-use Rattle.refinement.proofs.Standing.{take_length}
+use Rattle.refinement.proofs.Lists.{take_length}
 use Rattle.retire.specs.Parts as retiring
 use Rattle.retire.specs.Parts.{TakesStore}
 use Rattle.retire.specs.Gone.{MayRetire, gone, popped, without_each}

@@ -9,19 +9,21 @@ use Rattle.queue_laws.specs.Window.{StandFor, Tracks}
 use Rattle.window_model.specs.Dependence.{passing}
 use Rattle.window_model.specs.Order.{each_from, is_store}
 use Rattle.visibility.specs.Point.{Point, HasAdvanced}
-use Rattle.refinement.proofs.OldAnswering.{tells_visible}
-use Rattle.refinement.proofs.Youngest.{map_twice}
-use Rattle.refinement.specs.Footprint.{StoreFootprint, Terms, footprint_of, column, store_footprint, store_in}
-use Rattle.refinement.specs.Refines.{terms}
-use Rattle.refinement.proofs.Answering.{counts_sources, holds_waiting, queues_stand, queues_track, sources_are}
-use Rattle.refinement.proofs.Ready.{MovedBy, tells_part, tells_ready}
+use Rattle.refinement.proofs.Lists.{map_twice}
+use Rattle.refinement.proofs.Queues.{queues_stand, queues_track}
+use Rattle.refinement.proofs.Ready.{tells_part, tells_ready}
+use Rattle.refinement.proofs.Room.{counts_sources}
+use Rattle.refinement.proofs.Sources.{sources_are}
+use Rattle.refinement.proofs.Stations.{holds_waiting}
 use Rattle.refinement.proofs.Table.{names_root, names_writer}
+use Rattle.refinement.proofs.Visible.{tells_visible}
+use Rattle.refinement.specs.Footprint.{StoreFootprint, Terms, column, footprint_of, store_footprint, store_in}
+use Rattle.refinement.specs.Refines.{terms}
+use Rattle.refinement.specs.Roots.{base_root, source_roots, unretired}
+use Rattle.refinement.specs.Telling.{MovedBy, hold_of}
+use Rattle.refinement.specs.Waiters.{oldest_of}
 use Rattle.std.specs.List.{cons_option}
 use Rattle.rob_ring.specs.declared.beside.Sources.{Sources}
-use Rattle.refinement.specs.Addresses.{base_root}
-use Rattle.refinement.specs.Waiters.{oldest_of}
-use Rattle.refinement.specs.Roots.{source_roots, unretired}
-use Rattle.refinement.specs.Telling.{hold_of}
 use Rattle.core_parts.specs.Described.{Described}
 use Rattle.core_parts.specs.Held.{Held, Sizes, Whole, described, in_flight}
 use Rattle.core_parts.specs.Lent.{HasAddressRoots, HasRoots, HoldsWaiting, NamesRoots, NamesWriters, ShowsOlder, TellsPart, TellsReady, TellsVisible, address_roots}

@@ -13,11 +13,10 @@ use Rattle.stations.specs.Stations.{Stations, awaits_none, ready_part}
 use Rattle.stations.specs.declared.wants.Part.{Part}
 use Rattle.lsq.specs.declared.store.Store.{Store}
 use Rattle.visibility.specs.Point.{Point}
-use Rattle.refinement.specs.Addresses.{base_root}
-use Rattle.refinement.specs.Roots.{source_roots, unretired, youngest_root}
-use Rattle.refinement.specs.Waiters.{Hold, oldest_of, waiter_in, waiters_from}
+use Rattle.refinement.specs.Roots.{base_root, source_roots, unretired, youngest_root}
 use Rattle.refinement.specs.Stations.{station_of}
 use Rattle.refinement.specs.Telling.{own_of, source_by}
+use Rattle.refinement.specs.Waiters.{Hold, oldest_of, waiter_in, waiters_from}
 
 -- the table names the writer that each register has for an entry behind the window
 abbrev pub NamesWriters : List Write → List Entry → Type 0

@@ -27,8 +27,8 @@ use Rattle.queue_laws.proofs.Telling.{bytes_are, covered_is}
 use Rattle.visibility.specs.Point.{is_hidden}
 use Rattle.window_model.specs.Serials.{Rise}
 use Rattle.window_model.proofs.Serials.{splits}
-use Rattle.refinement.proofs.Addressing.{below_is, hides_root}
-use Rattle.refinement.proofs.Answering.{queues_stand, tells_each_store}
+use Rattle.refinement.proofs.Queues.{hides_root, queues_stand, tells_each_store}
+use Rattle.refinement.proofs.Serials.{below_is}
 use Rattle.issue.specs.declared.seen.Seen.{Seen}
 use Rattle.issue.specs.State.{Stands, StandsAt, flight_of}
 

@@ -17,12 +17,12 @@ use Rattle.window_model.specs.Issue.{issue, issue_entry, taken_for, waits}
 use Rattle.window_model.proofs.Booleans.{neither}
 use Rattle.machine_facts.specs.Sized.{HasParts, Together}
 use Rattle.stations.specs.Stations.{Station, is_able}
+use Rattle.refinement.proofs.Ready.{tells_able}
 use Rattle.refinement.specs.InFlight.{InFlight}
 use Rattle.refinement.specs.Refines.{Refines}
-use Rattle.refinement.specs.Telling.{has_sources}
-use Rattle.refinement.specs.Waiters.{wants_of}
 use Rattle.refinement.specs.Stations.{station_of}
-use Rattle.refinement.proofs.Ready.{MovedBy, tells_able}
+use Rattle.refinement.specs.Telling.{MovedBy, has_sources}
+use Rattle.refinement.specs.Waiters.{wants_of}
 use Rattle.visibility.specs.Point.{HasAdvanced}
 use Rattle.core_parts.specs.Described.{Described}
 use Rattle.core_parts.specs.Held.{Held, Sizes, Whole, described, in_flight, machine_of}

@@ -14,18 +14,17 @@ use Rattle.window_model.specs.Order.{is_waiting}
 use Rattle.window_model.specs.Retire.{width_of}
 use Rattle.lsq.specs.Queues.{Queues, issued_at}
 use Rattle.lsq.specs.declared.load.Load.{Load}
-use Rattle.queue_laws.specs.Window.{access_in, has_read, noted}
+use Rattle.refinement.specs.Noted.{access_in, has_read, noted}
 use Rattle.machine_desc.specs.declared.SttModel.TheVariants.{Futuristic}
 use Rattle.rob_ring.specs.Issued.{with_issued}
 use Rattle.rob_ring.specs.Ring.{Ring, is_unsafe}
 use Rattle.stations.specs.Stations.{Station, Stations}
+use Rattle.refinement.proofs.Moving.{passes_issued}
+use Rattle.refinement.proofs.Noting.{stands_issued}
+use Rattle.refinement.proofs.Stations.{station_within as held_within, stations_older}
 use Rattle.refinement.specs.InFlight.{InFlight}
 use Rattle.refinement.specs.Refines.{Refines}
 use Rattle.refinement.specs.Stations.{left_held}
-use Rattle.refinement.proofs.OldAnswering.{stations_older}
-use Rattle.refinement.proofs.Noting.{stands_issued}
-use Rattle.refinement.proofs.Ready.{station_within as held_within}
-use Rattle.refinement.proofs.Moving.{passes_issued}
 use Rattle.window_model.proofs.Serials.{all_at, all_left, all_right}
 use Rattle.issue.specs.declared.decide.Put.{Put}
 use Rattle.issue.specs.Puts.{ArePuts, IsPut, known_in, placed, width_for}

@@ -25,12 +25,12 @@ use Rattle.unit_ports.specs.Ports.{Ports, left_at, port_for, taken_at}
 use Rattle.unit_ports.specs.Laws.{LeftAfter, asked, if_asked}
 use Rattle.unit_ports.proofs.Granting.{granted_is, left_more}
 use Rattle.visibility.specs.Point.{Point}
+use Rattle.refinement.proofs.Ready.{tells_able, tells_part}
+use Rattle.refinement.proofs.Visible.{tells_operands}
 use Rattle.refinement.specs.InFlight.{InFlight}
 use Rattle.refinement.specs.Stations.{station_of}
+use Rattle.refinement.specs.Telling.{MovedBy, OperandsTold, has_sources, own_of}
 use Rattle.refinement.specs.Waiters.{wants_of}
-use Rattle.refinement.specs.Telling.{OperandsTold, has_sources, own_of}
-use Rattle.refinement.proofs.Answering.{tells_operands}
-use Rattle.refinement.proofs.Ready.{MovedBy, tells_able, tells_part}
 use Rattle.issue.specs.declared.seen.Seen.{Seen}
 use Rattle.issue.specs.Ports.{OnlyPorts, events_left, left_in_all, most_events_of}
 use Rattle.issue.specs.State.{Stands, StandsAt, around_of, flight_of}

@@ -12,12 +12,12 @@ use Rattle.window_model.specs.Order.{is_waiting}
 use Rattle.window_model.proofs.Counts.{count, count_is}
 use Rattle.rob_ring.specs.Ring.{below}
 use Rattle.stations.specs.Stations.{Station}
+use Rattle.refinement.proofs.Room.{counts_held}
+use Rattle.refinement.proofs.Stations.{counts_stations, has_station}
 use Rattle.refinement.specs.InFlight.{InFlight}
 use Rattle.refinement.specs.Refines.{Refines}
-use Rattle.refinement.specs.Waiters.{Waiter, waiter_in}
 use Rattle.refinement.specs.Stations.{station_of}
-use Rattle.refinement.proofs.Answering.{counts_held, has_station}
-use Rattle.refinement.proofs.OldAnswering.{counts_stations}
+use Rattle.refinement.specs.Waiters.{Waiter, waiter_in}
 use Rattle.window_model.proofs.Serials.{all_at, place_of}
 
 -- ---- how many wait before a position

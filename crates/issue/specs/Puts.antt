@@ -9,7 +9,7 @@ use Rattle.window_model.specs.Order.{is_store, is_waiting}
 use Rattle.window_model.specs.Retire.{width_of}
 use Rattle.rob_ring.specs.Issued.{with_issued}
 use Rattle.lsq.specs.Queues.{Queues}
-use Rattle.queue_laws.specs.Window.{PartsGoOn, TracksOn, noted, noted_load}
+use Rattle.refinement.specs.Noted.{PartsGoOn, TracksOn, noted, noted_load}
 use Rattle.refinement.specs.Stations.{Issues, station_of}
 use Rattle.issue.specs.declared.decide.Put.{Put}
 

@@ -3,7 +3,7 @@ ghost use Rattle.std.specs.Prelude.{◌≡◌, ◌<◌, length, true};
 ghost use Rattle.window_model.specs.Dependence.{passing};
 ghost use Rattle.window_model.specs.Order.{has_address, has_data, is_store, is_waiting};
 ghost use Rattle.window_model.specs.Retire.{width_of};
-ghost use Rattle.queue_laws.specs.Window.{noted, noted_load, with_span};
+ghost use Rattle.refinement.specs.Noted.{noted, noted_load, with_span};
 ghost use Rattle.refinement.specs.InFlight.{InFlight};
 ghost use Rattle.refinement.specs.Refines.{Refines};
 ghost use Rattle.refinement.specs.Waiters.{wants_by, wants_of};

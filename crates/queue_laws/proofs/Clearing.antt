@@ -22,10 +22,6 @@ known_is (Some k) = refl
 told_is : (s : Store) → told_of (info_of s) ≡ told_by (shown_cleared s)
 told_is s = ap (λ k. record { serial = s.serial; known = k; cleared = s.cleared }) (known_is s.span)
 
--- of a store that is cleared as an entry is, and known from the same cycle on
-pub told_as : (s : Store) (e : Entry) → shown_cleared s ≡ shown_clearing e → told_of (info_of s) ≡ told_in e
-told_as s e h = told_is s ∙ ap told_by h
-
 told_all : (o : Option Store) → option_map told_of (option_map info_of o) ≡ option_map told_by (option_map shown_cleared o)
 told_all None = refl
 told_all (Some s) = ap Some (told_is s)

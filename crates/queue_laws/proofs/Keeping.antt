@@ -1,18 +1,17 @@
--- The loads and stores with some serials are those of the entries with them.
-use Rattle.std.proofs.Common.{◌≡◌, ◌≢◌, ◌<◌, ◌≤◌, ℕ, Bool, true, false, cond, not, List, [], ◌∷◌, ◌++◌, refl, ap, sym, ◌∙◌, arith, append-nil}
-use Rattle.std.specs.Prelude.{map, reverse, nat_lt, ◌==◌}
+-- The stores with some serials are those of the entries with them, and there are as many as the window has.
+use Rattle.std.proofs.Common.{◌≡◌, ◌<◌, ◌≤◌, ℕ, Bool, true, false, cond, List, [], ◌∷◌, ◌++◌, refl, ap, sym, ◌∙◌, arith, append-nil, length}
+use Rattle.std.specs.Prelude.{map, reverse, nat_lt}
 use Rattle.std.specs.List.{filter}
-use Rattle.std.proofs.lemmas.List.{map-append, reverse-append}
+use Rattle.std.proofs.lemmas.List.{map-append, reverse-append, length-map}
 use Rattle.std.proofs.lemmas.List.Elements.{filter-append, All-head, All-tail}
 use Rattle.std.proofs.lemmas.Bool.Decides.{nat_tests}
 use Rattle.window_model.specs.declared.Entry.{Entry}
 use Rattle.window_model.specs.Order.{is_load, is_store}
 use Rattle.lsq.specs.declared.store.Store.{Store}
-use Rattle.queue_laws.specs.Window.{NotOlder, Older, Others, Shown, StoresStandFor, loads_in, shown_entry, shown_store, stores_in}
-use Rattle.queue_laws.specs.Laws.{HoldsOlder}
-use Rattle.lsq.specs.declared.load.Load.{Load}
-use Rattle.lsq.specs.Queues.{Queues, cut_at, without}
-use Rattle.queue_laws.specs.Window.{StandFor, serials_of}
+use Rattle.queue_laws.specs.Window.{NotOlder, Older, Shown, StoresStandFor, shown_entry, shown_store, stores_in}
+use Rattle.queue_laws.specs.Laws.{HoldsOlder, RoomAsCounted}
+use Rattle.lsq.specs.declared.load.Load.{Load as Queued}
+use Rattle.std.proofs.lemmas.List.Sums.{length-filter}
 
 -- ---- a filter by serials
 
@@ -46,20 +45,6 @@ keeps_entries p (e ∷ ws) =
 
 pub stores_kept : (p : ℕ → Bool) (ss : List Store) (ws : List Entry) → StoresStandFor ss ws → StoresStandFor (filter (λ s. p s.serial) ss) (filter (λ e. p e.serial) ws)
 stores_kept p ss ws h = keeps_shown p ss ∙ ap (filter (λ (w : Shown). p w.serial)) h ∙ keeps_entries p ws
-
-keeps_load : (p : ℕ → Bool) (s k : Bool) (e : Entry) (f g : List Entry) → p e.serial ≡ k → filter p (map (λ e. e.serial) f) ≡ map (λ e. e.serial) g →
-    filter p (map (λ (e : Entry). e.serial) (cond s (e ∷ f) f)) ≡ map (λ (e : Entry). e.serial) (cond k (cond s (e ∷ g) g) g)
-keeps_load p true true e f g q r = ap (λ b. cond b (e.serial ∷ filter p (map (λ (e : Entry). e.serial) f)) (filter p (map (λ (e : Entry). e.serial) f))) q ∙ ap (λ ws. e.serial ∷ ws) r
-keeps_load p true false e f g q r = ap (λ b. cond b (e.serial ∷ filter p (map (λ (e : Entry). e.serial) f)) (filter p (map (λ (e : Entry). e.serial) f))) q ∙ r
-keeps_load p false true e f g q r = r
-keeps_load p false false e f g q r = r
-
-pub loads_kept : (p : ℕ → Bool) (ws : List Entry) → filter p (loads_in ws) ≡ loads_in (filter (λ e. p e.serial) ws)
-loads_kept p [] = refl
-loads_kept p (e ∷ ws) =
-    let t = λ (e : Entry). is_load e.item.kind in
-    keeps_load p (t e) (p e.serial) e (filter t ws) (filter t (filter (λ e. p e.serial) ws)) refl (loads_kept p ws)
-    ∙ ap (map (λ (e : Entry). e.serial)) (sym (tests_kept t (p e.serial) e (filter (λ e. p e.serial) ws)))
 
 -- ---- youngest first
 
@@ -100,14 +85,6 @@ none_pass first (e ∷ es) h =
     ap (λ b. cond b (e ∷ filter (λ e. nat_lt e.serial first) es) (filter (λ e. nat_lt e.serial first) es)) b
     ∙ none_pass first es (All-tail (λ (e : Entry). first ≤ e.serial) e es h)
 
-others_pass : (serial : ℕ) (es : List Entry) → Others serial es → filter (λ e. not (e.serial == serial)) es ≡ es
-others_pass serial [] h = refl
-others_pass serial (e ∷ es) h =
-    let ne = All-head (λ (e : Entry). e.serial ≢ serial) e es h in
-    let b : (e.serial == serial) ≡ false = grind (arith, nat_tests) in
-    ap (λ b. cond (not b) (e ∷ filter (λ e. not (e.serial == serial)) es) (filter (λ e. not (e.serial == serial)) es)) b
-    ∙ ap (λ es. e ∷ es) (others_pass serial es (All-tail (λ (e : Entry). e.serial ≢ serial) e es h))
-
 pub split_by : (first : ℕ) (old rest : List Entry) → Older first old → NotOlder first rest → filter (λ e. nat_lt e.serial first) (old ++ rest) ≡ old
 split_by first old rest h k =
     filter-append (λ e. nat_lt e.serial first) old rest ∙ ap (λ es. es ++ filter (λ e. nat_lt e.serial first) rest) (older_pass first old h)
@@ -119,38 +96,11 @@ pub older_stands : HoldsOlder
 older_stands q old rest serial s h k =
     reversed (filter (λ s. nat_lt s.serial serial) q.stores) old (stores_kept (λ n. nat_lt n serial) q.stores (old ++ rest) s.stores ∙ ap stores_in (split_by serial old rest h k))
 
-load_passed : (b : Bool) (l : Load) (f : List Load) (g : List ℕ) → serials_of f ≡ g → serials_of (cond b (l ∷ f) f) ≡ cond b (l.serial ∷ g) g
-load_passed true l f g h = ap (λ g. l.serial ∷ g) h
-load_passed false l f g h = h
-
--- the loads with some serials
-loads_passed : (p : ℕ → Bool) (ls : List Load) → serials_of (filter (λ l. p l.serial) ls) ≡ filter p (serials_of ls)
-loads_passed p [] = refl
-loads_passed p (l ∷ ls) = load_passed (p l.serial) l _ _ (loads_passed p ls)
-
--- entries from a serial on are dropped and cut
-pub cut_stands : (q : Queues) (first : ℕ) (old rest : List Entry) → StandFor q (old ++ rest) → Older first old → NotOlder first rest → StandFor (cut_at first q) old
-cut_stands q first old rest s h k =
-    let p : ℕ → Bool = λ n. nat_lt n first in
-    let e = split_by first old rest h k in
-    record {
-      loads = loads_passed p q.loads ∙ ap (filter p) s.loads ∙ loads_kept p (old ++ rest) ∙ ap loads_in e;
-      stores = stores_kept p q.stores (old ++ rest) s.stores ∙ ap stores_in e;
-    }
-
--- the oldest entry alone has its serial
-pub head_passes : (head : Entry) (rest : List Entry) → Others head.serial rest → filter (λ e. not (e.serial == head.serial)) (head ∷ rest) ≡ rest
-head_passes head rest h =
-    let own : (head.serial == head.serial) ≡ true = grind (arith, nat_tests) in
-    let left = filter (λ (e : Entry). not (e.serial == head.serial)) rest in
-    ap (λ b. cond (not b) (head ∷ left) left) own ∙ others_pass head.serial rest h
-
--- the oldest entry retires and is popped
-pub pop_stands : (q : Queues) (head : Entry) (rest : List Entry) → StandFor q (head ∷ rest) → Others head.serial rest → StandFor (without head.serial q) rest
-pop_stands q head rest s h =
-    let p : ℕ → Bool = λ n. not (n == head.serial) in
-    let e = head_passes head rest h in
-    record {
-      loads = loads_passed p q.loads ∙ ap (filter p) s.loads ∙ loads_kept p (head ∷ rest) ∙ ap loads_in e;
-      stores = stores_kept p q.stores (head ∷ rest) s.stores ∙ ap stores_in e;
-    }
+-- as many as the window has
+pub room_is : RoomAsCounted
+room_is q window s =
+    let loads = filter (λ (e : Entry). is_load e.item.kind) window in
+    let stores = filter (λ (e : Entry). is_store e.item.kind) window in (
+      sym (length-map q.loads (λ (l : Queued). l.serial)) ∙ ap length s.loads ∙ length-map loads (λ e. e.serial) ∙ length-filter (λ e. is_load e.item.kind) window,
+      sym (length-map q.stores shown_store) ∙ ap length s.stores ∙ length-map stores shown_entry ∙ length-filter (λ e. is_store e.item.kind) window,
+    )

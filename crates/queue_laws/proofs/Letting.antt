@@ -25,7 +25,7 @@ abbrev lets_shown : Bool → List ℕ → Bool → Shown → Bool
 lets_shown passes bytes tainted s =
     (is_some s.span || passes) && (is_some s.stored || not tainted && not (list_any (λ a. reaches_shown a s.span) bytes))
 
--- each of them does
+-- each of these stores lets the load go
 abbrev all_let : Bool → List ℕ → List Bool → List Shown → Bool
 all_let passes bytes (t ∷ ts) (s ∷ ss) = lets_shown passes bytes t s && all_let passes bytes ts ss
 all_let passes bytes _ _ = true

@@ -3,12 +3,7 @@ pub mod Telling
 pub mod Letting
 pub mod Keeping
 pub mod Roots
-pub mod Renaming
 pub mod Around
-pub mod Issuing
-pub mod Shows
-pub mod Tracking
-pub mod Noting
+pub mod Finding
 pub mod Violating
 pub mod Clearing
-pub mod Leaving

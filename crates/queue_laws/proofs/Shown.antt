@@ -19,7 +19,7 @@ queue_computed : (ss : List Store) → all_computed (map shown_store ss) ≡ tru
 queue_computed [] = refl
 queue_computed (s ∷ ss) = queue_computed ss
 
--- so it is with those of a window for which the queue stands
+-- the stores of a window for which the queue stands are computed
 pub all_have : (ss : List Store) (es : List Entry) → StoresStandFor ss es → all_computed (stores_in es) ≡ true
 all_have ss es h = ap all_computed (sym h) ∙ queue_computed ss
 

@@ -23,7 +23,7 @@ use Rattle.queue_laws.specs.Window.{Area, Others, Reading, Shown, ShownClearing,
 use Rattle.queue_laws.specs.Laws.{Violates}
 use Rattle.queue_laws.proofs.Around.{others_older, store_alone, stores_around}
 use Rattle.queue_laws.proofs.Shown.{all_computed, all_have, computed_in, covers_shown, reaches_shown}
-use Rattle.queue_laws.proofs.Shows.{found_as, own_found}
+use Rattle.queue_laws.proofs.Finding.{found_as, own_found}
 
 abbrev loads_of : Entry → Bool
 loads_of e = is_load e.item.kind
@@ -150,10 +150,10 @@ by_own P q before younger store s t r k then_so = by_found (store_of store.seria
     others = others_older before store younger r
 
     shown : option_map shown_store (store_of store.serial q.stores) ≡ Some (shown_entry store)
-    shown = own_found shown_store shown_entry stores_of (λ s. s.serial) (λ s. s.serial) (λ q. refl) (λ e. refl) q.stores before store younger s.stores k others
+    shown = own_found shown_store shown_entry stores_of (λ s. s.serial) (λ e. refl) q.stores before store younger s.stores k others
 
     clearing : option_map shown_cleared (store_of store.serial q.stores) ≡ Some (shown_clearing store)
-    clearing = own_found shown_cleared shown_clearing stores_of (λ s. s.serial) (λ s. s.serial) (λ q. refl) (λ e. refl) q.stores before store younger t.stores k others
+    clearing = own_found shown_cleared shown_clearing stores_of (λ s. s.serial) (λ e. refl) q.stores before store younger t.stores k others
 
     by_found : (o : Option Store) → store_of store.serial q.stores ≡ o → P o
     by_found None h = let no = ap (option_map shown_store) (sym h) ∙ shown in absurd (cc)

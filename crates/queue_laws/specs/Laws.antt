@@ -28,11 +28,11 @@ abbrev pub HoldsOlder : Type 0
 HoldsOlder = (q : Queues) (old rest : List Entry) (serial : ℕ) → StandFor q (old ++ rest) → Older serial old → NotOlder serial rest →
     StoresStandFor (older serial q.stores) (reverse old)
 
--- they are all known where both parts of each have issued
+-- older stores are all known where both parts of each have issued
 abbrev pub KnownAsComplete : Type 0
 KnownAsComplete = (stores : List Store) (before : List Entry) → StoresStandFor stores before → list_all is_known stores ≡ all_complete before
 
--- they let a load go where the queue says so: the address of each is known, or the load passes those of which it isn't;
+-- older stores let a load go where the queue says so: the address of each is known, or the load passes those of which it isn't;
 -- none that the load meets lacks its data; and the youngest root of the addresses of those that lack it is visible, if
 -- each store's root isn't where its own address is tainted, and what is older than a visible load is visible
 abbrev pub LetsAsAsked : Type 0
@@ -43,13 +43,13 @@ LetsAsAsked = (model : SttModel) (passes : Bool) (visible : ℕ → Bool) → ((
     && not (list_any (lacks_data_for (bytes_asked fault a n)) stores)
     && not (hides visible (youngest_root (filter (λ s. not (is_some s.stored)) stores))))
 
--- then a load finds its bytes
+-- a load that older stores let go finds its bytes
 abbrev pub BytesAsLoaded : Type 0
 BytesAsLoaded = (model : SttModel) (passes : Bool) (ram : Ram) (stores : List Store) (before : List Entry) (a n : ℕ) →
     StoresStandFor stores before → stores_let model passes (range a n) before ≡ true →
     merged_bytes ram stores a n ≡ load_bytes ram before a n
 
--- and whether older stores cover them all
+-- a load that older stores let go is told whether they cover all its bytes
 abbrev pub CoveredAsAsked : Type 0
 CoveredAsAsked = (model : SttModel) (passes : Bool) (stores : List Store) (before : List Entry) (a n : ℕ) →
     StoresStandFor stores before → stores_let model passes (range a n) before ≡ true →

@@ -1,29 +1,28 @@
 -- The point can move on, whatever changes in the window.
-use Rattle.std.proofs.Common.{◌≡◌, ℕ, zero, suc, ◌+◌, ◌-◌, ◌^◌, ◌<◌, ◌≤◌, Bool, true, false, not, ◌&&◌, cond, List, [], ◌∷◌, ◌++◌, Some, refl, ap, ap₂, sym, ◌∙◌, arith, subst, slice_get}
-use Rattle.std.specs.Prelude.{if◌then◌else◌, nat_le, nat_lt, slice_set}
-use Rattle.std.specs.List.{All}
+use Rattle.std.proofs.Common.{Bool, List, Some, [], ap, ap₂, arith, cond, false, not, refl, slice_get, subst, suc, sym, true, zero, ℕ, ◌&&◌, ◌++◌, ◌+◌, ◌-◌, ◌<◌, ◌^◌, ◌∙◌, ◌∷◌, ◌≡◌, ◌≤◌}
 use Rattle.std.proofs.lemmas.Bool.Decides.{nat_tests}
-use Rattle.std.proofs.lemmas.List.Elements.{All-nil, All-head, All-tail, All-weaker, All-push, All-set}
+use Rattle.std.proofs.lemmas.List.Elements.{All-head, All-nil, All-push, All-set, All-tail, All-weaker}
+use Rattle.std.specs.List.{All}
+use Rattle.std.specs.Prelude.{drop, if◌then◌else◌, nat_le, nat_lt, slice_set}
 use Rattle.machine_desc.specs.declared.SttModel.{SttModel}
+use Rattle.machine_desc.specs.declared.SttModel.TheVariants.{Futuristic, Off, Spectre}
+use Rattle.rob_ring.specs.Ring.{below}
+use Rattle.rv_types.specs.declared.Kind.{Kind}
+use Rattle.rv_types.specs.declared.Kind.TheVariants.{Branch, Call, Jalr, Load, Stop, Store}
+use Rattle.visibility.proofs.Moving.{all_passes, by_model, can_again, moves_on}
+use Rattle.visibility.specs.Point.{NotPast, Point, first_point, moved_over, next_after, passes}
+use Rattle.window_model.proofs.Booleans.{waiting_done}
+use Rattle.window_model.proofs.Passing.{passes_cleared, passes_done, passes_resolved}
+use Rattle.window_model.proofs.Serials.{all_at, all_left, rise_head, rise_left, rise_tail, splits}
+use Rattle.window_model.specs.Clear.{cleared_one}
+use Rattle.window_model.specs.Order.{is_done, is_faulty, is_waiting}
+use Rattle.window_model.specs.Serials.{Rise}
+use Rattle.window_model.specs.Taint.{protects, safe_as, settled, settled_as}
 use Rattle.window_model.specs.declared.Entry.{Entry}
 use Rattle.window_model.specs.declared.Item.{Item}
 use Rattle.window_model.specs.declared.Progress.TheVariants.{Done}
-use Rattle.window_model.specs.Clear.{cleared_one}
-use Rattle.window_model.specs.Order.{is_done, is_faulty, is_waiting}
-use Rattle.window_model.specs.Taint.{protects, safe_as, settled, settled_as}
-use Rattle.rv_types.specs.declared.Kind.{Kind}
-use Rattle.rv_types.specs.declared.Kind.TheVariants.{Branch, Call, Jalr, Load, Stop, Store}
-use Rattle.machine_desc.specs.declared.SttModel.TheVariants.{Spectre, Futuristic, Off}
-use Rattle.refinement.specs.Stations.{Issues}
-use Rattle.rob_ring.specs.Ring.{below}
-use Rattle.visibility.specs.Point.{Point, NotPast, moved_over, next_after, first_point, passes}
-use Rattle.visibility.proofs.Moving.{all_passes, by_model, can_again, moves_on}
-use Rattle.window_model.proofs.Booleans.{waiting_done}
-use Rattle.window_model.proofs.Passing.{passes_cleared, passes_done, passes_resolved}
 use Rattle.refinement.specs.Points.{Below, PointStands}
-use Rattle.window_model.specs.Serials.{Rise}
-use Rattle.window_model.proofs.Serials.{all_at, all_left, rise_head, rise_left, rise_tail, splits}
-use Rattle.std.specs.Prelude.{drop}
+use Rattle.refinement.specs.Stations.{Issues}
 
 -- an entry below the point passes
 abbrev Passes : Point → Entry → Type 0
@@ -67,7 +66,7 @@ next_rises n (e ∷ es) a r =
     let k = next_rises (e.serial + 1) es (All-weaker (λ d. e.serial < d.serial) (λ d. e.serial + 1 ≤ d.serial) (λ d lt. omega (arith, lt)) es (rise_head e es r)) (rise_tail e es r) in
     omega (arith, l, k)
 
--- of those below a serial that is above an entry's
+-- among entries below a serial that is above an entry's the next one is behind that entry
 next_over : (s first : ℕ) (es : List Entry) (i : ℕ) (e : Entry) → Rise es → slice_get es i ≡ Some e → e.serial < first → e.serial + 1 ≤ next_after s (below first es)
 next_over s first [] i e r h lt = absurd (cc)
 next_over s first (x ∷ es) zero e r h lt =
@@ -86,11 +85,11 @@ next_over s first (x ∷ es) (suc i) e r h lt =
 
 -- ---- it moves, and entries come and go
 
--- it only moves on
+-- the point only moves on
 pub point_moves_on : (point : Point) (next : ℕ) (window : List Entry) → PointStands point next window → Rise window → point.serial ≤ (moved_over window point).serial
 point_moves_on point next window s r = moves_on point window r s.can
 
--- it moves
+-- the point moves over the window
 pub point_advances : (point : Point) (next : ℕ) (window : List Entry) → PointStands point next window → Rise window → Below next window →
     PointStands (moved_over window point) next window
 point_advances point next [] s r b = record {
@@ -175,17 +174,17 @@ point_issues point next window i e e2 s h w issued =
     let u = all_at Unresolved window i e s.unresolved h w in
     sets point next window i e e2 s h issued.on.serial (λ p. passes_issued point.model e e2 w u issued ∙ p) (λ w. issued.resolved ∙ u)
 
--- it becomes Done
+-- an entry becomes Done
 pub point_completes : (point : Point) (next : ℕ) (window : List Entry) (i : ℕ) (e : Entry) → PointStands point next window →
     slice_get window i ≡ Some e → PointStands point next (slice_set window i (record e { state = Done }))
 point_completes point next window i e s h = sets point next window i e (record e { state = Done }) s h refl (passes_done point.model e) (λ w. absurd (cc))
 
--- it is resolved
+-- an entry is resolved
 pub point_resolves : (point : Point) (next : ℕ) (window : List Entry) (i : ℕ) (e : Entry) → PointStands point next window →
     slice_get window i ≡ Some e → is_waiting e.state ≡ false → PointStands point next (slice_set window i (record e { resolved = true }))
 point_resolves point next window i e s h w = sets point next window i e (record e { resolved = true }) s h refl (passes_resolved point.model e) (λ v. absurd (cc))
 
--- it is cleared
+-- an entry is cleared
 pub point_clears : (point : Point) (next : ℕ) (window : List Entry) (i : ℕ) (e : Entry) → PointStands point next window →
     slice_get window i ≡ Some e → PointStands point next (slice_set window i (cleared_one e))
 point_clears point next window i e s h =
@@ -204,7 +203,7 @@ unsettled_as Store e u = ap (λ c. is_done e.state && not (is_faulty e) && c) u 
     and_false false = refl
 unsettled_as _ e u = absurd (cc)
 
--- so neither passes, under each model that protects
+-- an entry that isn't settled doesn't pass, under each model that protects
 unsettled_fails : (m : SttModel) (e : Entry) → protects m ≡ true → settled e ≡ false → passes m e ≡ false
 unsettled_fails Spectre e p u = u
 unsettled_fails Futuristic e p u = unsettled_as e.item.kind e u
@@ -223,7 +222,7 @@ point_stops point next window i e s h u g = by_test (nat_le point.serial e.seria
         let f = unsettled_fails point.model e g u in
         absurd (cc)
 
--- so all from a serial on that is above such an entry's can be dropped
+-- the entries from a serial on that is above such an entry's can be dropped
 pub point_squashes : (point : Point) (next first : ℕ) (window : List Entry) (i : ℕ) (e : Entry) → PointStands point next window → Rise window →
     slice_get window i ≡ Some e → e.serial < first → NotPast point e.serial → PointStands point next (below first window)
 point_squashes point next first window i e s r h lt le =

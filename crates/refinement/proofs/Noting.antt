@@ -1,51 +1,46 @@
--- An entry issues, or a part of it, and a store is cleared: what is kept of it is what the parts then note.
-use Rattle.std.proofs.Common.{◌≡◌, ◌≢◌, ℕ, zero, suc, ◌+◌, ◌<◌, Bool, true, false, cond, List, [], ◌∷◌, length, map, take, Option, Some, None, refl, ap, ap₂, sym, ◌∙◌, subst, arith, slice_get}
-use Rattle.std.specs.Prelude.{if◌then◌else◌, slice_set, reverse, not, ◌&&◌, ◌||◌, ◌==◌, is_some, nat_le}
-use Rattle.std.specs.List.{AllByRecursion as Each, AllZip, cons_option, remove}
+-- An entry issues, or a part of it, and a store is cleared: its footprint is what the parts then note.
+use Rattle.std.proofs.Common.{Bool, List, None, Option, Some, [], ap, ap₂, false, map, refl, slice_get, subst, suc, sym, take, true, zero, ℕ, ◌<◌, ◌∙◌, ◌∷◌, ◌≡◌}
+use Rattle.std.specs.List.{AllByRecursion as Each, remove}
 use Rattle.std.specs.Option.{option_map}
-use Rattle.std.proofs.lemmas.Bool.Decides.{nat_tests}
-use mathlib.Core.List.{reverse_aux}
-use Rattle.rv_types.specs.Regs.{reads_of, two, writes_of}
-use Rattle.rv_types.specs.Value.{bytes_in}
-use Rattle.rv_types.specs.declared.Width.{Width}
-use Rattle.window_model.specs.declared.Entry.{Entry}
-use Rattle.window_model.specs.declared.Item.{Item}
-use Rattle.window_model.specs.Clear.{cleared_one}
-use Rattle.window_model.specs.Order.{each_from, fault_of, has_address, has_data, is_done, is_load, is_store, is_waiting}
-use Rattle.window_model.specs.Retire.{addr_of, stored_of, width_of}
-use Rattle.window_model.specs.Serials.{Rise}
-use Rattle.window_model.proofs.Booleans.{or_false, waiting_done}
-use Rattle.window_model.proofs.Counts.{count, count_is}
-use Rattle.rename_taint.specs.Writes.{root_written}
-use Rattle.stations.specs.Stations.{Station, left_wanting}
-use Rattle.stations.specs.declared.wants.Wants.{Wants}
+use Rattle.std.specs.Prelude.{if◌then◌else◌, is_some, nat_le, not, reverse, slice_set, ◌&&◌, ◌==◌, ◌||◌}
+use Rattle.lsq.specs.Queues.{Queues, addressed_at, filled_at, issued_at}
 use Rattle.lsq.specs.declared.load.Load.{Load as QueuedLoad}
 use Rattle.lsq.specs.declared.store.Span.{Span}
 use Rattle.lsq.specs.declared.store.Store.{Store as QueuedStore}
-use Rattle.lsq.specs.Queues.{Queues, addressed_at, cleared_at, filled_at, issued_at}
-use Rattle.queue_laws.specs.Window.{PartsGoOn, Reading, ShownLoad, TracksOn, access_in, area_in, area_of, cycle_or_first, has_read, noted_load, reading_of, shown_reader, span_in, with_span, with_stored}
-use Rattle.queue_laws.specs.Window as window
-use Rattle.queue_laws.proofs.Issuing.{gone}
-use Rattle.refinement.specs.Addresses.{base_root}
-use Rattle.refinement.specs.Waiters.{Hold, Waiter, awaited, gives_at, oldest_of, waiter_in, wants_of, write_of}
-use Rattle.refinement.specs.Roots.{root_of_source, source_roots, unretired}
-use Rattle.refinement.specs.Stations.{GoesOn, Issues, left_held, station_of}
-use Rattle.refinement.specs.Writers.{writer_of_source}
-use Rattle.refinement.proofs.Keeping.{all_on, goes_same, map_remove, oldest_on, rise_on, zip_set}
+use Rattle.queue_laws.specs.Window.{Reading, ShownLoad, area_in, area_of, shown_reader}
+use Rattle.refinement.specs.Noted.{PartsGoOn, access_in, cycle_or_first, has_read, span_in, with_span, with_stored}
+use Rattle.rename_taint.specs.Writes.{root_written}
+use Rattle.rv_types.specs.Regs.{reads_of, two, writes_of}
+use Rattle.rv_types.specs.Value.{bytes_in}
+use Rattle.rv_types.specs.declared.Width.{Width}
+use Rattle.stations.specs.Stations.{Station, left_wanting}
+use Rattle.stations.specs.declared.wants.Wants.{Wants}
+use Rattle.window_model.proofs.Booleans.{or_false, waiting_done}
+use Rattle.window_model.specs.Clear.{cleared_one}
+use Rattle.window_model.specs.Order.{each_from, fault_of, has_address, has_data, is_done, is_load, is_store, is_waiting}
+use Rattle.window_model.specs.Retire.{addr_of, stored_of, width_of}
+use Rattle.window_model.specs.declared.Entry.{Entry}
+use Rattle.window_model.specs.declared.Item.{Item}
+use Rattle.refinement.proofs.Columns.{Numbered, Rises, column_at, column_removed, column_set, noted, noted_at, place, unset}
+use Rattle.refinement.proofs.Each.{each_at, each_set}
+use Rattle.refinement.proofs.Footprints.{footprint_alike, footprint_rise, gives_same, loads_numbered, stores_numbered}
+use Rattle.refinement.proofs.Lists.{map_id, map_remove, map_same, map_twice, zip_set, unknown}
 use Rattle.refinement.proofs.Moving.{point_clears, point_issues}
-use Rattle.refinement.proofs.Youngest.{map_same, map_twice}
-use Rattle.refinement.specs.InFlight.{InFlight, hold_in}
-use Rattle.refinement.specs.Footprint.{Footprint, StoreFootprint, Terms, unretired_sources, unretired_write, footprint_by, footprint_of, load_footprint, load_in, look_back, column, store_footprint, store_in, waiter_footprint}
-use Rattle.refinement.specs.Refines.{Columns, Parts, Refines, footprints, parts, terms}
-use Rattle.refinement.specs.Steps.{ClearsAt, IssuesAt, with_cleared, with_issued}
-use Rattle.refinement.proofs.Each.{each_at, each_set, each_take, map_id}
-use Rattle.refinement.proofs.Rules.{gives_same, footprint_alike, footprint_rise, loads_numbered, stores_numbered}
-use Rattle.refinement.proofs.Shows.{Numbered, Rises, noted, place, column_at, column_removed, column_set, unset}
+use Rattle.refinement.proofs.Serials.{all_on, goes_same, oldest_on, rise_on}
+use Rattle.refinement.proofs.Stations.{station_place}
 use Rattle.refinement.proofs.Waking.{Gives}
+use Rattle.refinement.specs.Footprint.{Footprint, StoreFootprint, Terms, column, footprint_of, load_footprint, load_in, look_back, store_footprint, store_in, unretired_sources, unretired_write, waiter_footprint}
+use Rattle.refinement.specs.Refines.{Columns, footprints, parts, terms}
+use Rattle.refinement.specs.Roots.{base_root, root_of_source, source_roots}
+use Rattle.refinement.specs.Stations.{GoesOn, left_held, station_of}
+use Rattle.refinement.specs.Steps.{ClearsAt, IssuesAt, with_cleared, with_issued}
+use Rattle.refinement.specs.Waiters.{Hold, Waiter, awaited, gives_at, oldest_of, waiter_in, wants_of}
+use Rattle.refinement.specs.Writers.{writer_of_source}
+use Rattle.refinement.specs.Noted as queues
 
 -- ---- an entry that gives its value or not as before
 
--- it goes on, Done or not as it was
+-- an entry that goes on, Done or not as it was, gives its value or not as it did
 steady : (h : Hold) (e e2 : Entry) → GoesOn e e2 → is_done e2.state ≡ is_done e.state → Gives h h [] e e2
 steady h e e2 on done = record {
   on = on;
@@ -53,26 +48,10 @@ steady h e e2 on done = record {
       ∙ ap (λ d. not (h.holds && is_load e.item.kind && not (nat_le e.serial h.point)) && d) done ∙ sym (or_false (gives_at h e));
 }
 
--- what is kept of it changes, and of no other entry
+-- the footprint of an entry changes, and of no other one
 footprints_set : (t : Terms) (es : List Entry) (i : ℕ) (e e2 : Entry) → slice_get es i ≡ Some e → Gives t.hold t.hold [] e e2 →
     each_from (footprint_of t) [] (slice_set es i e2) ≡ slice_set (each_from (footprint_of t) [] es) i (footprint_of t (reverse (take i es)) e2)
 footprints_set t es i e e2 h g = each_set (footprint_of t) (Gives t.hold t.hold []) (gives_same t.hold) (footprint_alike t) [] es i e e2 h g
-
--- ---- stations
-
-pub waiting_count : (t : Terms) (b es : List Entry) → length (column (λ k. k.waiter) (each_from (footprint_of t) b es)) ≡ count (λ e. is_waiting e.state) es
-waiting_count t b [] = refl
-waiting_count t b (e ∷ es) = by_wait (is_waiting e.state) (waiting_count t (e ∷ b) es)
-  where
-    by_wait : (w : Bool) → length (column (λ k. k.waiter) (each_from (footprint_of t) (e ∷ b) es)) ≡ count (λ e. is_waiting e.state) es →
-        length (cons_option (if w then Some (waiter_footprint t (look_back t.hold b e).awaits e) else None) (column (λ k. k.waiter) (each_from (footprint_of t) (e ∷ b) es))) ≡ cond w 1 0 + count (λ e. is_waiting e.state) es
-    by_wait true h = omega (arith, h)
-    by_wait false h = omega (arith, h)
-
--- the place of a position's station
-pub station_place : (t : Terms) (es : List Entry) (i : ℕ) → station_of i es ≡ place waiter_in (λ k. k.waiter) i (each_from (footprint_of t) [] es)
-station_place t es i =
-    sym (count_is (λ e. is_waiting e.state) (take i es)) ∙ sym (waiting_count t [] (take i es)) ∙ ap (λ ks. length (column (λ k. k.waiter) ks)) (sym (each_take (footprint_of t) [] es i))
 
 wanting : (k : ℕ) (wants : Wants) (held : List Station) (x : Waiter) → slice_get (map waiter_in held) k ≡ Some x → map waiter_in (left_wanting k wants held) ≡ slice_set (map waiter_in held) k (record x { wants = wants })
 wanting k wants [] x h = absurd (cc)
@@ -123,6 +102,11 @@ store_is s u a b c d e f g =
     ∙ ap₂ (λ p k. record u { computed = p; known_from = k; cleared = s.cleared }) e f
     ∙ ap (λ c. record u { cleared = c }) g
 
+-- what wasn't there once it isn't
+gone : (b c : Bool) → (b ≡ true → c ≡ true) → c ≡ false → b ≡ false
+gone true c h k = let x = h refl in absurd (cc)
+gone false c h k = refl
+
 none_of : {X Y : Type 0} (f : X → Y) (o : Option X) → option_map f o ≡ None → o ≡ None
 none_of f None h = refl
 none_of f (Some x) h = absurd (cc)
@@ -154,10 +138,6 @@ own_store t f root w e e2 x n g c h =
     known None k = absurd (cc)
     known (Some c) k = refl
 
-    unknown : (o : Option ℕ) → is_some o ≡ false → None ≡ o
-    unknown None k = refl
-    unknown (Some c) k = absurd (cc)
-
     by_known : (tracked b : Bool) → has_address e2 ≡ b → (if tracked then option_map (λ (k : Span). k.known_from) (if b then Some (span_in w e2) else x.span) else None) ≡ (if tracked then e2.addr_due else None)
     by_known false b q = refl
     by_known true true q = known e2.addr_due q
@@ -167,7 +147,7 @@ own_store t f root w e e2 x n g c h =
     by_cleared true h c = h ∙ sym (c refl)
     by_cleared false h c = refl
 
--- what is kept of the store at a position, by whether there is one
+-- the footprint of the store at a position, by whether there is one
 stores_issued : (store : Bool) (t : Terms) (f : ℕ) (stores : List QueuedStore) (ks : List Footprint) (i : ℕ) (k k2 : Footprint) (root : Option ℕ) (w : Width) (e e2 : Entry) →
     Each (Numbered (λ (s : StoreFootprint). s.serial) (λ k. k.store)) ks → Rises ks → slice_get ks i ≡ Some k → k.serial ≡ e.serial → e2.serial ≡ e.serial →
     k.store ≡ (if store then Some (store_footprint t root e) else None) → k2.store ≡ (if store then Some (store_footprint t root e2) else None) →
@@ -249,7 +229,7 @@ stands_issued p i e e2 w s h waits issued on_so tracks_so =
     let at : slice_get ks i ≡ Some k = each_at (footprint_of t) [] p.window i e h in
     let x = waiter_footprint t (look_back t.hold b e).awaits e in
     let rises = footprint_rise t [] p.window s.rise in
-    let noted = window.noted w e2 p.queues in
+    let noted = queues.noted w e2 p.queues in
     let reads = p.tracked && has_read e2 in
     record {
       rise = rise_on p.window new go s.rise;
@@ -275,8 +255,16 @@ stands_issued p i e e2 w s h waits issued on_so tracks_so =
       point = point_issues p.point p.next p.window i e e2 s.point h waits issued;
     }
 
+-- a store is cleared, and nothing else is
+store_cleared : (t : Terms) (f : ℕ) (root : Option ℕ) (e : Entry) (b : Bool) (o : Option QueuedStore) → option_map (store_in t f) o ≡ (if b then Some (store_footprint t root e) else None) →
+    option_map (λ (x : QueuedStore). store_in t f (record x { cleared = true })) o ≡ (if b then Some (store_footprint t root (cleared_one e)) else None)
+store_cleared t f root e true None h = absurd (cc)
+store_cleared t f root e true (Some x) h = let is : store_in t f x ≡ store_footprint t root e = cc in ap (λ (s : StoreFootprint). Some (record s { cleared = t.tracked && true })) is
+store_cleared t f root e false None h = refl
+store_cleared t f root e false (Some x) h = absurd (cc)
+
 pub stands_cleared : ClearsAt
-stands_cleared p i e s h k =
+stands_cleared p i e s h =
     let t = terms p in
     let f = oldest_of p.next p.window in
     let ks = footprints p in
@@ -297,10 +285,8 @@ stands_cleared p i e s h k =
             writes = s.columns.writes ∙ unset (unretired_write f) (λ k. k.write) ks i old c at refl;
             waiters = s.columns.waiters ∙ unset waiter_in (λ k. k.waiter) ks i old c at refl;
             loads = s.columns.loads ∙ unset (load_in t) (λ k. k.load) ks i old c at refl;
-            stores = noted (store_in t f) (λ k. k.store) (λ (s : QueuedStore). s.serial) (λ (s : StoreFootprint). s.serial) (λ x. refl) (λ x. record x { cleared = true }) p.queues.stores ks i e.serial old c
-                (store_footprint t (base_root (source_roots b e)) e) (stores_numbered t [] p.window) (footprint_rise t [] p.window s.rise) at refl
-                (ap (λ y. if y then Some (store_footprint t (base_root (source_roots b e)) e) else None) k)
-                (λ x is. ap (λ (s : StoreFootprint). Some (record s { cleared = t.tracked && true })) is ∙ sym (ap (λ y. if y then Some (store_footprint t (base_root (source_roots b e)) (cleared_one e)) else None) k)) s.columns.stores;
+            stores = noted_at (store_in t f) (λ k. k.store) (λ (s : QueuedStore). s.serial) (λ (s : StoreFootprint). s.serial) (λ x. refl) (λ x. record x { cleared = true }) p.queues.stores ks i e.serial old c
+                (stores_numbered t [] p.window) (footprint_rise t [] p.window s.rise) at refl (store_cleared t f (base_root (source_roots b e)) e (is_store e.item.kind)) s.columns.stores;
           }));
       point = point_clears p.point p.next p.window i e s.point h;
     }

@@ -1,36 +1,30 @@
 -- What the stations tell of the entries that wait, once the point has moved over the window: who is ready, and which part of it.
-use Rattle.std.proofs.Common.{◌≡◌, ℕ, zero, suc, ◌<◌, Bool, true, false, not, ◌&&◌, ◌||◌, cond, List, [], ◌∷◌, length, map, ◌≤◌, Option, Some, None, refl, ap, ap₂, sym, ◌∙◌, arith, subst, slice_get, is_none}
-use Rattle.std.specs.Prelude.{if◌then◌else◌}
+use Rattle.std.proofs.Common.{Bool, List, None, Option, Some, [], ap, ap₂, arith, false, is_none, length, map, not, refl, slice_get, subst, sym, true, ℕ, ◌&&◌, ◌||◌, ◌∙◌, ◌∷◌, ◌≡◌, ◌≤◌}
 use Rattle.std.specs.List.{list_all, list_any}
 use Rattle.std.specs.Option.{option_map}
-use Rattle.rv_types.specs.Regs.{two}
+use Rattle.std.specs.Prelude.{if◌then◌else◌}
 use Rattle.machine_desc.specs.declared.Desc.{Desc}
-use Rattle.window_model.specs.declared.Entry.{Entry}
-use Rattle.window_model.specs.Along.{Along, Behind, Fact}
-use Rattle.window_model.specs.Order.{base_of, before_at, is_done, is_load, is_waiting, others_of, sources, writer, writes}
-use Rattle.window_model.specs.Ready.{all_known, gives, holds, is_known, ready}
-use Rattle.window_model.specs.Taint.{visible}
+use Rattle.rv_types.specs.Regs.{two}
+use Rattle.stations.specs.Stations.{Station, able_as, nothing_at, source_of}
+use Rattle.stations.specs.declared.wants.Part.{Part}
+use Rattle.stations.specs.declared.wants.Wants.{Wants}
+use Rattle.visibility.specs.Point.{HasAdvanced, Point}
 use Rattle.window_model.proofs.Booleans.{or_false}
 use Rattle.window_model.proofs.Serials.{behind_at}
-use Rattle.stations.specs.Stations.{Station, able_as, awaits_none, is_able, nothing_at, ready_part, source_of}
-use Rattle.stations.specs.declared.wants.Part.{Part}
-use Rattle.stations.specs.declared.wants.Part.TheVariants as part
-use Rattle.stations.specs.declared.wants.Wants.{Wants}
-use Rattle.stations.specs.declared.wants.Wants.TheVariants as wants
-use Rattle.visibility.specs.Point.{HasAdvanced, Point}
-use Rattle.refinement.specs.Waiters.{Hold, Waiter, awaited, awaited_of, awaits_of, gives_at, waiter_in, wants_of}
-use Rattle.refinement.specs.Stations.{station_of}
-use Rattle.refinement.specs.Telling.{has_sources, hold_of, own_of}
+use Rattle.window_model.specs.Along.{Along, Behind, Fact}
+use Rattle.window_model.specs.Order.{base_of, before_at, is_done, is_load, is_waiting, others_of, sources, writer, writes}
+use Rattle.window_model.specs.Ready.{all_known, gives, holds, is_known}
+use Rattle.window_model.specs.Taint.{visible}
+use Rattle.window_model.specs.declared.Entry.{Entry}
+use Rattle.refinement.proofs.Stations.{has_station}
 use Rattle.refinement.proofs.Youngest.{Tells, few_reads}
 use Rattle.refinement.specs.InFlight.{InFlight, hold_in}
 use Rattle.refinement.specs.Refines.{Refines}
-use Rattle.refinement.proofs.Answering.{has_station}
-
--- the point has moved over the window, and results are held back by it as the description says
-pub record MovedBy (d : Desc) (p : InFlight) : Type 0 where
-  pub advanced : HasAdvanced p.point p.window
-  pub model : p.point.model ≡ d.stt_model
-  pub holds : p.holds ≡ holds d.stt_defence
+use Rattle.refinement.specs.Stations.{station_of}
+use Rattle.refinement.specs.Telling.{has_sources, hold_of, own_of, TellsReady, TellsAble, TellsPart, MovedBy}
+use Rattle.refinement.specs.Waiters.{Hold, Waiter, awaited, awaited_of, awaits_of, gives_at, waiter_in, wants_of}
+use Rattle.stations.specs.declared.wants.Part.TheVariants as part
+use Rattle.stations.specs.declared.wants.Wants.TheVariants as wants
 
 -- an older entry gives its value by what results are held back by where it does by the machine's definition
 abbrev GivesAlike : Desc → Hold → Fact
@@ -77,7 +71,7 @@ module _ (d : Desc) (hold : Hold) where
       and_true true = refl
       and_true false = refl
 
-  -- each source by itself
+  -- what a part of a store awaits, by its own source
   part_by : (part : Part) (before : List Entry) (rs : List ℕ) → Behind (GivesAlike d hold) before → length rs ≤ 2 →
       nothing_at (source_of part) (map (awaited hold before) (two rs)) ≡ all_known d before (own_of part rs)
   part_by part.Base before [] k le = refl
@@ -106,15 +100,6 @@ module _ (d : Desc) (hold : Hold) where
   able_by wants.Base before e k = part_by part.Base before (sources e) k (few_reads e.item.instr)
   able_by wants.Other before e k = part_by part.Other before (sources e) k (few_reads e.item.instr)
 
-some_within : {X Y : Type 0} (f : X → Y) (xs : List X) (i : ℕ) (y : Y) → option_map f (slice_get xs i) ≡ Some y → i < length xs
-some_within f [] i y h = absurd (cc)
-some_within f (x ∷ xs) zero y h = omega arith
-some_within f (x ∷ xs) (suc i) y h = let k = some_within f xs i y h in omega (arith, k)
-
--- the station of an entry that waits is one of those that are held
-pub station_within : (p : InFlight) (i : ℕ) (e : Entry) → Refines p → slice_get p.window i ≡ Some e → is_waiting e.state ≡ true → station_of i p.window < length p.held
-station_within p i e s h w = some_within waiter_in p.held (station_of i p.window) _ (has_station p i e s h w)
-
 -- what is asked of what a station wants and awaits is asked of its waiter
 asked_as : (t : Wants → List (Option ℕ) → Bool) (o : Option Station) → option_map (λ s. t s.wants s.awaits) o ≡ option_map (λ (w : Waiter). t w.wants w.awaits) (option_map waiter_in o)
 asked_as t None = refl
@@ -126,19 +111,16 @@ asked_of : (t : Wants → List (Option ℕ) → Bool) (p : InFlight) (i : ℕ) (
 asked_of t p i e s h w = asked_as t (slice_get p.held (station_of i p.window)) ∙ ap (option_map (λ (w : Waiter). t w.wants w.awaits)) (has_station p i e s h w)
 
 -- the station of an entry that waits awaits nothing exactly where the entry is ready
-pub tells_ready : (d : Desc) (p : InFlight) (i : ℕ) (e : Entry) → Refines p → MovedBy d p → slice_get p.window i ≡ Some e → is_waiting e.state ≡ true →
-    option_map awaits_none (slice_get p.held (station_of i p.window)) ≡ Some (ready d (before_at p.window i) e)
+pub tells_ready : TellsReady
 tells_ready d p i e s b h w =
     asked_of (λ wants awaits. list_all is_none awaits) p i e s h w ∙ ap Some (ready_by d (hold_in p) (before_at p.window i) (sources e) (alike_at d p i b) (few_reads e.item.instr))
 
--- it is able exactly where what its entry wants is there
-pub tells_able : (d : Desc) (p : InFlight) (i : ℕ) (e : Entry) → Refines p → MovedBy d p → slice_get p.window i ≡ Some e → is_waiting e.state ≡ true →
-    option_map is_able (slice_get p.held (station_of i p.window)) ≡ Some (has_sources (wants_of p.version e) d (before_at p.window i) e)
+-- a station is able exactly where what its entry wants is there
+pub tells_able : TellsAble
 tells_able d p i e s b h w = asked_of able_as p i e s h w ∙ ap Some (able_by d (hold_in p) (wants_of p.version e) (before_at p.window i) e (alike_at d p i b))
 
--- a part of it is ready exactly where the part's own source is
-pub tells_part : (part : Part) (d : Desc) (p : InFlight) (i : ℕ) (e : Entry) → Refines p → MovedBy d p → slice_get p.window i ≡ Some e → is_waiting e.state ≡ true →
-    option_map (ready_part part) (slice_get p.held (station_of i p.window)) ≡ Some (all_known d (before_at p.window i) (own_of part (sources e)))
+-- a part of a store is ready exactly where the part's own source is
+pub tells_part : TellsPart
 tells_part part d p i e s b h w =
     asked_of (λ wants awaits. nothing_at (source_of part) awaits) p i e s h w
     ∙ ap Some (part_by d (hold_in p) part (before_at p.window i) (sources e) (alike_at d p i b) (few_reads e.item.instr))

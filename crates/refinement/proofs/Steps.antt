@@ -1,53 +1,50 @@
--- Each step keeps the parts standing for the window.
-use Rattle.std.proofs.Common.{◌≡◌, ◌≢◌, ℕ, zero, suc, ◌+◌, ◌<◌, ◌≤◌, Bool, true, false, cond, not, List, [], ◌∷◌, ◌++◌, length, map, take, drop, Option, Some, None, refl, ap, ap₂, sym, ◌∙◌, subst, arith, slice_get}
-use Rattle.std.specs.Prelude.{if◌then◌else◌, slice_set, reverse, nat_le, nat_lt, ◌==◌, ◌||◌, ◌&&◌, is_some}
+-- Each step keeps the parts refining the window.
+use Rattle.std.proofs.Common.{Bool, List, None, Option, Some, [], ap, ap₂, arith, cond, drop, false, length, map, not, refl, slice_get, subst, sym, take, true, ℕ, ◌++◌, ◌+◌, ◌<◌, ◌∙◌, ◌∷◌, ◌≡◌, ◌≤◌}
+use Rattle.std.proofs.lemmas.Bool.Decides.{nat_tests}
+use Rattle.std.proofs.lemmas.List.{append-nil}
+use Rattle.std.proofs.lemmas.List.Elements.{All-cons, All-head, All-nil, All-push, All-tail, All-weaker, filter-append}
 use Rattle.std.specs.List.{All, AllZip, cons_option, filter, list_any}
 use Rattle.std.specs.Option.{option_map}
-use Rattle.std.proofs.lemmas.Bool.Decides.{nat_tests}
-use Rattle.std.proofs.lemmas.List.{append-nil, length-append}
-use Rattle.std.proofs.lemmas.List.Elements.{All-cons, All-head, All-nil, All-push, All-tail, All-weaker, filter-append}
-use Rattle.rv_types.specs.declared.Kind.{Kind}
-use Rattle.rv_types.specs.declared.Kind.TheVariants.{Load, Store}
-use Rattle.rv_types.specs.Regs.{two}
-use Rattle.window_model.specs.declared.Entry.{Entry}
-use Rattle.window_model.specs.declared.Progress.TheVariants.{Done}
-use Rattle.window_model.specs.Order.{each_from, has_address, has_data, is_done, is_load, is_store, is_waiting, sources, writer}
-use Rattle.window_model.specs.Serials.{Rise}
-use Rattle.window_model.proofs.Booleans.{both, done_waits, is_below, neither, or_false}
-use Rattle.window_model.proofs.Serials.{all_at, all_left, rise_head, rise_left, rise_push, rise_tail, splits}
-use Rattle.rob_ring.specs.Ring.{below}
-use Rattle.rob_ring.specs.declared.beside.Sources.{Sources}
-use Rattle.rename_taint.specs.declared.Write.{Write}
-use Rattle.rename_taint.specs.Writes.{before_serial, root_at, root_of, without_retired}
-use Rattle.stations.specs.Stations.{Station}
+use Rattle.std.specs.Prelude.{if◌then◌else◌, is_some, nat_le, nat_lt, reverse, slice_set, ◌&&◌, ◌==◌, ◌||◌}
+use Rattle.lsq.specs.Queues.{Queues, without}
 use Rattle.lsq.specs.declared.load.Load.{Load as QueuedLoad}
 use Rattle.lsq.specs.declared.store.Store.{Store as QueuedStore}
-use Rattle.lsq.specs.Queues.{Queues, without}
 use Rattle.queue_laws.specs.Window.{ShownLoad, area_in}
-use Rattle.window_model.specs.Retire.{stored_of}
+use Rattle.rename_taint.specs.Writes.{root_at, without_retired}
+use Rattle.rename_taint.specs.declared.Write.{Write}
+use Rattle.rob_ring.specs.Ring.{below}
+use Rattle.rv_types.specs.Regs.{two}
+use Rattle.rv_types.specs.declared.Kind.{Kind}
+use Rattle.rv_types.specs.declared.Kind.TheVariants.{Load, Store}
+use Rattle.stations.specs.Stations.{Station}
 use Rattle.visibility.specs.Point.{Point, moved_over}
-use Rattle.refinement.specs.Points.{PointStands}
-use Rattle.refinement.specs.Addresses.{base_root}
-use Rattle.refinement.specs.Waiters.{Hold, Waiter, awaits_of, gives_at, oldest_of, waiter_in, wants_of, write_of}
-use Rattle.refinement.specs.Roots.{root_of_source, source_roots, unretired, youngest_root}
-use Rattle.refinement.specs.Stations.{GoesOn, seated, struck_if_given, struck_each, released}
-use Rattle.refinement.specs.Telling.{source_by}
-use Rattle.refinement.specs.Writers.{named, serial_in, source_writers, writer_of_source}
-use Rattle.refinement.proofs.Keeping.{all_on, goes_same, oldest_on, rise_on, zip_set}
-use Rattle.refinement.proofs.Moving.{point_advances, point_clears, point_completes, point_issues, point_moves_on, point_opens, point_renames, point_resolves, point_retires, point_squashes, point_stops}
-use Rattle.refinement.proofs.Serials.{oldest_least}
-use Rattle.refinement.proofs.Standing.{oldest_above, oldest_push, take_first}
-use Rattle.refinement.proofs.Tables.{writer_place}
-use Rattle.refinement.proofs.Youngest.{unretired_in, unretired_all_twice, map_same, map_twice}
-use Rattle.refinement.specs.InFlight.{InFlight, hold_in}
-use Rattle.refinement.specs.Footprint.{Footprint, StoreFootprint, Terms, unretired_sources, unretired_write, footprint_by, footprint_of, load_footprint, load_in, look_back, column, store_footprint, store_in, waiter_footprint}
-use Rattle.refinement.specs.Refines.{Columns, Parts, Refines, footprints, parts, terms}
-use Rattle.refinement.specs.Steps.{CompletesAt, DropsFrom, Fresh, OpensEmpty, PointMoves, PointStops, RenamesIn, ResolvesAt, RetiresHead, below_serial, empty, queued, with_done, with_entry, with_moved, without_head}
-use Rattle.refinement.proofs.Each.{each_join, each_take, map_id}
-use Rattle.refinement.proofs.Rules.{unretired_store, first_shown, gives_same, footprint_unretired, footprint_fail, footprint_have, footprint_pass, footprints_without, footprints_woken, loads_numbered, stores_numbered, waiters_numbered, wake, write_shown, writes_numbered}
-use Rattle.refinement.proofs.Shows.{aside, dropped, filtered, items_have, pushed, pushed_if, column_have, column_mapped, taken, viewed}
+use Rattle.window_model.proofs.Booleans.{both, done_waits, is_below, neither, or_false}
+use Rattle.window_model.proofs.Serials.{all_at, all_left, rise_head, rise_left, rise_push, rise_tail, splits}
+use Rattle.window_model.specs.Order.{each_from, has_address, has_data, is_done, is_load, is_store, is_waiting, sources, writer}
+use Rattle.window_model.specs.Retire.{stored_of}
+use Rattle.window_model.specs.Serials.{Rise}
+use Rattle.window_model.specs.declared.Entry.{Entry}
+use Rattle.window_model.specs.declared.Progress.TheVariants.{Done}
+use Rattle.refinement.proofs.Columns.{aside, column_mapped, dropped, filtered, items_have, pushed, pushed_if, taken, viewed}
+use Rattle.refinement.proofs.Each.{each_join, each_take}
+use Rattle.refinement.proofs.Footprints.{first_shown, footprint_fail, footprint_have, footprint_pass, footprint_unretired, footprints_without, footprints_woken, gives_same, loads_numbered, stores_numbered, unretired_store, waiters_numbered, wake, write_shown, writes_numbered}
+use Rattle.refinement.proofs.Lists.{map_same, map_twice, take_first, zip_set, unknown}
+use Rattle.refinement.proofs.Moving.{point_advances, point_completes, point_moves_on, point_opens, point_renames, point_resolves, point_retires, point_squashes, point_stops}
+use Rattle.refinement.proofs.Serials.{all_on, oldest_above, oldest_below, oldest_first, oldest_least, oldest_on, oldest_push, rise_on}
 use Rattle.refinement.proofs.Table.{names_root, names_writer}
-use Rattle.refinement.proofs.Waking.{Gives, Wakes, given, gives_go, held_woken, struck_given, wakes_done, wakes_moved, woken}
+use Rattle.refinement.proofs.Waking.{Wakes, given, held_woken, struck_given, wakes_done, wakes_moved, woken}
+use Rattle.refinement.proofs.Writers.{writer_place}
+use Rattle.refinement.proofs.Youngest.{unretired_all_twice, unretired_in, unretired_twice}
+use Rattle.refinement.specs.Footprint.{Footprint, StoreFootprint, Terms, column, footprint_of, load_footprint, load_in, look_back, store_footprint, store_in, unretired_sources, unretired_write, waiter_footprint}
+use Rattle.refinement.specs.InFlight.{InFlight, hold_in}
+use Rattle.refinement.specs.Points.{PointStands}
+use Rattle.refinement.specs.Refines.{Columns, Parts, Refines, footprints, parts, terms}
+use Rattle.refinement.specs.Roots.{base_root, root_of_source, source_roots, unretired}
+use Rattle.refinement.specs.Stations.{GoesOn, released, struck_each}
+use Rattle.refinement.specs.Steps.{CompletesAt, DropsFrom, OpensEmpty, PointMoves, PointStops, RenamesIn, ResolvesAt, RetiresHead, below_serial, queued, with_entry, without_head}
+use Rattle.refinement.specs.Telling.{source_by}
+use Rattle.refinement.specs.Waiters.{Hold, Waiter, gives_at, oldest_of, waiter_in, wants_of, write_of}
+use Rattle.refinement.specs.Writers.{named, serial_in, source_writers, writer_of_source}
 
 pub stands_empty : OpensEmpty
 stands_empty d = record {
@@ -93,10 +90,6 @@ stores_queued Load n root q = refl
 stores_queued Store n root q = refl
 stores_queued _ n root q = refl
 
-unknown : (o : Option ℕ) → is_some o ≡ false → None ≡ o
-unknown None h = refl
-unknown (Some c) h = absurd (cc)
-
 -- no part of a fresh store has issued, and a fresh load has read nothing
 fresh_store : (t : Terms) (root : Option ℕ) (e : Entry) → has_address e ≡ false → has_data e ≡ false → (t.tracked ≡ true → e.cleared ≡ false) →
     record { serial = e.serial; root = root; span = None; stored = None; computed = true; known_from = if t.tracked then None else None; cleared = t.tracked && false } ≡ store_footprint t root e
@@ -110,11 +103,6 @@ fresh_store t root e a d c =
 
 fresh_load : (t : Terms) (e : Entry) → e.issued ≡ None → record { serial = e.serial; reading = if t.tracked then None else None } ≡ load_footprint t e
 fresh_load t e i = ap (λ (i : Option ℕ). record { serial = e.serial; reading = if t.tracked then option_map (λ cycle. record { area = area_in e; cycle = cycle }) i else None }) (sym i)
-
--- no entry is older than the oldest, and the next one is younger
-oldest_first : (next : ℕ) (es : List Entry) → All (λ e. e.serial < next) es → oldest_of next es ≤ next
-oldest_first next [] a = omega arith
-oldest_first next (e ∷ es) a = let lt = All-head (λ e. e.serial < next) e es a in omega (arith, lt)
 
 pub stands_renamed : RenamesIn
 stands_renamed p e s awaits place h fresh rs ws aw =
@@ -165,7 +153,7 @@ wakes_go h h2 ss [] (e2 ∷ es2) v = absurd v
 wakes_go h h2 ss (e ∷ es) [] v = absurd v
 wakes_go h h2 ss (e ∷ es) (e2 ∷ es2) v = (v.0.gives.on, wakes_go h h2 ss es es2 v.1)
 
--- those with these serials come to give their values, under a point that has moved maybe, and the stations are told
+-- entries with these serials come to give their values, under a point that has moved maybe, and the stations are told
 wakes_on : (p : InFlight) (point : Point) (ss : List ℕ) (window : List Entry) → Refines p → AllZip (Wakes (hold_in p) (record { holds = p.holds; point = point.serial }) ss) p.window window →
     PointStands point p.next window → Refines (record p { window = window; point = point; held = struck_each ss p.held })
 wakes_on p point ss window s v at =
@@ -213,7 +201,7 @@ stops_at p i e s h u = point_stops p.point p.next p.window i e s.point h u
 above_test : (m n : ℕ) → n ≤ m → nat_lt m n ≡ false
 above_test m n le = grind (arith, nat_tests)
 
--- what is kept of those below a serial
+-- the footprints of those below a serial
 pub footprints_below : (t : Terms) (first : ℕ) (es : List Entry) → Rise es → filter (λ (k : Footprint). nat_lt k.serial first) (each_from (footprint_of t) [] es) ≡ each_from (footprint_of t) [] (below first es)
 footprints_below t first es r =
     let s = splits first es r in
@@ -232,13 +220,6 @@ footprints_first : (t : Terms) (first : ℕ) (es : List Entry) → Rise es → t
 footprints_first t first es r =
     let s = splits first es r in
     each_take (footprint_of t) [] es (length (below first es)) ∙ ap (each_from (footprint_of t) []) (ap (take (length (below first es))) s.whole ∙ take_first (below first es) s.gone)
-
-oldest_below : (next first : ℕ) (es : List Entry) (i : ℕ) (e : Entry) → Rise es → slice_get es i ≡ Some e → e.serial < first → oldest_of next (below first es) ≡ oldest_of next es
-oldest_below next first [] i e r h lt = absurd (cc)
-oldest_below next first (x ∷ es) i e r h lt =
-    let le = all_at (λ d. x.serial ≤ d.serial) (x ∷ es) i e (oldest_least next (x ∷ es) r) h in
-    let t : nat_lt x.serial first ≡ true = is_below x.serial first (omega (arith, le, lt)) in
-    ap (λ b. oldest_of next (cond b (x ∷ below first es) (below first es))) t
 
 pub stands_dropped : DropsFrom
 stands_dropped p first i e s h older l =
@@ -264,18 +245,15 @@ stands_dropped p first i e s h older l =
 
 -- ---- the oldest retires
 
-once : (f g : ℕ) (o : Option ℕ) → f ≤ g → unretired g o ≡ unretired g (unretired f o)
-once f g o le = ap base_root (sym (unretired_all_twice f g (o ∷ []) le))
-
 -- fewer roots and writers are told
 holds_aged : (t : Terms) (f g : ℕ) (p : Parts) (ks : List Footprint) → f ≤ g → Columns t f p ks → Columns t g p (map (footprint_unretired g) ks)
 holds_aged t f g p ks le s = record {
   sources = viewed (unretired_sources f) (λ k. Some k.sources) (unretired_sources g) (unretired_sources g) (footprint_unretired g)
       (λ x. ap₂ (λ r w. record { roots = r; writers = w }) (sym (unretired_all_twice f g x.roots le)) (sym (unretired_all_twice f g x.writers le))) (λ k. refl) p.sources ks s.sources;
-  writes = viewed (unretired_write f) (λ k. k.write) (unretired_write g) (unretired_write g) (footprint_unretired g) (λ w. ap (λ r. record w { root = r }) (once f g w.root le)) (λ k. refl) p.writes ks s.writes;
+  writes = viewed (unretired_write f) (λ k. k.write) (unretired_write g) (unretired_write g) (footprint_unretired g) (λ w. ap (λ r. record w { root = r }) (sym (unretired_twice f g w.root le))) (λ k. refl) p.writes ks s.writes;
   waiters = s.waiters ∙ aside waiter_in (λ k. k.waiter) (footprint_unretired g) (λ k. refl) ks;
   loads = s.loads ∙ aside (load_in t) (λ k. k.load) (footprint_unretired g) (λ k. refl) ks;
-  stores = viewed (store_in t f) (λ k. k.store) (store_in t g) (unretired_store g) (footprint_unretired g) (λ x. ap (λ r. record (store_in t g x) { root = r }) (once f g x.root le)) (λ k. refl) p.queues.stores ks s.stores;
+  stores = viewed (store_in t f) (λ k. k.store) (store_in t g) (unretired_store g) (footprint_unretired g) (λ x. ap (λ r. record (store_in t g x) { root = r }) (sym (unretired_twice f g x.root le))) (λ k. refl) p.queues.stores ks s.stores;
 }
 
 -- the write that goes is the only one of its serial
@@ -311,9 +289,9 @@ holds_without t next p x es r b gives s =
     let self : (n == n) ≡ true = grind (arith, nat_tests) in
     let cut : filter (λ (k : Footprint). not (k.serial == n)) (k ∷ rest) ≡ rest = head_gone (λ m. not (m == n)) (ap not self) (All-weaker (λ d. n < d.serial) (λ d. not (d.serial == n) ≡ true) (λ d lt. other d.serial lt) es young) in
     let older : filter (λ (k : Footprint). nat_lt n k.serial) (k ∷ rest) ≡ rest =
-        head_gone (λ m. nat_lt n m) (above_test n n (omega arith)) (All-weaker (λ d. n < d.serial) (λ d. nat_lt n d.serial ≡ true) (λ d lt. is_below n d.serial lt) es young) in
+    head_gone (λ m. nat_lt n m) (above_test n n (omega arith)) (All-weaker (λ d. n < d.serial) (λ d. nat_lt n d.serial ≡ true) (λ d lt. is_below n d.serial lt) es young) in
     let have = items_have (unretired_write n) (λ k. k.write) (λ (w : Write). w.serial) (λ (w : Write). w.serial) (λ w. refl) (λ m. n ≤ m) p.writes (k ∷ rest) (writes_numbered t [] (x ∷ es))
-        (footprint_have t (λ m. n ≤ m) [] (x ∷ es) (All-cons (λ d. n ≤ d.serial) x es (omega arith) (All-weaker (λ d. n < d.serial) (λ d. n ≤ d.serial) (λ d lt. omega (arith, lt)) es young))) s.writes in
+    (footprint_have t (λ m. n ≤ m) [] (x ∷ es) (All-cons (λ d. n ≤ d.serial) x es (omega arith) (All-weaker (λ d. n < d.serial) (λ d. n ≤ d.serial) (λ d lt. omega (arith, lt)) es young))) s.writes in
     subst (Columns t g (parts_without n p)) (sym (footprints_without t g x es (oldest_least next es (rise_tail x es r)) above gives))
     (holds_aged t n g (parts_without n p) rest (omega (arith, above)) (record {
       sources = dropped (unretired_sources n) (λ k. k.sources) p.sources k rest s.sources;

@@ -1,29 +1,29 @@
--- What the rename table names, where its writes are those that are kept of the entries.
-use Rattle.std.proofs.Common.{◌≡◌, ℕ, Bool, true, false, cond, List, [], ◌∷◌, Option, Some, None, refl, ap, sym, ◌∙◌}
-use Rattle.std.specs.Prelude.{if◌then◌else◌, map, ◌==◌, reverse}
+-- What the rename table names, where its writes are those of the footprints.
+use mathlib.Core.List.{reverse_aux}
+use Rattle.std.proofs.Common.{Bool, List, None, Option, Some, [], ap, cond, false, refl, sym, true, ℕ, ◌∙◌, ◌∷◌, ◌≡◌}
 use Rattle.std.specs.List.{cons_option, find}
 use Rattle.std.specs.Option.{option_map}
-use mathlib.Core.List.{reverse_aux}
-use Rattle.rv_types.specs.Regs.{writes_of}
-use Rattle.window_model.specs.declared.Entry.{Entry}
-use Rattle.window_model.specs.Order.{each_from, is_register, sources, writer}
-use Rattle.rename_taint.specs.declared.Write.{Write}
+use Rattle.std.specs.Prelude.{if◌then◌else◌, map, reverse, ◌==◌}
 use Rattle.rename_taint.specs.Writes.{last_write, root_from, root_of, root_written, source_from, source_of}
-use Rattle.refinement.specs.Waiters.{awaited, awaited_of, oldest_of, write_of}
-use Rattle.refinement.specs.Roots.{source_roots, unretired, youngest_root}
-use Rattle.refinement.specs.Telling.{entry_of, source_by}
-use Rattle.refinement.proofs.Tables.{found}
+use Rattle.rename_taint.specs.declared.Write.{Write}
+use Rattle.rv_types.specs.Regs.{writes_of}
+use Rattle.window_model.specs.Order.{each_from, is_register, sources, writer}
+use Rattle.window_model.specs.declared.Entry.{Entry}
+use Rattle.refinement.proofs.Lists.{map_back}
+use Rattle.refinement.proofs.Writers.{found, within}
 use Rattle.refinement.proofs.Youngest.{written_by}
-use Rattle.refinement.specs.InFlight.{InFlight, hold_in}
-use Rattle.refinement.specs.Footprint.{Terms, unretired_write, footprint_of, column}
-use Rattle.refinement.specs.Refines.{Refines}
+use Rattle.refinement.specs.Footprint.{Terms, column, footprint_of, unretired_write}
+use Rattle.refinement.specs.InFlight.{hold_in}
+use Rattle.refinement.specs.Roots.{source_roots, unretired, youngest_root}
+use Rattle.refinement.specs.Telling.{entry_of, source_by, NamesWriter, NamesRoot, FindsWriter, FindsAwaited, NamesEntry}
+use Rattle.refinement.specs.Waiters.{awaited_of, oldest_of, write_of}
 
 -- the writes of entries that are looked back on
 abbrev writes_behind : List Entry → List Write
 writes_behind [] = []
 writes_behind (e ∷ b) = cons_option (write_of e (source_roots b e)) (writes_behind b)
 
--- they are those that are kept, youngest first
+-- the writes in the footprints, youngest first
 turned : (t : Terms) (b es : List Entry) → reverse_aux (column (λ k. k.write) (each_from (footprint_of t) b es)) (writes_behind b) ≡ writes_behind (reverse_aux es b)
 turned t b [] = refl
 turned t b (e ∷ es) = over (write_of e (source_roots b e)) (column (λ k. k.write) (each_from (footprint_of t) (e ∷ b) es)) (writes_behind b) ∙ turned t (e ∷ b) es
@@ -74,10 +74,6 @@ found_aged f r (w ∷ ws) = by_test (w.register == r) (found_aged f r ws)
     by_test true h = refl
     by_test false h = h
 
-pub map_back : {X Y : Type 0} (f : X → Y) (xs ys : List X) → map f (reverse_aux xs ys) ≡ reverse_aux (map f xs) (map f ys)
-map_back f [] ys = refl
-map_back f (x ∷ xs) ys = map_back f xs (x ∷ ys)
-
 last_aged : (f r : ℕ) (ws : List Write) → last_write (map (unretired_write f) ws) r ≡ option_map (unretired_write f) (last_write ws r)
 last_aged f r ws = ap (find (λ w. w.register == r)) (sym (map_back (unretired_write f) ws [])) ∙ found_aged f r (reverse ws)
 
@@ -97,23 +93,27 @@ source_aged f r ws = of (last_write ws r) ∙ ap source_from (sym (last_aged f r
 
 -- ---- what it names
 
--- each register's writer
-pub names_writer : (p : InFlight) (r : ℕ) → Refines p → source_of p.writes r ≡ source_by (writer (reverse p.window) r)
+-- the table names each register's writer
+pub names_writer : NamesWriter
 names_writer p r s =
     let f = oldest_of p.next p.window in
     source_aged f r p.writes ∙ ap (λ ws. source_of ws r) s.columns.writes
     ∙ ap (λ ws. source_from (find (λ w. w.register == r) ws)) (turned _ [] p.window) ∙ source_behind (reverse p.window) r
 
+-- a serial that it names is that of an entry in the window
+pub names_entry : NamesEntry
+names_entry p r n s q = within r n p.window s.rise (writer (reverse p.window) r) refl (sym (names_writer p r s) ∙ q)
+
 -- the writer is found by the serial that is named
-pub finds_writer : (p : InFlight) (r : ℕ) → Refines p → entry_of p.window (source_of p.writes r) ≡ writer (reverse p.window) r
+pub finds_writer : FindsWriter
 finds_writer p r s = ap (entry_of p.window) (names_writer p r s) ∙ found r p.window s.rise (writer (reverse p.window) r) refl
 
 -- what a source of the next entry awaits is found
-pub finds_awaited : (p : InFlight) (r : ℕ) → Refines p → awaited_of (hold_in p) (entry_of p.window (source_of p.writes r)) ≡ awaited (hold_in p) (reverse p.window) (Some r)
+pub finds_awaited : FindsAwaited
 finds_awaited p r s = ap (awaited_of (hold_in p)) (finds_writer p r s)
 
--- and youngest root, or one that has retired where it has none
-pub names_root : (p : InFlight) (r : ℕ) → Refines p → unretired (oldest_of p.next p.window) (root_of p.writes r) ≡ youngest_root (reverse p.window) r
+-- the table names each register's youngest root, or one that has retired where it has none
+pub names_root : NamesRoot
 names_root p r s =
     let f = oldest_of p.next p.window in
     root_aged f r p.writes ∙ ap (λ ws. root_of ws r) s.columns.writes

@@ -1,24 +1,24 @@
 -- What stations await, as older entries come to give their values: one law for an entry that becomes Done and for a point that
 -- moves on.
-use Rattle.std.proofs.Common.{◌≡◌, ℕ, zero, suc, ◌<◌, ◌≤◌, Bool, true, false, not, ◌&&◌, ◌||◌, cond, List, [], ◌∷◌, Option, Some, None, refl, ap, ap₂, sym, ◌∙◌, arith, subst, slice_get}
-use Rattle.std.specs.Prelude.{if◌then◌else◌, map, nat_le, ◌==◌, slice_set}
-use Rattle.std.specs.List.{All, AllZip, AllByRecursion as Each, filter, list_any}
+use Rattle.std.proofs.Common.{Bool, List, None, Option, Some, [], ap, ap₂, arith, cond, false, not, refl, slice_get, subst, suc, sym, true, zero, ℕ, ◌&&◌, ◌<◌, ◌||◌, ◌∙◌, ◌∷◌, ◌≡◌, ◌≤◌}
 use Rattle.std.proofs.lemmas.Bool.Decides.{nat_tests}
 use Rattle.std.proofs.lemmas.List.Elements.{All-head, All-tail}
-use Rattle.rv_types.specs.Regs.{reads_of, writes_of, two}
+use Rattle.std.specs.List.{All, AllByRecursion as Each, AllZip, filter, list_any}
+use Rattle.std.specs.Prelude.{if◌then◌else◌, map, nat_le, slice_set, ◌==◌}
+use Rattle.rv_types.specs.Regs.{writes_of}
+use Rattle.stations.specs.Stations.{Station, strike, struck}
+use Rattle.window_model.proofs.Booleans.{or_true}
+use Rattle.window_model.proofs.Serials.{all_at, rise_head, rise_tail}
+use Rattle.window_model.specs.Order.{is_done, is_load, is_register, is_waiting, writer, writes}
+use Rattle.window_model.specs.Serials.{Rise}
 use Rattle.window_model.specs.declared.Entry.{Entry}
 use Rattle.window_model.specs.declared.Item.{Item}
 use Rattle.window_model.specs.declared.Progress.TheVariants.{Done}
-use Rattle.window_model.specs.Order.{is_done, is_load, is_register, is_waiting, writer, writes, sources}
-use Rattle.window_model.specs.Serials.{Rise}
-use Rattle.window_model.proofs.Booleans.{or_true}
-use Rattle.window_model.proofs.Serials.{all_at, rise_head, rise_tail}
-use Rattle.stations.specs.Stations.{Station, strike, struck}
-use Rattle.refinement.specs.Waiters.{Hold, Waiter, awaited, awaited_of, gives_at, waiter_in, waiter_of, waiters_from, wants_of}
-use Rattle.refinement.specs.Stations.{GoesOn, MovesOn, released, struck_each, struck_if_given}
-use Rattle.refinement.proofs.Youngest.{map_same, map_twice}
-use Rattle.refinement.proofs.Keeping.{goes_same}
+use Rattle.refinement.proofs.Lists.{map_same, map_twice, map_id}
+use Rattle.refinement.proofs.Serials.{goes_same}
 use Rattle.refinement.specs.Footprint.{Found, Terms, footprint_by, waiter_footprint}
+use Rattle.refinement.specs.Stations.{GoesOn, MovesOn, released, struck_each, struck_if_given}
+use Rattle.refinement.specs.Waiters.{Hold, Waiter, awaited, awaited_of, gives_at, waiter_in}
 
 -- ---- serials that are struck
 
@@ -56,7 +56,7 @@ pub record Gives (h h2 : Hold) (ss : List ℕ) (e e2 : Entry) : Type 0 where
   pub on : GoesOn e e2
   pub gives : gives_at h2 e2 ≡ (gives_at h e || among e.serial ss)
 
--- and what is kept of it, but for what it finds among the older ones, stays
+-- an entry goes on so, and its footprint stays, but for what it finds among the older ones
 pub record Wakes (h h2 : Hold) (ss : List ℕ) (e e2 : Entry) : Type 0 where
   pub gives : Gives h h2 ss e e2
   pub same : (t : Terms) (l : Found) → footprint_by t l e2 ≡ footprint_by t l e
@@ -84,19 +84,14 @@ awaited_woken h h2 ss (e ∷ b) (e2 ∷ b2) v (Some r) =
 abbrev pub woken : List ℕ → Waiter → Waiter
 woken ss w = record w { awaits = map (strike_each ss) w.awaits }
 
-
 -- ---- the stations, told of it
 
-strike_nothing : (os : List (Option ℕ)) → os ≡ map (strike_each []) os
-strike_nothing [] = refl
-strike_nothing (o ∷ os) = ap (λ os. o ∷ os) (strike_nothing os)
-
-woken_same : (ws : List Waiter) → ws ≡ map (woken []) ws
-woken_same [] = refl
-woken_same (w ∷ ws) = ap₂ (λ os ws. record w { awaits = os } ∷ ws) (strike_nothing w.awaits) (woken_same ws)
+-- where none is struck all is awaited as it was
+pub strike_nothing : (os : List (Option ℕ)) → map (strike_each []) os ≡ os
+strike_nothing os = map_id (strike_each []) (λ o. refl) os
 
 pub held_woken : (ss : List ℕ) (held : List Station) → map waiter_in (struck_each ss held) ≡ map (woken ss) (map waiter_in held)
-held_woken [] held = woken_same (map waiter_in held)
+held_woken [] held = sym (map_id (woken []) (λ (w : Waiter). ap (λ os. record w { awaits = os }) (strike_nothing w.awaits)) (map waiter_in held))
 held_woken (s ∷ ss) held =
     held_woken ss (map (struck s) held)
     ∙ map_twice (woken ss) waiter_in (map (struck s) held) ∙ map_twice (λ x. woken ss (waiter_in x)) (struck s) held
@@ -188,7 +183,7 @@ none_among h h2 n (e ∷ es) a =
     by_new true k f = ap₂ (λ a b. a || b) f k
     by_new false k f = k
 
--- so the oldest's is one of them exactly where it is new
+-- the oldest's serial is one of those that are released exactly where the oldest is new
 among_head : (h h2 : Hold) (e : Entry) (es : List Entry) → Rise (e ∷ es) → among e.serial (released h h2 (e ∷ es)) ≡ is_new h h2 e
 among_head h h2 e es r = by_new (is_new h h2 e) (none_among h h2 e.serial es (rise_head e es r))
   where
@@ -197,7 +192,7 @@ among_head h h2 e es r = by_new (is_new h h2 e) (none_among h h2 e.serial es (ri
     by_new true k = let t : (e.serial == e.serial) ≡ true = grind (arith, nat_tests) in ap (λ c. c || among e.serial (released h h2 es)) t
     by_new false k = k
 
--- and so it is with each
+-- an entry's serial is one of these exactly where the entry is new
 abbrev Tells : Hold → Hold → List ℕ → Entry → Type 0
 Tells h h2 ss e = among e.serial ss ≡ is_new h h2 e
 

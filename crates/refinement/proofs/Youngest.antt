@@ -1,25 +1,26 @@
 -- Youngest roots, as roots retire.
-use Rattle.std.proofs.Common.{◌≡◌, ℕ, ◌<◌, ◌≤◌, max, Bool, true, false, not, ◌&&◌, ◌||◌, List, [], ◌∷◌, ◌++◌, length, Option, Some, None, refl, ap, ap₂, sym, ◌∙◌, arith, ⊎_elim}
-use Rattle.std.specs.Prelude.{if◌then◌else◌, map, nat_le}
-use Rattle.std.specs.List.{All, list_any}
-use Rattle.std.proofs.lemmas.Bool.Decides.{nat_tests}
+use Rattle.std.proofs.Common.{Bool, List, None, Option, Some, [], ap, ap₂, arith, false, length, max, not, refl, sym, true, ℕ, ⊎_elim, ◌&&◌, ◌++◌, ◌<◌, ◌||◌, ◌∙◌, ◌∷◌, ◌≡◌, ◌≤◌}
 use Rattle.std.proofs.lemmas.Bool.{cases_lt}
+use Rattle.std.proofs.lemmas.Bool.Decides.{nat_tests}
 use Rattle.std.proofs.lemmas.List.Elements.{All-head, All-tail, All-weaker}
+use Rattle.std.specs.List.{All, list_any}
+use Rattle.std.specs.Prelude.{if◌then◌else◌, map, nat_le}
+use Rattle.rename_taint.specs.Writes.{later, latest, root_written}
+use Rattle.rv_types.specs.Regs.{reads_of, two}
 use Rattle.rv_types.specs.declared.Instr.{Instr}
-use Rattle.rv_types.specs.declared.Instr.TheVariants as instr
 use Rattle.rv_types.specs.declared.Kind.{Kind}
 use Rattle.rv_types.specs.declared.Kind.TheVariants.{Load}
-use Rattle.rv_types.specs.Regs.{reads_of, two}
-use Rattle.window_model.specs.declared.Entry.{Entry}
-use Rattle.window_model.specs.Along.{Behind}
-use Rattle.window_model.specs.Order.{is_load, writes, sources}
-use Rattle.window_model.specs.Taint.{tainted, any_tainted, visible}
-use Rattle.window_model.proofs.Taints.{tainted_cons, none_any}
-use Rattle.rename_taint.specs.Writes.{later, latest, root_written}
 use Rattle.visibility.specs.Point.{Point, is_hidden}
-use Rattle.refinement.specs.Roots.{youngest_root, root_of_source, source_roots, unretired}
-use Rattle.window_model.proofs.Serials.{Falls}
 use Rattle.window_model.proofs.Booleans.{or_false}
+use Rattle.window_model.proofs.Serials.{Falls}
+use Rattle.window_model.proofs.Taints.{none_any, tainted_cons}
+use Rattle.window_model.specs.Along.{Behind}
+use Rattle.window_model.specs.Order.{is_load, sources, writes}
+use Rattle.window_model.specs.Taint.{any_tainted, tainted, visible}
+use Rattle.window_model.specs.declared.Entry.{Entry}
+use Rattle.refinement.proofs.Lists.{map_same, map_twice}
+use Rattle.refinement.specs.Roots.{root_of_source, source_roots, unretired, youngest_root}
+use Rattle.rv_types.specs.declared.Instr.TheVariants as instr
 
 -- ---- what has not retired
 
@@ -59,7 +60,7 @@ pub unretired_written : (f : ℕ) (k : Kind) (s : ℕ) (os : List (Option ℕ)) 
 unretired_written f Load s os le = unretired_in f s le
 unretired_written f _ s os le = unretired_latest f os
 
-unretired_twice : (f g : ℕ) (o : Option ℕ) → f ≤ g → unretired g (unretired f o) ≡ unretired g o
+pub unretired_twice : (f g : ℕ) (o : Option ℕ) → f ≤ g → unretired g (unretired f o) ≡ unretired g o
 unretired_twice f g None le = refl
 unretired_twice f g (Some s) le = by_f (nat_le f s) refl
   where
@@ -101,14 +102,6 @@ written_two _ s before rs le = latest_two before rs le
 -- what an entry writes has its sources' roots
 pub written_by : (before : List Entry) (e : Entry) → root_written e.item.kind e.serial (source_roots before e) ≡ root_written e.item.kind e.serial (map (youngest_root before) (sources e))
 written_by before e = written_two e.item.kind e.serial before (sources e) (few_reads e.item.instr)
-
-pub map_same : {X Y : Type 0} (f g : X → Y) (xs : List X) → ((x : X) → f x ≡ g x) → map f xs ≡ map g xs
-map_same f g [] h = refl
-map_same f g (x ∷ xs) h = ap₂ (λ y ys. y ∷ ys) (h x) (map_same f g xs h)
-
-pub map_twice : {X Y Z : Type 0} (g : Y → Z) (f : X → Y) (xs : List X) → map g (map f xs) ≡ map (λ x. g (f x)) xs
-map_twice g f [] = refl
-map_twice g f (x ∷ xs) = ap (λ ys. g (f x) ∷ ys) (map_twice g f xs)
 
 -- ---- the oldest entry retires
 

@@ -1,6 +1,6 @@
--- What the parts of a core hold of one entry in flight: a function of the entry and the older ones (docs/architecture.md, "How
--- they stand for it"). `before` is always a list of the older entries, youngest first.
-use Rattle.std.specs.Prelude.{◌≡◌, ℕ, Bool, true, not, ◌&&◌, ◌||◌, List, [], ◌∷◌, is_some, map, Option, Some, None, if◌then◌else◌}
+-- What an entry in flight leaves in the parts of a core, its footprint: a function of the entry and the older ones
+-- (docs/architecture.md, "How they stand for it"). `before` is always a list of the older entries, youngest first.
+use Rattle.std.specs.Prelude.{ℕ, Bool, true, not, ◌&&◌, ◌||◌, List, [], ◌∷◌, is_some, map, Option, Some, None, if◌then◌else◌}
 use Rattle.std.specs.List.{cons_option}
 use Rattle.std.specs.Option.{option_map}
 use Rattle.window_model.specs.declared.Entry.{Entry}
@@ -8,14 +8,12 @@ use Rattle.window_model.specs.Order.{has_address, has_data, is_load, is_store, i
 use Rattle.window_model.specs.Retire.{stored_of}
 use Rattle.rename_taint.specs.declared.Write.{Write}
 use Rattle.rob_ring.specs.declared.beside.Sources.{Sources}
-use Rattle.stations.specs.Stations.{Station}
 use Rattle.lsq.specs.declared.load.Load.{Load}
 use Rattle.lsq.specs.declared.store.Span.{Span}
 use Rattle.lsq.specs.declared.store.Store.{Store}
 use Rattle.queue_laws.specs.Window.{Area, ShownLoad, area_in, area_of, reading_of, shown_reader}
-use Rattle.refinement.specs.Addresses.{base_root}
+use Rattle.refinement.specs.Roots.{base_root, source_roots, unretired}
 use Rattle.refinement.specs.Waiters.{Hold, Waiter, awaits_of, wants_of, write_of}
-use Rattle.refinement.specs.Roots.{source_roots, unretired}
 use Rattle.refinement.specs.Writers.{source_writers}
 
 -- ---- what an entry looks back on
@@ -29,7 +27,7 @@ pub record Found : Type 0 where
 abbrev pub look_back : Hold → List Entry → Entry → Found
 look_back h before e = record { roots = source_roots before e; writers = source_writers before e; awaits = awaits_of h before e }
 
--- ---- what is held of an entry
+-- ---- what an entry leaves in the parts
 
 -- a store: its serial, the root of its address, where it writes and what, each once that part has issued, whether it has its
 -- outcome once one has, and, where loads may pass stores, from which cycle on its address is known, and whether it is cleared
@@ -73,7 +71,7 @@ store_footprint t root e = record {
   cleared = t.tracked && e.cleared;
 }
 
--- by what it finds among the older ones
+-- an entry's footprint by what it finds among the older ones
 abbrev pub footprint_by : Terms → Found → Entry → Footprint
 footprint_by t l e = record {
   serial = e.serial;
@@ -87,7 +85,7 @@ footprint_by t l e = record {
 abbrev pub footprint_of : Terms → List Entry → Entry → Footprint
 footprint_of t before e = footprint_by t (look_back t.hold before e) e
 
--- what is held in one of the parts
+-- what one of the parts holds: a field of the footprints, of the entries that have it
 abbrev pub column : {X : Type 0} → (Footprint → Option X) → List Footprint → List X
 column field [] = []
 column field (k ∷ ks) = cons_option (field k) (column field ks)
@@ -103,7 +101,7 @@ unretired_write oldest w = record w { root = unretired oldest w.root }
 abbrev pub load_in : Terms → Load → ShownLoad
 load_in t l = record { serial = l.serial; reading = if t.tracked then option_map reading_of l.access else None }
 
--- none of which a part has issued lacks its outcome
+-- a store in the queue, none of which a part has issued without its outcome
 abbrev pub store_in : Terms → ℕ → Store → StoreFootprint
 store_in t oldest s = record {
   serial = s.serial;

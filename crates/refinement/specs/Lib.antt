@@ -7,5 +7,5 @@ pub mod Waiters
 pub mod Stations
 pub mod Telling
 pub mod Points
-pub mod Addresses
 pub mod Writers
+pub mod Noted

@@ -1,7 +1,9 @@
--- When the parts of a core stand for the window (docs/architecture.md, "How they stand for it").
+-- When the parts of a core refine the window (docs/architecture.md, "How they stand for it"). The abstraction function is
+-- `footprint_of`: what an entry, with the older ones, leaves in the parts. The relation is `Refines`: what each part holds is one column
+-- of the entries' footprints. A step owes the footprints that it changes; those of the other entries, and the columns that it
+-- doesn't touch, are the frame (`unset` and `aside` of proofs/Columns.antt).
 use Rattle.std.specs.Prelude.{◌≡◌, ℕ, ◌<◌, List, map, Some}
 use Rattle.std.specs.List.{All}
-use Rattle.window_model.specs.declared.Entry.{Entry}
 use Rattle.window_model.specs.Order.{each}
 use Rattle.window_model.specs.Serials.{Rise}
 use Rattle.rob_ring.specs.declared.beside.Sources.{Sources}
@@ -23,7 +25,7 @@ pub record Parts : Type 0 where
 abbrev pub parts : InFlight → Parts
 parts p = record { sources = p.sources; writes = p.writes; held = p.held; queues = p.queues }
 
--- the parts show what is kept of the entries, where the oldest has this serial
+-- each part is a column of these footprints, where the oldest entry has this serial
 pub record Columns (t : Terms) (oldest : ℕ) (p : Parts) (ks : List Footprint) : Type 0 where
   pub sources : map (unretired_sources oldest) p.sources ≡ column (λ k. Some k.sources) ks
   pub writes : map (unretired_write oldest) p.writes ≡ column (λ k. k.write) ks
@@ -34,11 +36,11 @@ pub record Columns (t : Terms) (oldest : ℕ) (p : Parts) (ks : List Footprint) 
 abbrev pub terms : InFlight → Terms
 terms p = record { version = p.version; hold = hold_in p; tracked = p.tracked }
 
--- what is kept of each entry in flight
+-- the footprint of each entry in flight
 abbrev pub footprints : InFlight → List Footprint
 footprints p = each (footprint_of (terms p)) p.window
 
--- serials rise with age and are below the next one, the parts show what is kept of each entry, and the point can move on
+-- serials rise with age and are below the next one, the parts are the columns of the footprints, and the point can move on
 pub record Refines (p : InFlight) : Type 0 where
   pub rise : Rise p.window
   pub next : All (λ e. e.serial < p.next) p.window

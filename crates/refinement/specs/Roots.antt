@@ -12,12 +12,12 @@ youngest_root [] r = None
 youngest_root (e ∷ before) r =
     if writes r e then root_written e.item.kind e.serial (map (youngest_root before) (sources e)) else youngest_root before r
 
--- the same of a source, if there is one
+-- the youngest root of a source, if there is one
 abbrev pub root_of_source : List Entry → Option ℕ → Option ℕ
 root_of_source before None = None
 root_of_source before (Some r) = youngest_root before r
 
--- of an entry's first and second source
+-- the youngest roots of an entry's first and second source
 abbrev pub source_roots : List Entry → Entry → List (Option ℕ)
 source_roots before e = map (root_of_source before) (two (sources e))
 
@@ -25,3 +25,8 @@ source_roots before e = map (root_of_source before) (two (sources e))
 abbrev pub unretired : ℕ → Option ℕ → Option ℕ
 unretired oldest None = None
 unretired oldest (Some root) = if nat_le oldest root then Some root else None
+
+-- the root of the base register, by those of an entry's sources
+abbrev pub base_root : List (Option ℕ) → Option ℕ
+base_root [] = None
+base_root (r ∷ rs) = r

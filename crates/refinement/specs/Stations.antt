@@ -1,32 +1,15 @@
--- Which steps keep the parts standing for the window (docs/architecture.md, "How they stand for it").
-use Rattle.std.specs.Prelude.{◌≡◌, ℕ, ◌+◌, ◌≤◌, false, not, ◌&&◌, List, [], ◌∷◌, ◌++◌, map, take, Option, if◌then◌else◌}
+-- How entries go on, and what becomes of the stations then (docs/architecture.md, "How they stand for it").
+use Rattle.std.specs.Prelude.{◌≡◌, ℕ, ◌≤◌, false, not, ◌&&◌, List, [], ◌∷◌, ◌++◌, map, take, Option, if◌then◌else◌}
 use Rattle.std.specs.List.{count_by, filter, remove}
-use Rattle.std.specs.Option.{option_to_list}
 use Rattle.window_model.specs.declared.Entry.{Entry}
 use Rattle.window_model.specs.Order.{is_done, is_waiting}
 use Rattle.stations.specs.Stations.{Station, left_wanting, struck}
-use Rattle.refinement.specs.Waiters.{Hold, Parts, gives_at, wants_of, write_of}
-
--- nothing in flight, and nothing held
-abbrev pub empty : ℕ → Hold → ℕ → Parts
-empty version hold next = record { version = version; hold = hold; next = next; window = []; roots = []; writes = []; held = [] }
+use Rattle.refinement.specs.Waiters.{Hold, gives_at, wants_of}
 
 -- a station more, in some place, where the entry waits
 abbrev pub seated : ℕ → ℕ → List (Option ℕ) → Entry → List Station → List Station
 seated version place awaits e held =
     if is_waiting e.state then held ++ record { serial = e.serial; awaits = awaits; place = place; wants = wants_of version e } ∷ [] else held
-
--- the parts with an entry more, with these roots, and these serials that it awaits
-abbrev pub with_entry : ℕ → List (Option ℕ) → List (Option ℕ) → Entry → Parts → Parts
-with_entry place roots awaits e p = record {
-  version = p.version;
-  hold = p.hold;
-  next = p.next + 1;
-  window = p.window ++ e ∷ [];
-  roots = p.roots ++ roots ∷ [];
-  writes = p.writes ++ option_to_list (write_of e roots);
-  held = seated p.version place awaits e p.held;
-}
 
 -- an entry that goes on in its place: the same instruction, with the same serial
 pub record GoesOn (e e2 : Entry) : Type 0 where

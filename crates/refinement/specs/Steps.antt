@@ -1,5 +1,5 @@
--- What becomes of the parts in each step of a cycle, and that they go on to stand for the window (docs/architecture.md, "How they
--- stand for it").
+-- What becomes of the parts in each step of a cycle, and that they go on to refine the window (docs/architecture.md, "How they stand
+-- for it").
 use Rattle.std.specs.Prelude.{◌≡◌, ℕ, ◌+◌, ◌<◌, nat_lt, true, false, List, [], ◌∷◌, ◌++◌, length, map, reverse, take, drop, slice_get, slice_set, Option, Some, None}
 use Rattle.std.specs.List.{filter}
 use Rattle.std.specs.Option.{option_to_list}
@@ -20,10 +20,10 @@ use Rattle.rob_ring.specs.declared.beside.Sources.{Sources}
 use Rattle.rename_taint.specs.Writes.{before_serial, root_at, without_retired}
 use Rattle.lsq.specs.Queues as queues
 use Rattle.lsq.specs.Queues.{Queues, cut_at, without}
-use Rattle.queue_laws.specs.Window.{PartsGoOn, TracksOn, cleared_in, noted, noted_load}
+use Rattle.refinement.specs.Noted.{PartsGoOn, TracksOn, cleared_in, noted, noted_load}
 use Rattle.visibility.specs.Point.{NotPast, first_point, moved_over}
 use Rattle.refinement.specs.Waiters.{awaits_of, gives_at, write_of}
-use Rattle.refinement.specs.Addresses.{base_root}
+use Rattle.refinement.specs.Roots.{base_root}
 use Rattle.refinement.specs.Stations.{Issues, left_held, seated, station_of, struck_by_move, struck_if_given}
 use Rattle.refinement.specs.Writers.{named}
 use Rattle.refinement.specs.InFlight.{InFlight, hold_in}
@@ -45,7 +45,7 @@ queued Load serial root q = record q { loads = q.loads ++ record { serial = seri
 queued Store serial root q = record q { stores = q.stores ++ record { serial = serial; root = root; span = None; stored = None; cleared = false } ∷ [] }
 queued _ serial root q = q
 
--- with what the table names for its sources, what they await, and a place for its station
+-- an entry is renamed, with what the table names for its sources, what they await, and a place for its station
 abbrev pub with_entry : ℕ → Sources → List (Option ℕ) → Entry → InFlight → InFlight
 with_entry place s awaits e p = record p {
   next = p.next + 1;
@@ -56,7 +56,8 @@ with_entry place s awaits e p = record p {
   queues = queued e.item.kind e.serial (base_root s.roots) p.queues;
 }
 
--- it has the next serial, isn't resolved, it and no part of it has issued, and a store that loads may pass isn't cleared
+-- an entry with the next serial that isn't resolved, of which no part has issued, and which isn't cleared if it is a store that
+-- loads may pass
 pub record Fresh (p : InFlight) (e : Entry) : Type 0 where
   pub serial : e.serial ≡ p.next
   pub unresolved : e.resolved ≡ false
@@ -71,7 +72,7 @@ RenamesIn = (p : InFlight) (e : Entry) (s : Sources) (awaits : List (Option ℕ)
 
 -- ---- the entry at a position goes on
 
--- it issues, or a part of it: its station is freed or waits for what is left, and a store's parts that have issued are noted, with
+-- an entry issues, or a part of it: its station is freed or waits for what is left, and a store's parts that have issued are noted, with
 -- the width of its access; so is what a load reads, where loads may pass stores
 abbrev pub with_issued : ℕ → Width → Entry → InFlight → InFlight
 with_issued i w e p = record p {
@@ -84,7 +85,7 @@ abbrev pub IssuesAt : Type 0
 IssuesAt = (p : InFlight) (i : ℕ) (e e2 : Entry) (w : Width) → Refines p → slice_get p.window i ≡ Some e → is_waiting e.state ≡ true →
     Issues e e2 → (is_store e.item.kind ≡ true → PartsGoOn w e e2) → (p.tracked ≡ true → TracksOn w e e2) → Refines (with_issued i w e2 p)
 
--- it becomes Done: no station awaits it any more, unless its value is held back
+-- an entry becomes Done: no station awaits it any more, unless its value is held back
 abbrev pub with_done : ℕ → Entry → InFlight → InFlight
 with_done i e p =
     let done = record e { state = Done } in
@@ -93,23 +94,23 @@ with_done i e p =
 abbrev pub CompletesAt : Type 0
 CompletesAt = (p : InFlight) (i : ℕ) (e : Entry) → Refines p → slice_get p.window i ≡ Some e → is_waiting e.state ≡ false → Refines (with_done i e p)
 
--- it is marked as resolved
+-- an entry is marked as resolved
 abbrev pub with_resolved : ℕ → Entry → InFlight → InFlight
 with_resolved i e p = record p { window = slice_set p.window i (record e { resolved = true }) }
 
 abbrev pub ResolvesAt : Type 0
 ResolvesAt = (p : InFlight) (i : ℕ) (e : Entry) → Refines p → slice_get p.window i ≡ Some e → is_waiting e.state ≡ false → Refines (with_resolved i e p)
 
--- it is a store, and is cleared
+-- an entry is cleared, in the window and in the queue of stores; only a store is
 abbrev pub with_cleared : ℕ → Entry → InFlight → InFlight
 with_cleared i e p = record p { window = slice_set p.window i (cleared_one e); queues = cleared_in e.serial p.queues }
 
 abbrev pub ClearsAt : Type 0
-ClearsAt = (p : InFlight) (i : ℕ) (e : Entry) → Refines p → slice_get p.window i ≡ Some e → is_store e.item.kind ≡ true → Refines (with_cleared i e p)
+ClearsAt = (p : InFlight) (i : ℕ) (e : Entry) → Refines p → slice_get p.window i ≡ Some e → Refines (with_cleared i e p)
 
 -- ---- entries go
 
--- those from a serial on
+-- the entries from a serial on are dropped from all parts
 abbrev pub below_serial : ℕ → InFlight → InFlight
 below_serial first p = record p {
   window = below first p.window;
@@ -124,7 +125,7 @@ abbrev pub DropsFrom : Type 0
 DropsFrom = (p : InFlight) (first i : ℕ) (e : Entry) → Refines p → slice_get p.window i ≡ Some e → e.serial < first → NotPast p.point e.serial →
     Refines (below_serial first p)
 
--- the oldest, which gives its value
+-- the oldest entry, which gives its value, leaves all parts
 abbrev pub without_head : Entry → InFlight → InFlight
 without_head head p = record p {
   window = drop 1 p.window;
@@ -138,7 +139,7 @@ RetiresHead = (p : InFlight) (head : Entry) → Refines p → slice_get p.window
 
 -- ---- the point moves
 
--- over the window; no station awaits an entry that then gives its value
+-- the point moves over the window; no station awaits an entry that then gives its value
 abbrev pub with_moved : InFlight → InFlight
 with_moved p =
     let moved = moved_over p.window p.point in
@@ -147,6 +148,6 @@ with_moved p =
 abbrev pub PointMoves : Type 0
 PointMoves = (p : InFlight) → Refines p → Refines (with_moved p)
 
--- it stops at a branch or JALR that isn't resolved, and at a store that isn't cleared
+-- the point stops at a branch or JALR that isn't resolved, and at a store that isn't cleared
 abbrev pub PointStops : Type 0
 PointStops = (p : InFlight) (i : ℕ) (e : Entry) → Refines p → slice_get p.window i ≡ Some e → settled e ≡ false → NotPast p.point e.serial

@@ -1,17 +1,15 @@
--- The serials of the sources' writers, by position (docs/architecture.md, "How they stand for it"): as they were when
--- each entry was renamed, so that a source's value is found without a search.
-use Rattle.std.specs.Prelude.{◌≡◌, ℕ, ◌==◌, List, [], ◌∷◌, length, map, slice_get, Option, Some, None, if◌then◌else◌}
+-- The writers of an entry's sources, by their serials, as they were when the entry was renamed: so a source's value is found without
+-- a search (docs/architecture.md, "How they stand for it").
+use Rattle.std.specs.Prelude.{ℕ, ◌==◌, List, length, map, slice_get, Option, Some, None, if◌then◌else◌}
 use Rattle.std.specs.Option.{option_map}
 use Rattle.rv_types.specs.Regs.{two}
 use Rattle.window_model.specs.declared.Entry.{Entry}
-use Rattle.window_model.specs.Order.{before_at, sources, writer}
+use Rattle.window_model.specs.Order.{sources, writer}
 use Rattle.rob_ring.specs.Ring.{below}
 use Rattle.rename_taint.specs.declared.Source.{Source}
 use Rattle.rename_taint.specs.declared.Source.TheVariants as source
 use Rattle.rename_taint.specs.declared.Write.{Write}
 use Rattle.rename_taint.specs.Writes.{source_of}
-use Rattle.refinement.specs.Roots.{unretired}
-use Rattle.refinement.specs.Waiters.{Parts, Stand, oldest_of}
 
 -- a source's writer, if there is one in flight
 abbrev pub writer_of : List Entry → Option ℕ → Option Entry
@@ -23,22 +21,11 @@ abbrev pub writer_of_source : List Entry → Option ℕ → Option ℕ
 writer_of_source before None = None
 writer_of_source before (Some r) = option_map (λ e. e.serial) (writer before r)
 
--- of an entry's first and second source
+-- the serials of the writers of an entry's first and second source
 abbrev pub source_writers : List Entry → Entry → List (Option ℕ)
 source_writers before e = map (writer_of_source before) (two (sources e))
 
--- there is a pair of serials for each entry: its sources' writers, and for a source without one maybe one that has
--- retired
-abbrev pub WritersStand : ℕ → List Entry → List Entry → List (List (Option ℕ)) → Type 0
-WritersStand oldest before [] [] = Unit {0}
-WritersStand oldest before (e ∷ es) (ws ∷ writers) = (map (unretired oldest) ws ≡ source_writers before e) × WritersStand oldest (e ∷ before) es writers
-WritersStand oldest before _ _ = ⊥
-
--- the pairs stand for the window
-abbrev pub WritersOf : ℕ → List Entry → List (List (Option ℕ)) → Type 0
-WritersOf next window writers = WritersStand (oldest_of next window) [] window writers
-
--- ---- what they tell
+-- ---- the entry of a serial
 
 -- the entry, if it has this serial
 abbrev pub if_serial : ℕ → Option Entry → Option Entry
@@ -50,24 +37,14 @@ abbrev pub in_flight : List Entry → Option ℕ → Option Entry
 in_flight window None = None
 in_flight window (Some serial) = if_serial serial (slice_get window (length (below serial window)))
 
--- by an entry's pair its sources' writers are found
-abbrev pub TellsWriters : Type 0
-TellsWriters = (p : Parts) (writers : List (List (Option ℕ))) (i : ℕ) (e : Entry) (ws : List (Option ℕ)) → Stand p → WritersOf p.next p.window writers →
-    slice_get p.window i ≡ Some e → slice_get writers i ≡ Some ws →
-    map (in_flight p.window) ws ≡ map (writer_of (before_at p.window i)) (two (sources e))
-
--- ---- which steps keep them
+-- ---- what the table names
 
 -- the serial that the table names, if it names one
 abbrev pub serial_in : Source → Option ℕ
 serial_in source.Committed = None
 serial_in (source.Entry serial) = Some serial
 
--- the same of a source, if there is one
+-- the serial of the writer that the table names for a source, if there is a source and it names one
 abbrev pub named : List Write → Option ℕ → Option ℕ
 named writes None = None
 named writes (Some r) = serial_in (source_of writes r)
-
--- as many pairs as entries
-abbrev pub CountsWriters : Type 0
-CountsWriters = (next : ℕ) (window : List Entry) (writers : List (List (Option ℕ))) → WritersOf next window writers → length writers ≡ length window

@@ -14,7 +14,9 @@ ghost use Rattle.refinement.specs.Steps.{
   RetiresHead,
 };
 
-/// Parts go on to stand for the window as it changes.
+/// Parts go on to refine the window as it changes: as entries are renamed into it, issue, in parts or whole, become
+/// Done, are resolved, are cleared, are dropped, and retire, and as the visibility point moves (`docs/machine.md`, "A
+/// cycle").
 pub fn steps_keep_refinement()
     ensures opens { OpensEmpty }
     ensures rename { RenamesIn }
@@ -27,6 +29,7 @@ pub fn steps_keep_refinement()
     ensures point { PointMoves }
     ensures stops { PointStops }
 {}
+
 ghost use Rattle.refinement.specs.Telling.{
   CountsRoom,
   CountsStations,
@@ -34,29 +37,30 @@ ghost use Rattle.refinement.specs.Telling.{
   FindsWriter,
   HasStation,
   HoldsOlderOnes,
+  HoldsWaiters,
   NamesEntry,
   NamesRoot,
   NamesWriter,
-  PicksFirst,
+  QueuesStand,
+  QueuesTrack,
   StationsOlder,
   StationsYounger,
   TellsAble,
+  TellsEachStore,
   TellsGiven,
-  TellsIssue,
   TellsOperands,
   TellsPart,
   TellsReady,
   TellsTaint,
   TellsVisible,
+  TellsWriters,
 };
-ghost use Rattle.refinement.specs.Addresses.{FindsClearable, TellsEachStore};
-ghost use Rattle.refinement.specs.Writers.{CountsWriters, TellsWriters};
 
-/// What parts that stand for the window tell of it: for what there is room, who writes a register, and what an entry
-/// awaits; and, where the point has just moved, which entries give their values, whether an entry is ready, and a part
-/// of a store, what is tainted, what may issue and what is resolved. By the serials of the sources' writers each
-/// source's writer is found (`docs/machine.md`, "Writers and roots"); by the roots of the stores' addresses a load is
-/// told which older stores have tainted ones ("Loads"), and the store is found that is cleared ("Clear").
+/// What parts that refine the window tell of it: for what there is room, who writes a register, which writers an
+/// entry's sources have (`docs/machine.md`, "Writers and roots"), what it awaits, and which loads and stores there are;
+/// and, where the point has just moved, which entries give their values, whether an entry is ready, and a part of a
+/// store, what is tainted, and which older stores have tainted addresses ("Loads"). Who may issue, be resolved or be
+/// cleared is said from this in `issue`, `resolve` and `clear`.
 pub fn parts_tell_of_window()
     ensures room { CountsRoom }
     ensures older { HoldsOlderOnes }
@@ -64,6 +68,8 @@ pub fn parts_tell_of_window()
     ensures entry { NamesEntry }
     ensures found { FindsWriter }
     ensures awaits { FindsAwaited }
+    ensures writers { TellsWriters }
+    ensures waiting { HoldsWaiters }
     ensures station { HasStation }
     ensures count { CountsStations }
     ensures older_stations { StationsOlder }
@@ -72,14 +78,11 @@ pub fn parts_tell_of_window()
     ensures ready { TellsReady }
     ensures able { TellsAble }
     ensures part { TellsPart }
-    ensures root { NamesRoot }
     ensures visible { TellsVisible }
+    ensures root { NamesRoot }
     ensures taint { TellsTaint }
     ensures operands { TellsOperands }
-    ensures issue { TellsIssue }
-    ensures picks { PicksFirst }
-    ensures writers { TellsWriters }
-    ensures count_writers { CountsWriters }
+    ensures queues { QueuesStand }
+    ensures tracks { QueuesTrack }
     ensures stores { TellsEachStore }
-    ensures clearable { FindsClearable }
 {}

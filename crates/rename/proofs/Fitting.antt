@@ -14,7 +14,7 @@ use Rattle.window_model.proofs.Booleans.{both, neither, not_true, below}
 use Rattle.window_model.proofs.Counts.{count, count_is}
 use Rattle.lsq.specs.Queues.{Queues}
 use Rattle.queue_laws.specs.Window.{StandFor}
-use Rattle.queue_laws.proofs.Renaming.{room_is}
+use Rattle.queue_laws.proofs.Keeping.{room_is}
 use Rattle.rename.specs.Fitting.{fitting}
 
 -- ---- a call stands alone

@@ -19,14 +19,15 @@ use Rattle.rename_taint.specs.Writes.{root_at}
 use Rattle.stations.specs.Stations.{Stations}
 use Rattle.lsq.specs.Queues.{Queues}
 use Rattle.fetch_unit.specs.Unit.{FetchUnit}
-use Rattle.queue_laws.proofs.Renaming.{room_is}
-use Rattle.refinement.specs.Addresses.{base_root}
-use Rattle.refinement.specs.Waiters.{awaits_of, write_of}
-use Rattle.refinement.specs.Stations.{seated}
-use Rattle.refinement.specs.Telling.{hold_of}
-use Rattle.refinement.specs.Steps.{Fresh, queued}
-use Rattle.refinement.proofs.Answering.{counts_held, counts_writes, queues_stand}
+use Rattle.queue_laws.proofs.Keeping.{room_is}
+use Rattle.refinement.proofs.Queues.{queues_stand}
+use Rattle.refinement.proofs.Room.{counts_held, counts_writes}
 use Rattle.refinement.proofs.Steps.{stands_renamed}
+use Rattle.refinement.specs.Roots.{base_root}
+use Rattle.refinement.specs.Stations.{seated}
+use Rattle.refinement.specs.Steps.{Fresh, queued}
+use Rattle.refinement.specs.Telling.{hold_of}
+use Rattle.refinement.specs.Waiters.{awaits_of, write_of}
 use Rattle.core_parts.proofs.Lending.{each_has_sources}
 use Rattle.core_parts.specs.Described.{Described}
 use Rattle.core_parts.specs.Held.{Held, Sizes, Whole, described, in_flight, machine_of, sizes}

@@ -6,7 +6,7 @@ ghost use Rattle.window_model.specs.Dependence.{starts_cleared};
 ghost use Rattle.window_model.specs.Rename.{at_once, renamed};
 ghost use Rattle.window_model.specs.Order.{is_load, is_store};
 ghost use Rattle.stations.specs.declared.wants.Wants.TheVariants as wants;
-ghost use Rattle.refinement.specs.Addresses.{base_root};
+ghost use Rattle.refinement.specs.Roots.{base_root};
 ghost use Rattle.refinement.specs.Steps.{queued};
 ghost use Rattle.rename.specs.Entering.{with_station, with_write, write_by};
 

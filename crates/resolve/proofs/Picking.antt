@@ -13,11 +13,11 @@ use Rattle.window_model.proofs.Serials.{Falls}
 use Rattle.rob_ring.specs.Beside.{each_roots}
 use Rattle.visibility.specs.Pick.{can_resolve, pick_from}
 use Rattle.visibility.specs.Point.{HasAdvanced, Point}
-use Rattle.refinement.specs.Waiters.{oldest_of}
-use Rattle.refinement.specs.Roots.{source_roots, unretired}
-use Rattle.refinement.proofs.Answering.{roots_are}
-use Rattle.refinement.proofs.OldAnswering.{operands_told, told}
+use Rattle.refinement.proofs.Sources.{roots_are}
+use Rattle.refinement.proofs.Visible.{operands_told, told}
 use Rattle.refinement.proofs.Youngest.{Tells}
+use Rattle.refinement.specs.Roots.{source_roots, unretired}
+use Rattle.refinement.specs.Waiters.{oldest_of}
 use Rattle.resolve.specs.Taken.{PicksFirst}
 
 pick_by : (d : Desc) (point : Point) (f : ℕ) (before es : List Entry) (roots : List (List (Option ℕ))) → point.model ≡ d.stt_model → ((s : ℕ) → s < f → s ≤ point.serial) →

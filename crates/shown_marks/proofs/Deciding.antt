@@ -20,10 +20,10 @@ use Rattle.stations.specs.declared.wants.Part.TheVariants as part
 use Rattle.stations.specs.declared.wants.Wants.TheVariants as wants
 use Rattle.rob_ring.specs.declared.beside.Sources.{Sources}
 use Rattle.visibility.specs.Gate.{may_transmit}
+use Rattle.refinement.proofs.Ready.{tells_part}
+use Rattle.refinement.proofs.Visible.{tells_operands}
+use Rattle.refinement.specs.Telling.{MovedBy, OperandsTold, has_sources}
 use Rattle.refinement.specs.Waiters.{wants_by, wants_of}
-use Rattle.refinement.specs.Telling.{OperandsTold, has_sources}
-use Rattle.refinement.proofs.Answering.{tells_operands}
-use Rattle.refinement.proofs.Ready.{MovedBy, tells_part}
 use Rattle.issue.proofs.Asking.{InStep, first_ready, not_able, not_waiting, part_asks, part_gone, part_may_by, second_ready, step_at, whole_ready}
 use Rattle.secret_marks.specs.declared.EntryMarks.{EntryMarks}
 use Rattle.secret_marks.specs.declared.WordMarks.{WordMarks}

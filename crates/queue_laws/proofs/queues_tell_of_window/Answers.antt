@@ -1,7 +1,6 @@
 use Rattle.queue_laws.proofs.Clearing.{tells_in_place}
-use Rattle.queue_laws.proofs.Keeping.{older_stands}
+use Rattle.queue_laws.proofs.Keeping.{older_stands, room_is}
 use Rattle.queue_laws.proofs.Letting.{known_is, lets_are}
-use Rattle.queue_laws.proofs.Renaming.{room_is}
 use Rattle.queue_laws.proofs.Roots.{hidden_is}
 use Rattle.queue_laws.proofs.Telling.{bytes_are, covered_is}
 use Rattle.queue_laws.proofs.Violating.{violates}

@@ -1,7 +1,10 @@
-use Rattle.refinement.proofs.OldAnswering.{counts_room, counts_stations, finds_awaited, finds_writer, has_station, holds_older, names_entry, names_root, names_writer, picks_first, stations_older, stations_younger, tells_given, tells_issue, tells_operands, tells_able, tells_part, tells_ready, tells_taint, tells_visible}
-use Rattle.refinement.proofs.Addressing.{tells_each_store}
-use Rattle.refinement.proofs.OldClearing.{finds_clearable}
-use Rattle.refinement.proofs.Writing.{counts_writers, tells_writers}
+use Rattle.refinement.proofs.Queues.{queues_stand, queues_track, tells_each_store}
+use Rattle.refinement.proofs.Ready.{tells_able, tells_part, tells_ready}
+use Rattle.refinement.proofs.Room.{counts_room, holds_older}
+use Rattle.refinement.proofs.Stations.{counts_stations, holds_waiting, station_for, stations_older, stations_younger}
+use Rattle.refinement.proofs.Table.{finds_awaited, finds_writer, names_entry, names_root, names_writer}
+use Rattle.refinement.proofs.Visible.{tells_given, tells_operands, tells_taint, tells_visible}
+use Rattle.refinement.proofs.Writers.{tells_writers}
 use Rattle.refinement.proofs.parts_tell_of_window.Goals as goal
 
 pub returns : goal.returns
@@ -12,7 +15,9 @@ returns c = record {
   entry = names_entry;
   found = finds_writer;
   awaits = finds_awaited;
-  station = has_station;
+  writers = tells_writers;
+  waiting = holds_waiting;
+  station = station_for;
   count = counts_stations;
   older_stations = stations_older;
   younger_stations = stations_younger;
@@ -20,14 +25,11 @@ returns c = record {
   ready = tells_ready;
   able = tells_able;
   part = tells_part;
-  root = names_root;
   visible = tells_visible;
+  root = names_root;
   taint = tells_taint;
   operands = tells_operands;
-  issue = tells_issue;
-  picks = picks_first;
-  writers = tells_writers;
-  count_writers = counts_writers;
+  queues = queues_stand;
+  tracks = queues_track;
   stores = tells_each_store;
-  clearable = finds_clearable;
 }

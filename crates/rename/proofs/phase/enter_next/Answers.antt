@@ -3,7 +3,7 @@ use Rattle.std.proofs.Common.{refl, ap, subst, sym, ◌∙◌}
 use Rattle.std.specs.Prelude.{option_copied}
 use Rattle.std.specs.List.{All}
 use Rattle.window_model.specs.Rename.{renamed}
-use Rattle.refinement.proofs.Answering.{held_older, writes_older}
+use Rattle.refinement.proofs.Room.{held_older, writes_older}
 use Rattle.rename.specs.Entering.{HasPlace}
 use Rattle.rename.proofs.Awaiting.{writers_in_flight}
 use Rattle.rename.proofs.Standing.{counted, enter_shown, enter_whole, entered_by, room_for}

@@ -1,7 +1,7 @@
 use Rattle.std.proofs.Common.{ap}
-use Rattle.core_parts.specs.Held.{Sizes, in_flight}
+use Rattle.core_parts.specs.Held.{Sizes}
 use Rattle.entry_marks.specs.Walk.{marks_of}
-use Rattle.shown_marks.proofs.Lending.{lent_advanced, lent_step, operands_lent}
+use Rattle.shown_marks.proofs.Lending.{lent_advanced, lent_flight, lent_step, operands_lent}
 use Rattle.shown_marks.proofs.operands.operands_shown.Goals as goal
 
 pub operands_shown-requires : goal.operands_shown-requires
@@ -9,7 +9,7 @@ operands_shown-requires g c =
     let w = c.parts.invariant in
     record {
       stands = record {
-        rest = in_flight c.parts.inside;
+        rest = lent_flight _ _ w c.parts.view_is;
         refines = w.stands;
         step = lent_step _ _ w c.parts.view_is c.args.marks.now.window.items c.requires.step;
         store_parts = w.sized.parts;

@@ -1,7 +1,7 @@
 use Rattle.std.proofs.Common.{◌<◌, sym, subst, ◌∙◌, arith}
 use Rattle.std.proofs.lemmas.Option.{slice_get_within}
-use Rattle.refinement.proofs.Answering.{counts_sources}
-use Rattle.refinement.proofs.Found.{tells_writers}
+use Rattle.refinement.proofs.Room.{counts_sources}
+use Rattle.refinement.proofs.Writers.{tells_writers}
 use Rattle.window_model.specs.Order.{sources}
 use Rattle.entry_marks.proofs.Sources.{sources_are}
 use Rattle.entry_marks.proofs.walk.Walk.second_source.Goals as goal

@@ -1,7 +1,7 @@
 use Rattle.std.proofs.Common.{◌∙◌, sym, arith, true}
 use Rattle.window_model.specs.Order.{sources}
+use Rattle.refinement.proofs.Stations.{station_within}
 use Rattle.refinement.specs.Telling.{own_of}
-use Rattle.refinement.proofs.Ready.{station_within}
 use Rattle.issue.specs.Ports.{part_port}
 use Rattle.issue.specs.State.{around_of, before_of, flight_of}
 use Rattle.issue.proofs.Asking.{first_ready, in_step, part_asks, part_gone, part_may_by, second_ready}

@@ -1,5 +1,5 @@
 use Rattle.std.proofs.Common.{◌∙◌}
-use Rattle.refinement.proofs.Found.{tells_writers}
+use Rattle.refinement.proofs.Writers.{tells_writers}
 use Rattle.issue.specs.State.{before_of, flight_of}
 use Rattle.issue.proofs.Writers.{operands_are}
 use Rattle.issue.proofs.seen.Seen.operands.Goals as goal

@@ -1,5 +1,5 @@
 use Rattle.std.proofs.Common.{◌∙◌, sym, arith}
-use Rattle.issue.proofs.Waiting.{station_within}
+use Rattle.refinement.proofs.Stations.{station_within}
 use Rattle.shown_marks.specs.State.{flight_of}
 use Rattle.shown_marks.proofs.Deciding.{address_alone, address_issued, address_with_data}
 use Rattle.shown_marks.proofs.seen.Seen.address_may.Goals as goal

@@ -1,6 +1,6 @@
 use Rattle.std.proofs.Common.{◌<◌, sym, subst}
 use Rattle.std.proofs.lemmas.Option.{slice_get_within}
-use Rattle.refinement.proofs.Answering.{counts_sources}
+use Rattle.refinement.proofs.Room.{counts_sources}
 use Rattle.shown_marks.proofs.seen.Seen.sources_of.Goals as goal
 
 pub sources_at-requires : goal.sources_at-requires

@@ -1,12 +1,12 @@
--- What a part shows of its items is what is kept of each entry in it, as entries come, go on and leave: one law for each change of a
--- list of what is kept, whatever the part.
-use Rattle.std.proofs.Common.{◌≡◌, ◌≢◌, ℕ, zero, suc, ◌<◌, Bool, true, false, cond, List, [], ◌∷◌, ◌++◌, length, take, drop, Option, Some, None, refl, ap, ap₂, sym, ◌∙◌, subst, arith, slice_get}
-use Rattle.std.specs.Prelude.{map, slice_set, ◌==◌, if◌then◌else◌}
+-- A part is a column of footprints, and stays one as entries come, go on and leave: one law for each change of a list of footprints,
+-- whatever the part.
+use Rattle.std.proofs.Common.{Bool, List, None, Option, Some, [], ap, ap₂, arith, cond, drop, false, length, refl, slice_get, subst, suc, sym, take, true, zero, ℕ, ◌++◌, ◌<◌, ◌∙◌, ◌∷◌, ◌≡◌, ◌≢◌}
+use Rattle.std.proofs.lemmas.Bool.Decides.{nat_tests}
+use Rattle.std.proofs.lemmas.List.{append-nil, map-append}
+use Rattle.std.proofs.lemmas.List.Elements.{All-cons, All-head, All-nil, All-tail}
 use Rattle.std.specs.List.{All, AllByRecursion as Each, cons_option, filter, remove}
 use Rattle.std.specs.Option.{option_map, option_to_list}
-use Rattle.std.proofs.lemmas.List.{append-nil, map-append}
-use Rattle.std.proofs.lemmas.List.Elements.{All-head, All-tail, All-nil, All-cons}
-use Rattle.std.proofs.lemmas.Bool.Decides.{nat_tests}
+use Rattle.std.specs.Prelude.{if◌then◌else◌, map, slice_set, ◌==◌}
 use Rattle.refinement.specs.Footprint.{Footprint, column}
 
 -- serials rise
@@ -14,7 +14,7 @@ abbrev pub Rises : List Footprint → Type 0
 Rises [] = Unit {0}
 Rises (k ∷ ks) = All (λ (d : Footprint). k.serial < d.serial) ks × Rises ks
 
--- what is kept of an entry in a field has the entry's serial
+-- what a footprint has in a field has the entry's serial
 abbrev pub Numbered : {X : Type 0} → (X → ℕ) → (Footprint → Option X) → Footprint → Type 0
 Numbered xn field k = option_map xn (field k) ≡ option_map (λ x. k.serial) (field k)
 
@@ -37,7 +37,7 @@ module _ {T X : Type 0} (f : T → X) (g : Footprint → X) where
   as_many (x ∷ xs) [] h = absurd (cc)
   as_many (x ∷ xs) (k ∷ ks) h = let tail : map f xs ≡ column (λ k. Some (g k)) ks = cc in ap suc (as_many xs ks tail)
 
--- a part shows f of its items, and of what is kept of an entry a field
+-- a part shows f of its items, and of footprints a field
 module _ {T X : Type 0} (f : T → X) (field : Footprint → Option X) where
   cons_join : (o : Option X) (xs ys : List X) → cons_option o (xs ++ ys) ≡ cons_option o xs ++ ys
   cons_join None xs ys = refl
@@ -57,7 +57,7 @@ module _ {T X : Type 0} (f : T → X) (field : Footprint → Option X) where
       one None = refl
       one (Some x) = refl
 
-  -- where it is held
+  -- one entry more, where it is held
   pub pushed_if : (b : Bool) (xs : List T) (x : T) (y : X) (ks : List Footprint) (k : Footprint) → map f xs ≡ column field ks → (b ≡ true → f x ≡ y) → field k ≡ (if b then Some y else None) →
       map f (if b then xs ++ x ∷ [] else xs) ≡ column field (ks ++ k ∷ [])
   pushed_if true xs x y ks k h q s = pushed xs (Some x) ks k h (ap Some (q refl) ∙ sym s)
@@ -73,7 +73,7 @@ module _ {T X : Type 0} (f : T → X) (field : Footprint → Option X) where
   column_mapped w v b [] = refl
   column_mapped w v b (k ∷ ks) = mapped w (field k) (column field ks) ∙ ap₂ cons_option (sym (b k)) (column_mapped w v b ks)
 
-  -- as the items do
+  -- all entries and all items change alike
   pub viewed : (f2 : T → X) (w : X → X) (v : Footprint → Footprint) → ((x : T) → f2 x ≡ w (f x)) → ((k : Footprint) → field (v k) ≡ option_map w (field k)) → (xs : List T) (ks : List Footprint) →
       map f xs ≡ column field ks → map f2 xs ≡ column field (map v ks)
   viewed f2 w v a b xs ks h = items xs ∙ ap (map w) h ∙ column_mapped w v b ks
@@ -82,14 +82,14 @@ module _ {T X : Type 0} (f : T → X) (field : Footprint → Option X) where
       items [] = refl
       items (x ∷ xs) = ap₂ (λ y ys. y ∷ ys) (a x) (items xs)
 
-  -- the field doesn't
+  -- all entries change, but not in this field
   pub aside : (v : Footprint → Footprint) → ((k : Footprint) → field (v k) ≡ field k) → (ks : List Footprint) → column field ks ≡ column field (map v ks)
   aside v b [] = refl
   aside v b (k ∷ ks) = ap₂ cons_option (sym (b k)) (aside v b ks)
 
   -- ---- one entry changes
 
-  -- and its field doesn't
+  -- one entry changes, but not in this field
   pub unset : (ks : List Footprint) (i : ℕ) (k k2 : Footprint) → slice_get ks i ≡ Some k → field k2 ≡ field k → column field ks ≡ column field (slice_set ks i k2)
   unset [] i k k2 h q = absurd (cc)
   unset (x ∷ ks) zero k k2 h q = let a : x ≡ k = cc in ap (λ o. cons_option o (column field ks)) (ap field a ∙ sym q)
@@ -99,7 +99,7 @@ module _ {T X : Type 0} (f : T → X) (field : Footprint → Option X) where
   abbrev pub place : ℕ → List Footprint → ℕ
   place i ks = length (column field (take i ks))
 
-  -- it is found there
+  -- an entry's item is found at its place
   pub column_at : (ks : List Footprint) (i : ℕ) (k : Footprint) (x : X) → slice_get ks i ≡ Some k → field k ≡ Some x → slice_get (column field ks) (place i ks) ≡ Some x
   column_at [] i k x h q = absurd (cc)
   column_at (y ∷ ks) zero k x h q = let a : y ≡ k = cc in ap (λ o. slice_get (cons_option o (column field ks)) 0) (ap field a ∙ q)
@@ -109,7 +109,7 @@ module _ {T X : Type 0} (f : T → X) (field : Footprint → Option X) where
       past None r = r
       past (Some z) r = r
 
-  -- it is held no more
+  -- an entry is held no more
   pub column_removed : (ks : List Footprint) (i : ℕ) (k k2 : Footprint) (x : X) → slice_get ks i ≡ Some k → field k ≡ Some x → field k2 ≡ None → remove (column field ks) (place i ks) ≡ column field (slice_set ks i k2)
   column_removed [] i k k2 x h q n = absurd (cc)
   column_removed (y ∷ ks) zero k k2 x h q n =
@@ -122,7 +122,7 @@ module _ {T X : Type 0} (f : T → X) (field : Footprint → Option X) where
       past None r = r
       past (Some z) r = ap (λ xs. z ∷ xs) r
 
-  -- another is
+  -- another item is held of an entry
   pub column_set : (ks : List Footprint) (i : ℕ) (k k2 : Footprint) (x x2 : X) → slice_get ks i ≡ Some k → field k ≡ Some x → field k2 ≡ Some x2 →
       slice_set (column field ks) (place i ks) x2 ≡ column field (slice_set ks i k2)
   column_set [] i k k2 x x2 h q n = absurd (cc)
@@ -169,7 +169,7 @@ module _ {T X : Type 0} (f : T → X) (field : Footprint → Option X) where
         by_test true = refl
         by_test false = refl
 
-    -- those with some serials are held on
+    -- the items and entries whose serials pass a test are held on
     pub filtered : (p : ℕ → Bool) (xs : List T) (ks : List Footprint) → Each (Numbered xn field) ks → map f xs ≡ column field ks → map f (filter (λ x. p (tn x)) xs) ≡ column field (filter (λ k. p k.serial) ks)
     filtered p xs ks e h = items_kept p xs ∙ ap (filter (λ x. p (xn x))) h ∙ entries_kept p ks e
 
@@ -182,7 +182,7 @@ module _ {T X : Type 0} (f : T → X) (field : Footprint → Option X) where
         by_field None n r = r
         by_field (Some x) n r = All-cons (λ x. P (xn x)) x (column field ks) (subst P (sym (some_same x k.serial n)) (All-head (λ (k : Footprint). P k.serial) k ks a)) r
 
-    -- so do the items
+    -- the items have a fact of serials that all entries have
     pub items_have : (P : ℕ → Type 0) (xs : List T) (ks : List Footprint) → Each (Numbered xn field) ks → All (λ (k : Footprint). P k.serial) ks → map f xs ≡ column field ks → All (λ x. P (tn x)) xs
     items_have P xs ks e a h = each xs (subst (All (λ y. P (xn y))) (sym h) (column_have P ks e a))
       where
@@ -202,25 +202,27 @@ module _ {T X : Type 0} (f : T → X) (field : Footprint → Option X) where
         let no : (tn x == n) ≡ false = grind (arith, nat_tests) in
         ap₂ (λ b ys. f (if b then v x else x) ∷ ys) no (others n v xs (All-tail (λ x. tn x ≢ n) x xs a))
 
-    -- what is kept of the entry at a position changes so
-    pub noted : (v : T → T) (xs : List T) (ks : List Footprint) (i n : ℕ) (k k2 : Footprint) (y : X) → Each (Numbered xn field) ks → Rises ks → slice_get ks i ≡ Some k → n ≡ k.serial → field k ≡ Some y →
-        ((x : T) → f x ≡ y → Some (f (v x)) ≡ field k2) → map f xs ≡ column field ks → map f (map (noted_in n v) xs) ≡ column field (slice_set ks i k2)
-    noted v xs [] i n k k2 y e r h m q own s = absurd (cc)
-    noted v xs (d ∷ ks) zero n k k2 y e r h m q own s =
+    -- the footprint of the entry at a position changes so, if anything is
+    pub noted_at : (v : T → T) (xs : List T) (ks : List Footprint) (i n : ℕ) (k k2 : Footprint) → Each (Numbered xn field) ks → Rises ks → slice_get ks i ≡ Some k → n ≡ k.serial →
+        ((o : Option T) → option_map f o ≡ field k → option_map (λ x. f (v x)) o ≡ field k2) → map f xs ≡ column field ks → map f (map (noted_in n v) xs) ≡ column field (slice_set ks i k2)
+    noted_at v xs [] i n k k2 e r h m own s = absurd (cc)
+    noted_at v xs (d ∷ ks) zero n k k2 e r h m own s =
         let a : d ≡ k = cc in
-        let rest : All (λ (d : Footprint). d.serial ≢ n) ks = λ j c within. (let lt = r.0 j c within in let same : d.serial ≡ k.serial = ap (λ (k : Footprint). k.serial) a in omega (arith, lt, same, m)) in
-        let number : xn y ≡ k.serial = some_same y k.serial (sym (ap (option_map xn) q) ∙ subst (Numbered xn field) a e.0 ∙ ap (option_map (λ x. k.serial)) q) in
-        head xs rest number (s ∙ ap (λ o. cons_option o (column field ks)) (ap field a ∙ q))
+        let same : d.serial ≡ n = ap (λ (k : Footprint). k.serial) a ∙ sym m in
+        let rest : All (λ (d : Footprint). d.serial ≢ n) ks = λ j c within. (let lt = r.0 j c within in omega (arith, lt, same)) in
+        head (field d) (subst (λ n. option_map xn (field d) ≡ option_map (λ x. n) (field d)) same e.0) (λ o q. own o (q ∙ ap field a)) rest xs s
       where
-        head : (xs : List T) → All (λ (d : Footprint). d.serial ≢ n) ks → xn y ≡ k.serial → map f xs ≡ y ∷ column field ks → map f (map (noted_in n v) xs) ≡ cons_option (field k2) (column field ks)
-        head [] rest number s = absurd (cc)
-        head (x ∷ xs) rest number s =
+        head : (o : Option X) → option_map xn o ≡ option_map (λ x. n) o → ((q : Option T) → option_map f q ≡ o → option_map (λ x. f (v x)) q ≡ field k2) → All (λ (d : Footprint). d.serial ≢ n) ks →
+            (xs : List T) → map f xs ≡ cons_option o (column field ks) → map f (map (noted_in n v) xs) ≡ cons_option (field k2) (column field ks)
+        head None num own rest xs s = others n v xs (items_have (λ m. m ≢ n) xs ks e.1 rest s) ∙ s ∙ ap (λ o. cons_option o (column field ks)) (own None refl)
+        head (Some y) num own rest [] s = absurd (cc)
+        head (Some y) num own rest (x ∷ xs) s =
             let is : f x ≡ y = cc in
             let tail : map f xs ≡ column field ks = cc in
-            let here : tn x ≡ n = sym (of_item x) ∙ ap xn is ∙ number ∙ sym m in
+            let here : tn x ≡ n = sym (of_item x) ∙ ap xn is ∙ some_same y n num in
             let yes : (tn x == n) ≡ true = grind (arith, nat_tests) in
-            ap₂ (λ b ys. f (if b then v x else x) ∷ ys) yes (others n v xs (items_have (λ m. m ≢ n) xs ks e.1 rest tail) ∙ tail) ∙ ap (λ o. cons_option o (column field ks)) (own x is)
-    noted v xs (d ∷ ks) (suc i) n k k2 y e r h m q own s = by_field (field d) e.0 xs s (λ xs s. noted v xs ks i n k k2 y e.1 r.1 h m q own s)
+            ap₂ (λ b ys. f (if b then v x else x) ∷ ys) yes (others n v xs (items_have (λ m. m ≢ n) xs ks e.1 rest tail) ∙ tail) ∙ ap (λ o. cons_option o (column field ks)) (own (Some x) (ap Some is))
+    noted_at v xs (d ∷ ks) (suc i) n k k2 e r h m own s = by_field (field d) e.0 xs s (λ xs s. noted_at v xs ks i n k k2 e.1 r.1 h m own s)
       where
         older : d.serial ≢ n
         older = let lt = at ks i r.0 h in omega (arith, lt, m)
@@ -241,3 +243,12 @@ module _ {T X : Type 0} (f : T → X) (field : Footprint → Option X) where
             let ne = subst (λ m. m ≢ n) (sym here) older in
             let no : (tn x == n) ≡ false = grind (arith, nat_tests) in
             ap₂ (λ b ys. f (if b then v x else x) ∷ ys) no (more xs tail) ∙ ap (λ y. y ∷ column field (slice_set ks i k2)) is
+
+    -- what is held of the entry at a position is noted at its serial
+    pub noted : (v : T → T) (xs : List T) (ks : List Footprint) (i n : ℕ) (k k2 : Footprint) (y : X) → Each (Numbered xn field) ks → Rises ks → slice_get ks i ≡ Some k → n ≡ k.serial → field k ≡ Some y →
+        ((x : T) → f x ≡ y → Some (f (v x)) ≡ field k2) → map f xs ≡ column field ks → map f (map (noted_in n v) xs) ≡ column field (slice_set ks i k2)
+    noted v xs ks i n k k2 y e r h m q own s = noted_at v xs ks i n k k2 e r h m by_item s
+      where
+        by_item : (o : Option T) → option_map f o ≡ field k → option_map (λ x. f (v x)) o ≡ field k2
+        by_item None p = absurd (cc)
+        by_item (Some x) p = let is : f x ≡ y = cc in own x is

@@ -1,34 +1,30 @@
--- What is kept of an entry, as it, and the older ones, go on, and the oldest leaves.
-use Rattle.std.proofs.Common.{◌≡◌, ℕ, ◌<◌, ◌≤◌, Bool, true, false, not, ◌&&◌, ◌||◌, cond, List, [], ◌∷◌, ◌++◌, Option, Some, None, refl, ap, ap₂, sym, ◌∙◌, arith, slice_get}
-use Rattle.std.specs.Prelude.{if◌then◌else◌, map, nat_le, slice_set}
-use Rattle.std.specs.List.{All, AllZip, AllByRecursion as Each, filter}
+-- The footprint of an entry, as it, and the older ones, go on, and the oldest leaves.
+use Rattle.std.proofs.Common.{Bool, List, None, Option, Some, [], ap, ap₂, cond, false, refl, sym, true, ℕ, ◌++◌, ◌<◌, ◌∙◌, ◌∷◌, ◌≡◌, ◌≤◌}
+use Rattle.std.proofs.lemmas.List.Elements.{All-cons, All-head, All-nil, All-tail}
+use Rattle.std.specs.List.{All, AllByRecursion as Each, AllZip, filter}
 use Rattle.std.specs.Option.{option_map}
-use Rattle.std.proofs.lemmas.Bool.Decides.{nat_tests}
-use Rattle.std.proofs.lemmas.List.Elements.{All-nil, All-cons, All-head, All-tail}
-use Rattle.rv_types.specs.Regs.{reads_of, writes_of, two}
-use Rattle.window_model.specs.declared.Entry.{Entry}
-use Rattle.window_model.specs.declared.Item.{Item}
+use Rattle.std.specs.Prelude.{if◌then◌else◌, map}
+use Rattle.queue_laws.specs.Window.{ShownLoad}
+use Rattle.rename_taint.specs.Writes.{root_written}
+use Rattle.rename_taint.specs.declared.Write.{Write}
+use Rattle.rv_types.specs.Regs.{reads_of, two, writes_of}
+use Rattle.window_model.proofs.Booleans.{or_false}
+use Rattle.window_model.proofs.Serials.{rise_head, rise_tail}
 use Rattle.window_model.specs.Order.{each_from, is_load, is_register, is_store, is_waiting, sources, writer, writes}
 use Rattle.window_model.specs.Serials.{Rise}
-use Rattle.window_model.proofs.Booleans.{or_false}
-use Rattle.window_model.proofs.EntryByEntry.{zip_same}
-use Rattle.window_model.proofs.Serials.{rise_head, rise_tail}
-use Rattle.rename_taint.specs.declared.Write.{Write}
-use Rattle.rename_taint.specs.Writes.{root_written}
-use Rattle.rob_ring.specs.declared.beside.Sources.{Sources}
-use Rattle.queue_laws.specs.Window.{ShownLoad}
-use Rattle.refinement.specs.Addresses.{base_root}
-use Rattle.refinement.specs.Waiters.{Hold, Waiter, awaited, awaited_of, gives_at, write_of}
-use Rattle.refinement.specs.Roots.{root_of_source, unretired, youngest_root}
+use Rattle.window_model.specs.declared.Entry.{Entry}
+use Rattle.window_model.specs.declared.Item.{Item}
+use Rattle.refinement.proofs.Columns.{Numbered, Rises}
+use Rattle.refinement.proofs.Each.{each_on}
+use Rattle.refinement.proofs.Lists.{keeps_all, keeps_none, map_same, map_twice, if_mapped}
+use Rattle.refinement.proofs.Serials.{goes_same}
+use Rattle.refinement.proofs.Waking.{Gives, Wakes, awaited_woken, gives_go, strike_each, woken, strike_nothing}
+use Rattle.refinement.proofs.Youngest.{root_without, unretired_in, unretired_out, unretired_roots, unretired_written}
+use Rattle.refinement.specs.Footprint.{Footprint, Found, StoreFootprint, Terms, footprint_by, footprint_of, load_footprint, look_back, store_footprint, unretired_sources, unretired_write, waiter_footprint}
+use Rattle.refinement.specs.Roots.{base_root, root_of_source, unretired, youngest_root}
 use Rattle.refinement.specs.Stations.{GoesOn}
+use Rattle.refinement.specs.Waiters.{Hold, Waiter, awaited, awaited_of, gives_at, write_of}
 use Rattle.refinement.specs.Writers.{writer_of_source}
-use Rattle.refinement.proofs.Keeping.{goes_same, zip_set}
-use Rattle.refinement.proofs.Tables.{keeps_all, keeps_none}
-use Rattle.refinement.proofs.Youngest.{unretired_in, unretired_out, unretired_roots, unretired_written, map_same, map_twice, root_without}
-use Rattle.refinement.specs.Footprint.{Footprint, StoreFootprint, Found, Terms, unretired_sources, unretired_write, footprint_by, footprint_of, load_footprint, look_back, column, store_footprint, waiter_footprint}
-use Rattle.refinement.proofs.Each.{each_on, map_id}
-use Rattle.refinement.proofs.Shows.{Numbered, Rises}
-use Rattle.refinement.proofs.Waking.{Gives, Wakes, among, awaited_woken, gives_go, strike_each, woken}
 
 -- ---- serials
 
@@ -42,21 +38,20 @@ pub footprint_rise : (t : Terms) (b es : List Entry) → Rise es → Rises (each
 footprint_rise t b [] r = tt
 footprint_rise t b (e ∷ es) r = (footprint_have t (λ n. e.serial < n) (e ∷ b) es (rise_head e es r), footprint_rise t (e ∷ b) es (rise_tail e es r))
 
--- those whose serials pass a test, where all do or none does
+-- the footprints whose serials pass a test, where all do or none does
 pub footprint_pass : (t : Terms) (p : ℕ → Bool) (b es : List Entry) → All (λ e. p e.serial ≡ true) es → filter (λ (k : Footprint). p k.serial) (each_from (footprint_of t) b es) ≡ each_from (footprint_of t) b es
 footprint_pass t p b es a = keeps_all (λ (k : Footprint). p k.serial) (each_from (footprint_of t) b es) (footprint_have t (λ n. p n ≡ true) b es a)
 
 pub footprint_fail : (t : Terms) (p : ℕ → Bool) (b es : List Entry) → All (λ e. p e.serial ≡ false) es → filter (λ (k : Footprint). p k.serial) (each_from (footprint_of t) b es) ≡ []
 footprint_fail t p b es a = keeps_none (λ (k : Footprint). p k.serial) (each_from (footprint_of t) b es) (footprint_have t (λ n. p n ≡ false) b es a)
 
--- what is kept in each part has the entry's serial
+-- what a footprint has for each part has the entry's serial
 each_has : (t : Terms) (P : Footprint → Type 0) → ((l : Found) (e : Entry) → P (footprint_by t l e)) → (b es : List Entry) → Each P (each_from (footprint_of t) b es)
 each_has t P h b [] = tt
 each_has t P h b (e ∷ es) = (h (look_back t.hold b e) e, each_has t P h (e ∷ b) es)
 
 if_numbered : {X : Type 0} (xn : X → ℕ) (b : Bool) (x : X) → option_map xn (if b then Some x else None) ≡ option_map (λ y. xn x) (if b then Some x else None)
-if_numbered xn true x = refl
-if_numbered xn false x = refl
+if_numbered xn b x = sym (if_mapped xn b x) ∙ if_mapped (λ y. xn x) b x
 
 pub writes_numbered : (t : Terms) (b es : List Entry) → Each (Numbered (λ (w : Write). w.serial) (λ k. k.write)) (each_from (footprint_of t) b es)
 writes_numbered t b es = each_has t (Numbered (λ (w : Write). w.serial) (λ k. k.write)) (λ l e. by_write l e (writes_of e.item.instr)) b es
@@ -119,10 +114,6 @@ look_woken h h2 ss b b2 e v =
 abbrev pub wake : List ℕ → Footprint → Footprint
 wake ss k = record k { waiter = option_map (woken ss) k.waiter }
 
-if_mapped : {X Y : Type 0} (w : X → Y) (b : Bool) (x : X) → (if b then Some (w x) else None) ≡ option_map w (if b then Some x else None)
-if_mapped w true x = refl
-if_mapped w false x = refl
-
 -- an entry wakes, and so do the older ones
 pub footprint_woken : (t : Terms) (h2 : Hold) (ss : List ℕ) (b b2 : List Entry) (e e2 : Entry) → AllZip (Gives t.hold h2 ss) b b2 → Wakes t.hold h2 ss e e2 →
     footprint_of (record t { hold = h2 }) b2 e2 ≡ wake ss (footprint_of t b e)
@@ -140,9 +131,6 @@ footprints_woken t h2 ss es es2 v =
     each_on (footprint_of t) (footprint_of (record t { hold = h2 })) (wake ss) (AllZip (Gives t.hold h2 ss)) (Wakes t.hold h2 ss) (λ b b2 e e2 p w. (w.gives, p)) (footprint_woken t h2 ss) [] [] es es2 tt v
 
 -- older ones that give their values as before aren't seen to go on
-strike_nothing : (os : List (Option ℕ)) → map (strike_each []) os ≡ os
-strike_nothing os = map_id (strike_each []) (λ o. refl) os
-
 pub footprint_alike : (t : Terms) (b b2 : List Entry) (e : Entry) → AllZip (Gives t.hold t.hold []) b b2 → footprint_of t b2 e ≡ footprint_of t b e
 footprint_alike t b b2 e v =
     ap (λ l. footprint_by t l e) (look_woken t.hold t.hold [] b b2 e v ∙ ap (λ a. record (look_back t.hold b e) { awaits = a }) (strike_nothing (look_back t.hold b e).awaits))

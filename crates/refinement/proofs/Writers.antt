@@ -1,24 +1,48 @@
--- By the serials of its sources' writers an entry's sources find their writers, where these haven't retired.
-use Rattle.std.proofs.Common.{◌≡◌, ℕ, zero, suc, ◌<◌, ◌≤◌, Bool, true, false, List, [], ◌∷◌, length, take, Option, Some, None, refl, ap, ap₂, ◌∙◌, arith, slice_get, ⊎_elim}
-use Rattle.std.specs.Prelude.{if◌then◌else◌, map, nat_le, ◌==◌}
-use Rattle.std.specs.List.{All}
-use Rattle.std.specs.Option.{option_map}
+-- The writers of registers among the entries in flight: where they stand, and that the serials of an entry's sources find them.
+use mathlib.Core.List.{reverse_aux}
+use Rattle.std.proofs.Common.{Bool, List, None, Option, Some, [], ap, ap₂, arith, cond, false, inl, inr, length, refl, slice_get, subst, suc, take, true, zero, ℕ, ⊎_elim, ◌<◌, ◌∙◌, ◌∷◌, ◌≡◌, ◌≤◌}
 use Rattle.std.proofs.lemmas.Bool.Decides.{nat_tests}
 use Rattle.std.proofs.lemmas.List.Elements.{All-weaker}
-use Rattle.rv_types.specs.Regs.{two}
-use Rattle.window_model.specs.declared.Entry.{Entry}
-use Rattle.window_model.specs.Order.{before_at, sources, writer}
-use Rattle.window_model.specs.Serials.{Rise}
-use Rattle.window_model.proofs.Serials.{none_below, place_of}
+use Rattle.std.proofs.lemmas.Option.{slice_get_within}
+use Rattle.std.specs.Option.{option_map}
+use Rattle.std.specs.Prelude.{if◌then◌else◌, map, nat_le, reverse, ◌==◌, ◌⊎◌}
+use Rattle.rob_ring.specs.Ring.{below}
 use Rattle.rob_ring.specs.declared.beside.Sources.{Sources}
-use Rattle.refinement.specs.InFlight.{InFlight}
-use Rattle.refinement.specs.Refines.{Refines}
+use Rattle.rv_types.specs.Regs.{two}
+use Rattle.window_model.proofs.Serials.{none_below, place_of}
+use Rattle.window_model.specs.Order.{before_at, sources, writer, writes}
+use Rattle.window_model.specs.Serials.{Rise}
+use Rattle.window_model.specs.declared.Entry.{Entry}
+use Rattle.refinement.proofs.Serials.{oldest_least}
+use Rattle.refinement.proofs.Sources.{sources_are}
 use Rattle.refinement.specs.Roots.{unretired}
+use Rattle.refinement.specs.Telling.{entry_of, source_by, TellsWriters}
 use Rattle.refinement.specs.Waiters.{oldest_of}
 use Rattle.refinement.specs.Writers.{if_serial, in_flight, writer_of, writer_of_source}
-use Rattle.refinement.proofs.Answering.{sources_are}
-use Rattle.refinement.proofs.Serials.{oldest_least}
-use Rattle.refinement.proofs.Tables.{stands_in}
+use Rattle.rename_taint.specs.declared.Source.TheVariants as source
+
+-- a writer stands among these entries, or before them
+pub stands_in : (r : ℕ) (w : Entry) (before es : List Entry) → writer (reverse_aux es before) r ≡ Some w → ((i : ℕ) × (slice_get es i ≡ Some w)) ⊎ (writer before r ≡ Some w)
+stands_in r w before [] h = inr h
+stands_in r w before (e ∷ es) h = ⊎_elim (λ (k : (i : ℕ) × (slice_get es i ≡ Some w)). inl (suc k.0, k.1)) (λ (k : writer (e ∷ before) r ≡ Some w). by_writes (writes r e) k) (stands_in r w (e ∷ before) es h)
+  where
+    by_writes : (b : Bool) → cond b (Some e) (writer before r) ≡ Some w → ((i : ℕ) × (slice_get (e ∷ es) i ≡ Some w)) ⊎ (writer before r ≡ Some w)
+    by_writes true k = inl (0, k)
+    by_writes false k = inr k
+
+-- a writer is found by its serial
+pub writer_place : (r : ℕ) (w : Entry) (es : List Entry) → Rise es → writer (reverse es) r ≡ Some w → slice_get es (length (below w.serial es)) ≡ Some w
+writer_place r w es rise h = ⊎_elim (λ (k : (i : ℕ) × (slice_get es i ≡ Some w)). ap (slice_get es) (place_of es k.0 w rise k.1) ∙ k.1) (λ (k : writer [] r ≡ Some w). absurd (cc)) (stands_in r w [] es h)
+
+pub found : (r : ℕ) (es : List Entry) → Rise es → (o : Option Entry) → writer (reverse es) r ≡ o → entry_of es (source_by o) ≡ o
+found r es rise None h = refl
+found r es rise (Some w) h = writer_place r w es rise h
+
+pub within : (r s : ℕ) (es : List Entry) → Rise es → (o : Option Entry) → writer (reverse es) r ≡ o → source_by o ≡ source.Entry s → length (below s es) < length es
+within r s es rise None h q = absurd (cc)
+within r s es rise (Some w) h q =
+    let n : w.serial ≡ s = cc in
+    subst (λ n. length (below n es) < length es) n (slice_get_within es (length (below w.serial es)) w (writer_place r w es rise h))
 
 taken_at : {X : Type 0} (xs : List X) (i k : ℕ) (x : X) → slice_get (take i xs) k ≡ Some x → slice_get xs k ≡ Some x
 taken_at xs zero k x h = absurd (cc)
@@ -72,6 +96,5 @@ module _ (next : ℕ) (es : List Entry) (rise : Rise es) (i : ℕ) where
   pairs (w ∷ ws) (o ∷ os) h = ap₂ (λ x xs. x ∷ xs) (one w o (cc)) (pairs ws os (cc))
 
 -- by the serials that stand at an entry's position its sources' writers are found
-pub tells_writers : (p : InFlight) (i : ℕ) (e : Entry) (x : Sources) → Refines p → slice_get p.window i ≡ Some e → slice_get p.sources i ≡ Some x →
-    map (in_flight p.window) x.writers ≡ map (writer_of (before_at p.window i)) (two (sources e))
+pub tells_writers : TellsWriters
 tells_writers p i e x s h k = pairs p.next p.window s.rise i x.writers (two (sources e)) (ap (λ (x : Sources). x.writers) (sources_are p i e x s h k))
