@@ -7,7 +7,7 @@ import textwrap
 COLUMNS = 120
 COMMENT = re.compile(r"(?P<before> *(?:///|//!|//|--)) (?P<text>\S.*)")
 # what isn't prose begins so
-OTHER = re.compile(r"([-*|#`]|\d+\.) ?|----")
+OTHER = re.compile(r"([-*|#]|```|\d+\.) ?|----")
 
 
 def sources(folder):

@@ -31,10 +31,10 @@ def read_numbers(text):
 
 
 class Item:
-    """A fetched instruction. `predicted` is the next address, None behind a stop. `mark` is history and return stack before it."""
+    """A fetched instruction. `predicted` is the next address, None behind a stop. `checkpoint` is history and return stack before it."""
 
-    def __init__(self, pc, word, mark):
-        self.pc, self.operation, self.mark = pc, decode(word), mark
+    def __init__(self, pc, word, checkpoint):
+        self.pc, self.operation, self.checkpoint = pc, decode(word), checkpoint
         self.kind = self.operation.code.kind
         named = {"jal": 0, "illegal": 2, "ebreak": 3}
         self.cause = None if self.kind != STOP else 1 if word is None else named[self.operation.name]
@@ -232,7 +232,7 @@ class Machine:
         """Drops what is younger than this entry, and answers how much that is."""
         dropped = self.drop_from(self.window.index(entry) + 1)
         self.fetch_pc = None if entry.fault is not None else entry.next
-        self.history, self.stack = self.mark_behind(entry.item, taken=entry.value == 1)
+        self.history, self.stack = self.checkpoint_behind(entry.item, taken=entry.value == 1)
         return dropped
 
     def drop_from(self, keep):
@@ -260,7 +260,7 @@ class Machine:
         self.waits_for_stores[place] = True
         dropped = self.drop_from(self.window.index(load))
         self.fetch_pc = load.item.pc
-        self.history, self.stack = load.item.mark
+        self.history, self.stack = load.item.checkpoint
         return [f"clr:{store.serial}", f"vio:{load.serial}", f"dp:{place}:1", f"sq:{dropped}"]
 
     def bit_of(self, load):
@@ -452,23 +452,23 @@ class Machine:
         while self.fetch_pc is not None and len(events) < self.d.fetch_width and len(self.queue) < self.d.queue:
             item = Item(self.fetch_pc, self.code.get(self.fetch_pc), (self.history, self.stack))
             item.predicted = self.fetch_pc = self.predict(item)
-            self.history, self.stack = self.mark_behind(item, self.is_taken(item))
+            self.history, self.stack = self.checkpoint_behind(item, self.is_taken(item))
             self.queue.append(item)
             events.append(f"fet:{item.pc:08x}")
         return events
 
     def counter_of(self, branch):
         """Where its counter stands, by its address and by the history before it."""
-        history, _ = branch.mark
+        history, _ = branch.checkpoint
         return (branch.pc // 4 ^ history) % self.d.counters
 
     def is_taken(self, branch):
         """The direction that is predicted."""
         return self.counters[self.counter_of(branch)] >= 2
 
-    def mark_behind(self, item, taken):
+    def checkpoint_behind(self, item, taken):
         """History and return stack behind an item; `taken` says which way, where it is a branch."""
-        history, stack = item.mark
+        history, stack = item.checkpoint
         if item.kind == BRANCH:
             history = (2 * history + taken) % 2 ** self.d.history
         if item.links and self.d.returns:
@@ -483,7 +483,7 @@ class Machine:
             return None
         if item.kind == JAL or item.kind == BRANCH and self.is_taken(item):
             return pc + item.operation.imm & WORD
-        _, stack = item.mark
+        _, stack = item.checkpoint
         if item.returns and stack:
             return stack[-1]
         stored = self.targets[pc // 4 % self.d.btb] if item.kind == JALR else None

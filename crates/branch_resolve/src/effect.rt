@@ -55,7 +55,7 @@ fn teach(entry: &Entry, history: &History, predictor: &mut Predictor, row: &mut 
     if entry.item.kind == Kind::Branch {
         let taken = entry.is_taken();
         row.push(Event::Res(entry.serial, way_of(taken)));
-        let place = history.index(&entry.item.mark, entry.item.pc);
+        let place = history.index(&entry.item.checkpoint, entry.item.pc);
         row.push(predictor.learn_branch(place, taken));
         return;
     }

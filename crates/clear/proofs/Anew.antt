@@ -5,7 +5,7 @@ use Rattle.std.proofs.lemmas.Option.{slice_get_within}
 use Rattle.window_model.specs.declared.Entry.{Entry}
 use Rattle.window_model.specs.declared.Event.TheVariants as event
 use Rattle.window_model.specs.Clear.{clear, clears}
-use Rattle.window_model.specs.Dependence.{passing}
+use Rattle.machine_desc.specs.Questions.{loads_pass}
 use Rattle.window_model.specs.Row.{Row}
 use Rattle.window_model.specs.inner.Row.{with_events}
 use Rattle.window_model.specs.Serials.{Rise, below}
@@ -17,7 +17,7 @@ use Rattle.clear.proofs.Effects.{anew_is, cleared_is, violated_is}
 use Rattle.clear.proofs.Places.{Load, Store, load_at, load_there, rose, store_at}
 
 -- the parts as they are seen once the store is cleared
-module _ (v : Described) (serial : ℕ) (a : passing v.desc ≡ true) (f : Some serial ≡ clearing v.desc v.machine) (load : ℕ) (m : Some load ≡ violated v.desc v.machine)
+module _ (v : Described) (serial : ℕ) (a : loads_pass v.desc ≡ true) (f : Some serial ≡ clearing v.desc v.machine) (load : ℕ) (m : Some load ≡ violated v.desc v.machine)
     (seen last : Described) (s : seen ≡ last) (l : last ≡ record v { machine = with_cleared v.desc v.machine }) (rising : Rise seen.machine.window)
     (i : ℕ) (at : i ≡ length (below load seen.machine.window)) where
   it : Store v.desc v.machine serial

@@ -24,7 +24,7 @@ use Rattle.refinement.specs.Roots.{base_root, source_roots}
 use Rattle.refinement.specs.Waiters.{oldest_of}
 use Rattle.clear.specs.Clearable.{FindsClearable, can_clear}
 
--- the same three tests, in another order
+-- the three tests of a store that may be cleared, in the order in which the queue makes them
 in_turn : (k c h : Bool) → (k && not c && not h) ≡ (not c && k && not h)
 in_turn true true h = refl
 in_turn true false h = refl

@@ -5,7 +5,8 @@ use Rattle.std.specs.Option.{option_and_then, option_map}
 use Rattle.machine_desc.specs.declared.Desc.{Desc}
 use Rattle.window_model.specs.declared.Event.TheVariants as event
 use Rattle.window_model.specs.Clear.{clear, clear_at, clear_with, clears, may_clear, violated_by, violates}
-use Rattle.window_model.specs.Dependence.{bit_index, passing}
+use Rattle.machine_desc.specs.Questions.{loads_pass}
+use Rattle.window_model.specs.Dependence.{bit_index}
 use Rattle.window_model.specs.Order.{Place, first}
 use Rattle.window_model.specs.Serials.{Rise}
 use Rattle.window_model.specs.State.{After, Machine, nothing}
@@ -21,7 +22,7 @@ no_place d x false None h = refl
 no_place d x b (Some p) h = absurd (cc)
 
 pub none_is : (d : Desc) (x : Machine) → None ≡ clearing d x → clear d x ≡ nothing x
-none_is d x h = no_place d x (passing d) (first (may_clear d) x.window) h
+none_is d x h = no_place d x (loads_pass d) (first (may_clear d) x.window) h
 
 -- ---- a store is cleared
 
@@ -31,7 +32,7 @@ cleared_is d x p h = ap (λ o. cleared_at o x) h
 pub violated_is : (d : Desc) (x : Machine) (p : Place) → first (may_clear d) x.window ≡ Some p → violated d x ≡ option_map (λ q. q.entry.serial) (violated_by p)
 violated_is d x p h = ap (λ o. option_map (λ (q : Place). q.entry.serial) (option_and_then violated_by o)) h
 
-module _ (d : Desc) (x : Machine) (serial : ℕ) (a : passing d ≡ true) (k : Store d x serial) where
+module _ (d : Desc) (x : Machine) (serial : ℕ) (a : loads_pass d ≡ true) (k : Store d x serial) where
   by_load : (o : Option Place) → violated_by k.place ≡ o → clear d x ≡ clear_with d k.place o x
   by_load o v =
       ap (λ b. if b then clear_at d (first (may_clear d) x.window) x else nothing x) a

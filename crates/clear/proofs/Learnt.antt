@@ -1,4 +1,4 @@
--- The parts once a load's bit is set, and history and stack are its mark; and once it is dropped.
+-- The parts once a load's bit is set, and history and stack are its checkpoint; and once it is dropped.
 use Rattle.std.proofs.Common.{◌≡◌, ℕ, Bool, List, [], ◌∷◌, ◌++◌, Some, ap, ap₂, ◌∙◌}
 use Rattle.std.proofs.lemmas.List.{append_assoc}
 use Rattle.window_model.specs.declared.Entry.{Entry}
@@ -14,12 +14,12 @@ use Rattle.core_parts.specs.Held.{Held, Whole, described}
 use Rattle.clear.specs.Cleared.{anew, anew_events}
 
 module _ (h : Held) (v : Described) (load : Entry) (w : Whole h) (s : described h ≡ v) (bits : List Bool) (past : Past) (learns : bits ≡ bit_set h.desc load.item.pc h.dependence)
-    (restores : past ≡ record (h.past) { mark = load.item.mark }) where
+    (restores : past ≡ record (h.past) { checkpoint = load.item.checkpoint }) where
   learnt : described (record h { dependence = bits; past = past })
-      ≡ record v { machine = record (v.machine) { dependence = bit_set v.desc load.item.pc v.machine.dependence; mark = load.item.mark } }
+      ≡ record v { machine = record (v.machine) { dependence = bit_set v.desc load.item.pc v.machine.dependence; checkpoint = load.item.checkpoint } }
   learnt =
       ap₂ (λ (bits : List Bool) (past : Past). described (record h { dependence = bits; past = past })) learns restores
-      ∙ ap (λ (v : Described). record v { machine = record (v.machine) { dependence = bit_set v.desc load.item.pc v.machine.dependence; mark = load.item.mark } }) s
+      ∙ ap (λ (v : Described). record v { machine = record (v.machine) { dependence = bit_set v.desc load.item.pc v.machine.dependence; checkpoint = load.item.checkpoint } }) s
 
   pub anew_is : (last : Described) →
       last ≡ (let d = described (record h { dependence = bits; past = past }) in record d { machine = cut_from load.serial (Some load.item.pc) d.machine }) →

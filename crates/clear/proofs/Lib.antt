@@ -2,6 +2,6 @@ pub mod Places
 pub mod Effects
 pub mod Clearable
 pub mod Walking
-pub mod Marking
+pub mod InPlace
 pub mod Anew
 pub mod Learnt

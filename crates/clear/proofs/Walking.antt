@@ -5,7 +5,7 @@ use Rattle.std.specs.List.{find}
 use Rattle.std.specs.Option.{option_map}
 use Rattle.machine_desc.proofs.Versions.{most_up_to}
 use Rattle.window_model.specs.Clear.{clear}
-use Rattle.window_model.specs.Dependence.{passing}
+use Rattle.machine_desc.specs.Questions.{loads_pass}
 use Rattle.window_model.specs.Row.{Row}
 use Rattle.window_model.specs.inner.Row.{with_events}
 use Rattle.window_model.specs.State.{After}
@@ -24,13 +24,6 @@ use Rattle.queue_laws.proofs.Keeping.{room_is}
 use Rattle.clear.proofs.Effects.{none_is}
 
 -- ---- the walk over the stores
-
--- what is told of a place is told of the store there
-pub at_place : (stores : List Store) (i : ℕ) (info : StoreInfo) → option_map info_of (slice_get stores i) ≡ Some info →
-    (s : Store) × (slice_get stores i ≡ Some s) × (info ≡ info_of s)
-at_place [] i info h = absurd (cc)
-at_place (s ∷ stores) zero info h = (s, refl, cc)
-at_place (s ∷ stores) (suc i) info h = at_place stores i info h
 
 pub within : (stores : List Store) (i : ℕ) (info : StoreInfo) → option_map info_of (slice_get stores i) ≡ Some info → i < length stores
 within [] i info h = absurd (cc)
@@ -72,18 +65,18 @@ none_left point (s ∷ stores) (suc i) h = none_left point stores i h
 pub few_stores : (h : Held) → Whole h → length h.queues.stores < 2 ^ 32
 few_stores h w =
     let a = w.sized.stores_fit in
-    let b = (room_is h.queues h.rob.entries (queues_stand (in_flight h) w.stands)).1 in
+    let b = (room_is h.queues h.rob.entries (queues_stand (in_flight h) w.refines)).1 in
     let c = most_up_to 16 48 h.desc.version h.desc.core_stores (lit≤ tt) h.desc.few_stores in
     omega (arith, a, b, c)
 
 -- the store that the definition takes
-pub finds : (h : Held) (v : Described) (o : Option ℕ) → Whole h → described h ≡ v → passing v.desc ≡ true → HasAdvanced v.point v.machine.window →
+pub finds : (h : Held) (v : Described) (o : Option ℕ) → Whole h → described h ≡ v → loads_pass v.desc ≡ true → HasAdvanced v.point v.machine.window →
     o ≡ option_map (λ s. s.serial) (find (can_clear h.point.serial) h.queues.stores) → o ≡ clearing v.desc v.machine
 finds h v o w s a moved e =
     let here : HasAdvanced h.point h.rob.entries = subst (λ (v : Described). HasAdvanced v.point v.machine.window) (sym s) moved in
-    let tracked = ap (λ (v : Described). passing v.desc) s ∙ a in
+    let tracked = ap (λ (v : Described). loads_pass v.desc) s ∙ a in
     e
-    ∙ finds_clearable h.desc (in_flight h) w.stands here (ap (λ (s : Sizes). s.model) w.made) tracked
+    ∙ finds_clearable h.desc (in_flight h) w.refines here (ap (λ (s : Sizes). s.model) w.made) tracked
     ∙ ap (λ (v : Described). clearing v.desc v.machine) s
 
 -- ---- where nothing happens at all

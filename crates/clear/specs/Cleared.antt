@@ -33,7 +33,7 @@ violated d x = option_map (λ q. q.entry.serial) (option_and_then violated_by (f
 -- history and stack as they were before it
 abbrev pub anew : Desc → Entry → Machine → Machine
 anew d load x =
-    cut_from load.serial (Some load.item.pc) (record x { dependence = bit_set d load.item.pc x.dependence; mark = load.item.mark })
+    cut_from load.serial (Some load.item.pc) (record x { dependence = bit_set d load.item.pc x.dependence; checkpoint = load.item.checkpoint })
 
 -- the events of a start anew from the violated load: the violation, its bit of dependence, and the squash
 abbrev pub anew_events : Desc → Entry → Machine → List Event

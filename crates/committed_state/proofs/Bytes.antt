@@ -14,7 +14,7 @@ use Rattle.window_model.specs.declared.Entry.{Entry}
 use Rattle.window_model.specs.declared.Outcome.{Outcome}
 use Rattle.window_model.specs.Along.{Behind}
 use Rattle.window_model.specs.Order.{is_store, has_address, has_data}
-use Rattle.window_model.specs.Retire.{addr_of, stored_of, width_of}
+use Rattle.window_model.specs.Retire.{addr_of, stored_of, byte_count}
 use Rattle.window_model.specs.Access.{reaches, covers, byte_of, byte_from}
 use Rattle.committed_state.specs.Replay.{Bank, bank, bank_after, is_clear, replayed, replayed_as, Replayed, ram_after, stored_unless}
 use Rattle.committed_state.specs.Computed.{ComesTo, as_known, as_known_by, bytes_found, finds, known_of, left_out}
@@ -30,7 +30,7 @@ stored_keeps (Some c) ram a n v h = same_shape ram
 stored_keeps None ram a n v h = store_keeps ram a n v h
 
 keeps_as : (k : Kind) (s : Bank) (e : Entry) → SameShape s.ram (ram_after k s.ram e.item.instr (replayed_as k s e))
-keeps_as Store s e = stored_keeps _ s.ram _ (width_of e) _ refl
+keeps_as Store s e = stored_keeps _ s.ram _ (byte_count e) _ refl
 keeps_as _ s e = same_shape s.ram
 
 -- the replay keeps memory's place and size
@@ -85,16 +85,16 @@ if_same true x y o h = h refl
 if_same false x y o h = refl
 
 -- a store of known address, whose data is known where it covers the byte
-store_byte : (m : Bank) (e : Entry) (b v : ℕ) → ComesTo e.outcome (known_of true (has_data e) (replayed_as Store m e)) → is_some e.outcome ≡ true → (reaches b (width_of e) e.outcome ≡ true → has_data e ≡ true) → m.ram.base ≤ b → v ≡ Byte m.ram b →
-    (if reaches b (width_of e) e.outcome then byte_from b e else v) ≡ Byte (ram_after Store m.ram e.item.instr (replayed_as Store m e)) b
+store_byte : (m : Bank) (e : Entry) (b v : ℕ) → ComesTo e.outcome (known_of true (has_data e) (replayed_as Store m e)) → is_some e.outcome ≡ true → (reaches b (byte_count e) e.outcome ≡ true → has_data e ≡ true) → m.ram.base ≤ b → v ≡ Byte m.ram b →
+    (if reaches b (byte_count e) e.outcome then byte_from b e else v) ≡ Byte (ram_after Store m.ram e.item.instr (replayed_as Store m e)) b
 store_byte m e b v c i d le h =
     let r = replayed_as Store m e in
     let done : e.outcome ≡ Some (known_of true (has_data e) r) = some_is e.outcome _ c i in
     let F : Option Outcome → ℕ = λ c.
-    if reaches b (width_of e) c then slice_index (to_le (width_of e) (stored_of c)) (b - addr_of c) else v in
+    if reaches b (byte_count e) c then slice_index (to_le (byte_count e) (stored_of c)) (b - addr_of c) else v in
     ap F done
-    ∙ if_same _ _ _ v (λ t. ap (λ h. slice_index (to_le (width_of e) (if h then r.stored else 0)) (b - r.addr)) (d (ap (reaches b (width_of e)) done ∙ t)))
-    ∙ by_fault m.ram r.fault r.addr (width_of e) r.stored b v refl le h
+    ∙ if_same _ _ _ v (λ t. ap (λ h. slice_index (to_le (byte_count e) (if h then r.stored else 0)) (b - r.addr)) (d (ap (reaches b (byte_count e)) done ∙ t)))
+    ∙ by_fault m.ram r.fault r.addr (byte_count e) r.stored b v refl le h
 
 -- ---- at a store that no load has passed wrongly
 
@@ -131,7 +131,7 @@ one_byte l ram m e b o st r le h = by_kind e.item.kind refl r
     by_kind Store q r =
         let t : is_store e.item.kind ≡ true = ap is_store q in
         let c = st t in
-        let R : Bool = reaches b (width_of e) e.outcome in
+        let R : Bool = reaches b (byte_count e) e.outcome in
         let found : finds l b e ≡ R = reached (left_out l e) (is_store e.item.kind) (has_address e) R (kept_in (passed e l) e.cleared c.cleared) t c.address in
         let covered : covers b e ≡ R = reached false (is_store e.item.kind) (has_address e) R refl t c.address in
         byte_pick (finds l b e) ram b e o ∙ ap (λ f. if f then byte_from b e else byte_of ram b o) found

@@ -12,7 +12,7 @@ use Rattle.window_model.specs.declared.Progress.TheVariants.{Waiting, Busy, Done
 use Rattle.window_model.specs.State.{Machine}
 use Rattle.window_model.specs.Along.{Along, Fact}
 use Rattle.window_model.specs.Clear.{clear, cleared_one, is_violated}
-use Rattle.window_model.specs.Dependence.{passing}
+use Rattle.machine_desc.specs.Questions.{loads_pass}
 use Rattle.window_model.specs.Order.{Place, has_address}
 use Rattle.window_model.specs.Retire.{hart_of}
 use Rattle.window_model.proofs.Clearing.{Cleared, Violated}
@@ -71,7 +71,7 @@ module _ (d : Desc) (code : Code) (s : Bank) (now : ℕ) (e : Entry) (address : 
     computed = st.computed;
     operands = st.operands;
     stores = st.stores;
-    clearing = clearing_cleared (passing d);
+    clearing = clearing_cleared (loads_pass d);
     issued = st.issued;
     due = st.due;
     through = st.through;

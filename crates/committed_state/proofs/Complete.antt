@@ -12,7 +12,7 @@ use Rattle.window_model.specs.Fill.{fill, complete, completed, completes_at}
 use Rattle.committed_state.specs.Computed.{Bank}
 use Rattle.window_model.specs.Along.{Behind}
 use Rattle.committed_state.specs.Consistent.{Stands, Holds, ConsistentIn, FitsClearing, FitsState, bank_in}
-use Rattle.window_model.specs.Dependence.{passing}
+use Rattle.machine_desc.specs.Questions.{loads_pass}
 use Rattle.committed_state.proofs.Sees.{moves_same}
 use Rattle.committed_state.proofs.Kept.{Kept, each_holds}
 use Rattle.window_model.proofs.EntryByEntry.{map_is_each}
@@ -45,7 +45,7 @@ complete_one d code s now cycle b e h st = by_due (completes_at cycle e.state) r
         computed = st.computed;
         operands = st.operands;
         stores = st.stores;
-        clearing = clearing_done (passing d) e st.clearing;
+        clearing = clearing_done (loads_pass d) e st.clearing;
         issued = st.issued;
         due = st.due;
         through = st.through;

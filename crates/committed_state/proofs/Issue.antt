@@ -15,10 +15,10 @@ use Rattle.window_model.specs.declared.Progress.TheVariants.{Waiting, Busy, Done
 use Rattle.window_model.specs.State.{Machine}
 use Rattle.window_model.specs.Order.{is_waiting, is_done, is_load, is_store, has_address, has_data, sources, first}
 use Rattle.window_model.specs.Ready.{ready}
-use Rattle.window_model.specs.Retire.{op_of, width_in, width_of, hart_of}
+use Rattle.window_model.specs.Retire.{op_of, width_in, byte_count, hart_of}
 use Rattle.window_model.specs.Access.{access_at, load_bytes}
 use Rattle.window_model.specs.Clear.{is_before}
-use Rattle.window_model.specs.Dependence.{passing}
+use Rattle.machine_desc.specs.Questions.{loads_pass}
 use Rattle.window_model.specs.Around.{Around, around}
 use Rattle.window_model.specs.MayIssue.{effect_of, may_issue_as}
 use Rattle.window_model.specs.Ports.{DivPort, LoadPort, may_at}
@@ -60,7 +60,7 @@ abbrev given : Machine → List Entry → Entry → Kind → Outcome
 given x b e k = let f = effect_of x.regs b e in outcome_as k x.ram e.item.instr f (load_bytes x.ram b f.addr (width_in e.item.instr))
 
 comes : (d : Desc) (x : Machine) (b : List Entry) (e : Entry) (k : Kind) → is_store k ≡ false → Comes x.cycle e (given x b e k) (begin_as k d (around x) b e).entry
-comes d x b e Load n = let f = effect_of x.regs b e in load_comes d (around x) e f (load_bytes x.ram b f.addr (width_of e)) b f.addr (width_of e) (load_fault x.ram f.addr (width_of e)) (some_bytes (op_of e.item.instr))
+comes d x b e Load n = let f = effect_of x.regs b e in load_comes d (around x) e f (load_bytes x.ram b f.addr (byte_count e)) b f.addr (byte_count e) (load_fault x.ram f.addr (byte_count e)) (some_bytes (op_of e.item.instr))
 comes d x b e Store n = absurd (cc)
 comes d x b e _ n = Begins _ refl
 
@@ -148,7 +148,7 @@ module _ (d : Desc) (code : Code) (x : Machine) (b : List Entry) (e : Entry) (h 
       let l = begun x.cycle e due O in
       let ad = address_is code x.regs b e st.item (ap (λ t. t || is_store e.item.kind) z) in
       let o = load_out e.item.kind x.ram l F (load_bytes x.ram b F.addr (width_in e.item.instr)) (Some O) z (sym (whole_known e.item.kind (has_address e) (has_data e) O n)) refl in
-      stands_behind d code (bank_of x) x.cycle l refl (around x) b e refl (o.0 ∙ ad) (o.1 ∙ ap (λ a. load_fault x.ram a (width_of e)) ad) h (load_behind e.item.kind d (around x) b e m z)
+      stands_behind d code (bank_of x) x.cycle l refl (around x) b e refl (o.0 ∙ ad) (o.1 ∙ ap (λ a. load_fault x.ram a (byte_count e)) ad) h (load_behind e.item.kind d (around x) b e m z)
 
   begun_so : is_store e.item.kind ≡ false → MayIssue d (around x) b e → (r : Entry) → Comes x.cycle e O r → Kept d code (bank_of x) (x.cycle + 1) b e r
   begun_so n m r (Remains q) = subst (λ r. Kept d code (bank_of x) (x.cycle + 1) b e r) (sym q) remains
@@ -166,7 +166,7 @@ module _ (d : Desc) (code : Code) (x : Machine) (b : List Entry) (e : Entry) (h 
         computed = sym (whole_known k a c (computed (bank_of x) b l) n ∙ computed_so due);
         operands = whole_operands k a c true d b e n m.ready;
         stores = λ i z. stores_so due n z m.kind;
-        clearing = clearing_begun (passing d) x.cycle e due O st.clearing;
+        clearing = clearing_begun (loads_pass d) x.cycle e due O st.clearing;
         issued = λ i z. grind (arith, nat_tests);
         due = later_due e.addr_due x.cycle st.due;
         through = st.through;

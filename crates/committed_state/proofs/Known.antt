@@ -13,7 +13,7 @@ use Rattle.window_model.specs.declared.Outcome.{Outcome}
 use Rattle.window_model.specs.declared.Progress.{Progress}
 use Rattle.window_model.specs.declared.Progress.TheVariants.{Waiting, Busy, Done}
 use Rattle.window_model.specs.Along.{Along, Behind}
-use Rattle.window_model.specs.Dependence.{passing}
+use Rattle.machine_desc.specs.Questions.{loads_pass}
 use Rattle.window_model.specs.Rename.{at_once}
 use Rattle.window_model.specs.MayIssue.{effect_of}
 use Rattle.window_model.specs.Order.{is_control, writes, writer, is_done, is_store, has_address, has_data}
@@ -99,9 +99,9 @@ clear_so : (p : Bool) (e : Entry) → FitsClearing p e → p ≡ false → is_cl
 clear_so true e c q = absurd (cc)
 clear_so false e c q = or_true (not (is_store e.item.kind)) e.cleared c
 
-all_clear_from : (d : Desc) (code : Code) (s : Bank) (now : ℕ) (b w : List Entry) → Along (Stands d code s now) b w → passing d ≡ false → list_all is_clear w ≡ true
+all_clear_from : (d : Desc) (code : Code) (s : Bank) (now : ℕ) (b w : List Entry) → Along (Stands d code s now) b w → loads_pass d ≡ false → list_all is_clear w ≡ true
 all_clear_from d code s now b [] h q = refl
-all_clear_from d code s now b (e ∷ w) h q = ap (λ c. c && list_all is_clear w) (clear_so (passing d) e h.0.clearing q) ∙ all_clear_from d code s now (e ∷ b) w h.1 q
+all_clear_from d code s now b (e ∷ w) h q = ap (λ c. c && list_all is_clear w) (clear_so (loads_pass d) e h.0.clearing q) ∙ all_clear_from d code s now (e ∷ b) w h.1 q
 
 pub all_clear : AllClearUnlessPassing
 all_clear d code x h q = all_clear_from d code (bank_in (hart_of x)) (x.cycle + 1) [] x.window h.entries q

@@ -13,13 +13,14 @@ use Rattle.machine_desc.specs.declared.Desc.{Desc}
 use Rattle.window_model.specs.declared.Entry.{Entry}
 use Rattle.window_model.specs.Access.{byte_of, covers, load_bytes}
 use Rattle.window_model.specs.Clear.{is_before, passed, shares}
-use Rattle.window_model.specs.Dependence.{passing, waits_for_stores}
+use Rattle.machine_desc.specs.Questions.{loads_pass}
+use Rattle.window_model.specs.Dependence.{waits_for_stores}
 use Rattle.window_model.specs.Along.{Behind, Fact}
 use Rattle.window_model.specs.Around.{Around}
 use Rattle.window_model.specs.MayIssue.{address_of, bytes_of, goes_behind, lets, passes_stores, stores_done, stores_let}
 use Rattle.window_model.specs.Order.{fault_of, has_address, has_data, is_done, is_load, is_store}
 use Rattle.window_model.specs.Rename.{at_once}
-use Rattle.window_model.specs.Retire.{addr_of, width_of}
+use Rattle.window_model.specs.Retire.{addr_of, byte_count}
 use Rattle.window_model.specs.Taint.{address_tainted}
 use Rattle.window_model.proofs.Booleans.{both}
 use Rattle.committed_state.specs.Computed.{Bank, bytes_found, finds}
@@ -117,31 +118,31 @@ module _ (d : Desc) (code : Code) (s : Bank) (now : ℕ) (l : Entry) (begins : l
           ((done_has e.state e h.0.state (done_if (is_store e.item.kind) (is_done e.state) t f)).0 ∙ ap not (store_goes_on e.item.kind t))
 
   -- in version 2 older stores let the load go, so they stand before it as they have to
-  by_let : (bytes : List ℕ) → ((e : Entry) → list_any (λ a. covers a e) bytes ≡ false → shares e l ≡ false) → (p : Bool) → (p ≡ true → passing d ≡ true) → (b : List Entry) → Behind S b → stores_let d.stt_model p bytes b ≡ true →
+  by_let : (bytes : List ℕ) → ((e : Entry) → list_any (λ a. covers a e) bytes ≡ false → shares e l ≡ false) → (p : Bool) → (p ≡ true → loads_pass d ≡ true) → (b : List Entry) → Behind S b → stores_let d.stt_model p bytes b ≡ true →
       list_all (stands_before l) b ≡ true
   by_let bytes m p pd [] h q = refl
   by_let bytes m p pd (e ∷ b) h q =
       let qs = both (not (is_store e.item.kind) || lets d.stt_model p bytes b e) _ q in
       ap (λ c. c && list_all (stands_before l) b)
       (let_so (is_store e.item.kind) (has_address e) (passed e l) e.cleared (shares e l) (has_data e) p (address_tainted d.stt_model b e) (list_any (λ a. covers a e) bytes) (not_passed b e h.0) qs.0 (m e)
-      (λ t. not_cleared (passing d) e h.0.clearing (pd t)))
+      (λ t. not_cleared (loads_pass d) e h.0.clearing (pd t)))
       ∙ by_let bytes m p pd b h.1 qs.1
 
   -- the older stores stand before a load as they have to, where its address and fault are those for which Issue asked
   -- them
-  pub stands_behind : (x : Around) (b : List Entry) (e : Entry) → l.item ≡ e.item → (addr_of l.outcome ≡ address_of x.regs b e) → (fault_of l.outcome ≡ load_fault x.ram (address_of x.regs b e) (width_of e)) →
+  pub stands_behind : (x : Around) (b : List Entry) (e : Entry) → l.item ≡ e.item → (addr_of l.outcome ≡ address_of x.regs b e) → (fault_of l.outcome ≡ load_fault x.ram (address_of x.regs b e) (byte_count e)) →
       Behind S b → goes_behind d x b e ≡ true → list_all (stands_before l) b ≡ true
   stands_behind x b e item at fault h q = by_version (d.version == 1) q
     where
       unseen : (y : Entry) → list_any (λ a. covers a y) (bytes_of x b e) ≡ false → shares y l ≡ false
       unseen y v =
           let A = address_of x.regs b e in
-          let w : width_of l ≡ width_of e = ap (λ i. width_of (record e { item = i })) item in
-          ap (λ g. not (is_some g) && list_any (λ a. covers a y) (range (addr_of l.outcome) (width_of l))) fault
-          ∙ ap (λ g. not (is_some (load_fault x.ram A (width_of e))) && list_any (λ a. covers a y) (range g (width_of l))) at
-          ∙ ap (λ n. not (is_some (load_fault x.ram A (width_of e))) && list_any (λ a. covers a y) (range A n)) w
-          ∙ unshared (λ a. covers a y) (load_fault x.ram A (width_of e)) A (width_of e) v
+          let w : byte_count l ≡ byte_count e = ap (λ i. byte_count (record e { item = i })) item in
+          ap (λ g. not (is_some g) && list_any (λ a. covers a y) (range (addr_of l.outcome) (byte_count l))) fault
+          ∙ ap (λ g. not (is_some (load_fault x.ram A (byte_count e))) && list_any (λ a. covers a y) (range g (byte_count l))) at
+          ∙ ap (λ n. not (is_some (load_fault x.ram A (byte_count e))) && list_any (λ a. covers a y) (range A n)) w
+          ∙ unshared (λ a. covers a y) (load_fault x.ram A (byte_count e)) A (byte_count e) v
 
       by_version : (v : Bool) → (if v then stores_done b else stores_let d.stt_model (passes_stores d x e) (bytes_of x b e) b) ≡ true → list_all (stands_before l) b ≡ true
       by_version true q = by_done b h q
-      by_version false q = by_let (bytes_of x b e) unseen (passes_stores d x e) (λ p. (both (passing d) (not (waits_for_stores d x.dependence e.item.pc)) p).0) b h q
+      by_version false q = by_let (bytes_of x b e) unseen (passes_stores d x e) (λ p. (both (loads_pass d) (not (waits_for_stores d x.dependence e.item.pc)) p).0) b h q

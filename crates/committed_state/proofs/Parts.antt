@@ -13,7 +13,7 @@ use Rattle.window_model.specs.declared.Progress.{Progress}
 use Rattle.window_model.specs.declared.Progress.TheVariants.{Waiting, Busy, Done}
 use Rattle.window_model.specs.State.{Machine}
 use Rattle.window_model.specs.Around.{around}
-use Rattle.window_model.specs.Dependence.{passing}
+use Rattle.machine_desc.specs.Questions.{loads_pass}
 use Rattle.window_model.specs.MayIssue.{effect_of}
 use Rattle.window_model.specs.Issue.{busy_until_both, so_far, with_address, with_data}
 use Rattle.window_model.specs.Order.{base_of, has_address, has_data, is_done, is_load, is_store, others_of, sources}
@@ -115,7 +115,7 @@ module _ (d : Desc) (code : Code) (x : Machine) (b : List Entry) (e : Entry) (q 
         computed = known_as true (has_data e) r.outcome out;
         operands = subst (λ k. HasOperands k true (has_data e) true b (sources e)) (sym q) (λ z. all_known_executed d b (base_of (sources e)) g.known, own.1);
         stores = λ i l. absurd (let n = no_load in cc);
-        clearing = fits_clearing (passing d) e r refl refl (λ h. absurd (cc)) st.clearing;
+        clearing = fits_clearing (loads_pass d) e r refl refl (λ h. absurd (cc)) st.clearing;
         issued = λ i l. absurd (let n = no_load in cc);
         due = omega arith;
         through = st.through;
@@ -151,7 +151,7 @@ module _ (d : Desc) (code : Code) (x : Machine) (b : List Entry) (e : Entry) (q 
         computed = known_as (has_address e) true r.outcome out;
         operands = subst (λ k. HasOperands k (has_address e) true true b (sources e)) (sym q) (own.0, λ z. all_known_executed d b (others_of (sources e)) g.known);
         stores = λ i l. absurd (let n = no_load in cc);
-        clearing = fits_clearing (passing d) e r refl refl (λ h. h) st.clearing;
+        clearing = fits_clearing (loads_pass d) e r refl refl (λ h. h) st.clearing;
         issued = λ i l. absurd (let n = no_load in cc);
         due = st.due;
         through = st.through;

@@ -9,11 +9,11 @@ use Rattle.rv_types.specs.declared.Kind.TheVariants.{Store, Branch, Jalr, Jal, C
 use Rattle.machine_desc.specs.declared.Desc.{Desc}
 use Rattle.window_model.specs.declared.Entry.{Entry}
 use Rattle.window_model.specs.declared.Item.{Item}
-use Rattle.window_model.specs.declared.Mark.{Mark}
+use Rattle.window_model.specs.declared.Checkpoint.{Checkpoint}
 use Rattle.window_model.specs.declared.Progress.TheVariants.{Waiting, Done}
 use Rattle.window_model.specs.State.{Machine}
 use Rattle.window_model.specs.declared.Target.{Target}
-use Rattle.window_model.specs.Dependence.{passing}
+use Rattle.machine_desc.specs.Questions.{loads_pass}
 use Rattle.window_model.specs.Order.{is_control, is_store, sources}
 use Rattle.committed_state.proofs.Onward.{of_item}
 use Rattle.window_model.specs.Retire.{hart_of}
@@ -92,7 +92,7 @@ operands_new Store b rs = (λ h. absurd (cc), λ h. absurd (cc))
 operands_new _ b rs = λ h. absurd (cc)
 
 -- a new store isn't cleared where loads pass stores, and all else is
-clearing_new : (p : Bool) (d : Desc) (serial : ℕ) (i : Item) → passing d ≡ p → FitsClearing p (renamed d serial i)
+clearing_new : (p : Bool) (d : Desc) (serial : ℕ) (i : Item) → loads_pass d ≡ p → FitsClearing p (renamed d serial i)
 clearing_new true d serial i h = λ q n. ap (λ p. not (p && is_store i.kind)) h ∙ ap not q
 clearing_new false d serial i h = ap (λ p. not (p && is_store i.kind)) h
 
@@ -109,7 +109,7 @@ module _ (now : ℕ) (code : Code) (d : Desc) where
         computed = tt;
         operands = operands_new i.kind (reverse w) (sources (of_item i));
         stores = λ q l. absurd (cc);
-        clearing = clearing_new (passing d) d serial i refl;
+        clearing = clearing_new (loads_pass d) d serial i refl;
         issued = λ q l. absurd (cc);
         due = tt;
         through = all_reverse goes_through w ∙ through_chain d code (bank_in s) now [] (Some s.pc) fetch_pc w i rest h.entries h.chain (not_true _ f3.1);
@@ -128,7 +128,7 @@ module _ (now : ℕ) (code : Code) (d : Desc) where
 
 -- ---- Fetch as a whole
 
-predicts : (k : Kind) (d : Desc) (t : List (Option Target)) (m : Mark) (way : Bool) (i : Item) → i.predicted ≡ predicted k d t m way i.pc i.instr → Predicts k i
+predicts : (k : Kind) (d : Desc) (t : List (Option Target)) (m : Checkpoint) (way : Bool) (i : Item) → i.predicted ≡ predicted k d t m way i.pc i.instr → Predicts k i
 predicts (Stop a) d t m way i h = h
 predicts Jal d t m way i h = h
 predicts Branch d t m way i h = ap is_some h
@@ -148,7 +148,7 @@ module _ (now : ℕ) (code : Code) (d : Desc) where
   fetch_item x pc q r h =
       let i = item_at d code x pc in
       let c = subst (Chain (Some x.pc) (links x.window x.queue)) q h.chain in
-      let made : IsItem code i = record { instr = refl; kind = refl; next = predicts (kind_at (code pc)) d x.targets x.mark (guess (kind_at (code pc)) d x.counters x.mark pc) i refl } in
+      let made : IsItem code i = record { instr = refl; kind = refl; next = predicts (kind_at (code pc)) d x.targets x.checkpoint (guess (kind_at (code pc)) d x.counters x.checkpoint pc) i refl } in
       record { entries = h.entries; items = each_push (IsItem code) x.queue i h.items made; chain = chain_push (Some x.pc) x.window x.queue i c; registers = h.registers }
 
   pub consistent_fetch : (x : Machine) → ConsistentIn now d code x → ConsistentIn now d code (fetch d code x).machine

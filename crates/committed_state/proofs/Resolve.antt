@@ -16,7 +16,7 @@ use Rattle.committed_state.specs.Computed.{Bank}
 use Rattle.window_model.specs.Along.{Along}
 use Rattle.committed_state.specs.Links.{Link, Chain, links, entry_link, item_link, true_next}
 use Rattle.committed_state.specs.Consistent.{Stands, Holds, ConsistentIn, FitsClearing, FitsState, bank_in}
-use Rattle.window_model.specs.Dependence.{passing}
+use Rattle.machine_desc.specs.Questions.{loads_pass}
 use Rattle.committed_state.proofs.Onward.{stands_onward}
 use Rattle.committed_state.proofs.Sees.{Moves, moves_same}
 use Rattle.window_model.proofs.Placing.{Taken, resolve_keep}
@@ -53,7 +53,7 @@ stands_resolved d code s now e is c b st = record {
   computed = st.computed;
   operands = st.operands;
   stores = st.stores;
-  clearing = clearing_resolved (passing d) e st.clearing;
+  clearing = clearing_resolved (loads_pass d) e st.clearing;
   issued = st.issued;
   due = st.due;
   through = st.through;

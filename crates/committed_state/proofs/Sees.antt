@@ -11,7 +11,7 @@ use Rattle.window_model.specs.declared.Outcome.{Outcome}
 use Rattle.window_model.specs.Order.{is_done, is_load, is_store, is_faulty, has_address, has_data}
 use Rattle.window_model.specs.Access.{reaches, covers, byte_of, byte_from}
 use Rattle.window_model.specs.Clear.{cleared_one, is_before, is_violated, passed, shares}
-use Rattle.window_model.specs.Retire.{addr_of, stored_of, width_in, width_of}
+use Rattle.window_model.specs.Retire.{addr_of, stored_of, width_in, byte_count}
 use Rattle.window_model.proofs.Booleans.{or_true}
 use Rattle.window_model.proofs.Taints.{any_agree}
 use Rattle.committed_state.specs.Computed.{finds, left_out}
@@ -68,7 +68,7 @@ byte_pick false ram a e o = refl
 pub record InLoad (load : Entry) (a : ℕ) : Type 0 where
   pub faultless : is_faulty load ≡ false
   pub from : addr_of load.outcome ≤ a
-  pub to : a < addr_of load.outcome + width_of load
+  pub to : a < addr_of load.outcome + byte_count load
 
 -- a byte of the range is among those that are looked at
 among : (p : ℕ → Bool) (a n x : ℕ) → a ≤ x → x < a + n → p x ≡ true → list_any p (range a n) ≡ true
@@ -81,7 +81,7 @@ among p a (suc n) x le lt h = by_lt (nat_lt a x) refl (λ l. among p (a + 1) n x
 
 -- the load shares a byte with a store that covers one of its bytes
 pub shares_byte : (l e : Entry) (a : ℕ) → InLoad l a → covers a e ≡ true → shares e l ≡ true
-shares_byte l e a i h = ap (λ f. not f && list_any (λ a. covers a e) (range (addr_of l.outcome) (width_of l))) i.faultless ∙ among (λ a. covers a e) (addr_of l.outcome) (width_of l) a i.from i.to h
+shares_byte l e a i h = ap (λ f. not f && list_any (λ a. covers a e) (range (addr_of l.outcome) (byte_count l))) i.faultless ∙ among (λ a. covers a e) (addr_of l.outcome) (byte_count l) a i.from i.to h
 
 -- ---- how a store stands before a load, by whether it is one, its address, whether it was passed, whether it is cleared, whether they
 -- share a byte, and its data
@@ -187,12 +187,12 @@ module _ (now : ℕ) (l e e2 : Entry) (m : Moves now e e2) (load : is_load l.ite
 
     covers_same : (a : ℕ) → covers a e2 ≡ covers a e
     covers_same a =
-        ap (λ r. is_store e2.item.kind && has_address e2 && r) (sym (reaches_located a (width_of e2) e2.outcome))
+        ap (λ r. is_store e2.item.kind && has_address e2 && r) (sym (reaches_located a (byte_count e2) e2.outcome))
         ∙ same3 (covers_as a) _ _ _ _ _ _ m.item same_address (m.address h).1
-        ∙ ap (λ r. is_store e.item.kind && has_address e && r) (reaches_located a (width_of e) e.outcome)
+        ∙ ap (λ r. is_store e.item.kind && has_address e && r) (reaches_located a (byte_count e) e.outcome)
 
     same_shares : shares e2 l ≡ shares e l
-    same_shares = ap (λ c. not (is_faulty l) && c) (any_agree _ _ (range (addr_of l.outcome) (width_of l)) covers_same)
+    same_shares = ap (λ c. not (is_faulty l) && c) (any_agree _ _ (range (addr_of l.outcome) (byte_count l)) covers_same)
 
     same_finds : (a : ℕ) → finds l a e2 ≡ finds l a e
     same_finds a = same3 (λ p c co. not (p && not c) && co) _ _ _ _ _ _ same_passed m.cleared (covers_same a)

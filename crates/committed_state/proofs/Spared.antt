@@ -7,7 +7,7 @@ use Rattle.machine_desc.specs.declared.Desc.{Desc}
 use Rattle.window_model.specs.declared.Entry.{Entry}
 use Rattle.window_model.specs.State.{Machine, nothing}
 use Rattle.window_model.specs.Order.{Place, first, first_from}
-use Rattle.window_model.specs.Dependence.{passing}
+use Rattle.machine_desc.specs.Questions.{loads_pass}
 use Rattle.window_model.specs.Clear.{clear, clear_at, clear_with, clears, is_violated, may_clear, violated_by, violates}
 use Rattle.window_model.proofs.Clearing.{Cleared, Violated, clear_parts}
 use Rattle.window_model.proofs.Lists.{each_push}
@@ -43,16 +43,16 @@ module _ (d : Desc) (P : Machine → Type 0)
       by_oldest (is_violated p.entry) p.younger (λ o. P (clear_with d p o x).machine) (λ n. stays x p t n h)
       (λ q y v n. cuts x p q t (record { younger = y; has = v }) n h)
 
-  by_store : passing d ≡ true → (x : Machine) → P x → P (clear_at d (first (may_clear d) x.window) x).machine
+  by_store : loads_pass d ≡ true → (x : Machine) → P x → P (clear_at d (first (may_clear d) x.window) x).machine
   by_store a x h =
       by_place (may_clear d) x.window (λ o. P (clear_at d o x).machine) h
       (λ p f.
       let all = f.all ∙ ap (λ o. o ++ p.entry ∷ p.younger) (sym (older_is (may_clear d) x.window p f)) in
-      by_load x p (record { passing = a; window = all; parts = clear_parts d p.before p.entry f.has }) h)
+      by_load x p (record { loads_pass = a; window = all; parts = clear_parts d p.before p.entry f.has }) h)
 
   pub clear_spares : (x : Machine) → P x → P (clear d x).machine
-  clear_spares x h = by_passing (passing d) refl
+  clear_spares x h = by_passing (loads_pass d) refl
     where
-      by_passing : (b : Bool) → passing d ≡ b → P (if b then clear_at d (first (may_clear d) x.window) x else nothing x).machine
+      by_passing : (b : Bool) → loads_pass d ≡ b → P (if b then clear_at d (first (may_clear d) x.window) x else nothing x).machine
       by_passing true a = by_store a x h
       by_passing false a = h

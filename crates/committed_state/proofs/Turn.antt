@@ -17,7 +17,7 @@ use Rattle.window_model.specs.declared.Item.{Item}
 use Rattle.window_model.specs.declared.Outcome.{Outcome}
 use Rattle.window_model.specs.Order.{is_done, is_control, is_store, has_address, has_data, value_of, fault_of, sources}
 use Rattle.window_model.specs.Resolve.{next_of}
-use Rattle.window_model.specs.Retire.{may_leave, trap_of, trap_as, addr_of, stored_of, width_of}
+use Rattle.window_model.specs.Retire.{may_leave, trap_of, trap_as, addr_of, stored_of, byte_count}
 use Rattle.window_model.specs.Rename.{at_once, is_call}
 use Rattle.window_model.specs.Fetch.{instr_at, kind_at}
 use Rattle.committed_state.specs.Replay.{Bank, replayed, replayed_as, ram_after, effect_on}
@@ -35,7 +35,7 @@ use Rattle.window_model.proofs.Leaving.{no_trap}
 
 -- what a head does to memory, and to the retired state
 abbrev pub head_ram : Kind → Ram → Entry → Option Outcome → Ram
-head_ram Store m e o = with_bytes m (addr_of o) (to_le (width_of e) (stored_of o))
+head_ram Store m e o = with_bytes m (addr_of o) (to_le (byte_count e) (stored_of o))
 head_ram _ m e o = m
 
 abbrev pub hart_with : Hart → Entry → Option Outcome → Hart

@@ -1,10 +1,9 @@
 -- The parts once an entry is Done.
-use Rattle.std.proofs.Common.{◌≡◌, ℕ, zero, suc, ◌<◌, ◌≤◌, Bool, not, false, List, [], ◌∷◌, length, arith, Option, Some, None, refl, ap, sym, ◌∙◌, subst, lit≤, slice_get}
+use Rattle.std.proofs.Common.{◌≡◌, ℕ, zero, suc, ◌<◌, Bool, not, false, List, [], ◌∷◌, length, Option, Some, None, refl, ap, sym, ◌∙◌, subst, slice_get}
 use Rattle.std.specs.Prelude.{slice_set}
 use Rattle.std.specs.Option.{option_map}
 use Rattle.std.specs.Slice.Scan.{HoldsNowhere, holds_at}
 use Rattle.std.proofs.lemmas.Option.{slice_get_within}
-use Rattle.machine_desc.proofs.Versions.{most_up_to}
 use Rattle.window_model.specs.declared.Entry.{Entry}
 use Rattle.window_model.specs.Fill.{completes}
 use Rattle.window_model.specs.Order.{is_waiting}
@@ -17,7 +16,7 @@ use Rattle.refinement.specs.Telling.{hold_of}
 use Rattle.core_parts.specs.Described.{Described}
 use Rattle.core_parts.specs.Held.{Held, Whole, described, in_flight, machine_of}
 use Rattle.core_parts.proofs.Sizes.{sized_set}
-use Rattle.refinement.proofs.Steps.{stands_done}
+use Rattle.refinement.proofs.Steps.{refines_done}
 use Rattle.complete.proofs.Turns.{done}
 
 some_here : (o : Option Entry) → option_map (λ (e : Entry). is_waiting e.state) o ≡ Some false → (e : Entry) × (o ≡ Some e) × (is_waiting e.state ≡ false)
@@ -76,7 +75,7 @@ module _ (h : Held) (v : Described) (i : ℕ) (e then : Entry) (rob : Ring) (sta
   pub finish_whole : Whole (record h { rob = rob; stations = stations })
   finish_whole = subst Whole (sym are) (record {
     sized = sized_set h.desc (machine_of h) i e (done e) here (record { item = refl; serial = refl; waits = λ k. absurd (cc) }) entry_done w.sized;
-    stands = stands_done (in_flight h) i e w.stands here waits_not;
+    refines = refines_done (in_flight h) i e w.refines here waits_not;
     made = w.made;
   })
 
@@ -105,11 +104,3 @@ next_here h v from i w s t = subst (λ (v : Described). IsNext is_busy v.machine
 
 pub none_here : (h : Held) (v : Described) (from : ℕ) → Whole h → described h ≡ v → HoldsNowhere (holds_at is_busy h.rob.entries) from (length h.rob.entries) → HoldsNowhere (holds_at is_busy v.machine.window) from (length v.machine.window)
 none_here h v from w s t = subst (λ (v : Described). HoldsNowhere (holds_at is_busy v.machine.window) from (length v.machine.window)) s t
-
--- the window has no more than 192 entries
-pub few_entries : (h : Held) (v : Described) → Whole h → described h ≡ v → length v.machine.window ≤ 192
-few_entries h v w e =
-    let m = ap (λ (v : Described). length v.machine.window) e in
-    let a = w.sized.entries in
-    let b = most_up_to 64 192 h.desc.version h.desc.core_rob (lit≤ tt) h.desc.few_entries in
-    omega (arith, m, a, b)

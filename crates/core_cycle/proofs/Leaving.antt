@@ -15,7 +15,7 @@ use Rattle.refinement.specs.Waiters.{Hold, gives_at}
 use Rattle.retire.specs.Gone.{MayRetire, popped, without_each}
 use Rattle.retire.proofs.Leaving.{alone_rest}
 use Rattle.refinement.specs.InFlight.{InFlight, hold_in}
-use Rattle.refinement.proofs.Steps.{stands_retired}
+use Rattle.refinement.proofs.Steps.{refines_retired}
 use Rattle.core_cycle.proofs.Advanced.{head_gone}
 use Rattle.core_cycle.proofs.Tied.{Tied, with_left}
 
@@ -44,7 +44,7 @@ head_visible p e es a = a.each.0
 one_gone : (p : InFlight) (e : Entry) (es : List Entry) (sources : List Sources) (writes : List Write) (q : Queues) → is_done e.state ≡ true → HasAdvanced p.point (e ∷ es) →
     Tied p (e ∷ es) sources writes q → Tied p es (drop 1 sources) (without_retired e.serial writes) (without e.serial q)
 one_gone p e es sources writes q d a t =
-    stands_retired (with_left p (e ∷ es) sources writes q) e t refl (gives_visible (hold_in p) e (head_visible p.point e es a) d)
+    refines_retired (with_left p (e ∷ es) sources writes q) e t refl (gives_visible (hold_in p) e (head_visible p.point e es a) d)
 
 drop_none : (n : ℕ) (xs : List Sources) → xs ≡ [] → drop n xs ≡ xs
 drop_none zero xs e = refl

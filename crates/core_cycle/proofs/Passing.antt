@@ -1,11 +1,10 @@
 -- A cycle that is passed over, and from when on the next ones may be.
-use Rattle.std.proofs.Common.{◌≡◌, ℕ, zero, suc, ◌+◌, ◌<◌, List, [], None, ap, ap₂, sym, ◌∙◌, subst, arith}
+use Rattle.std.proofs.Common.{◌≡◌, ℕ, zero, suc, ◌+◌, ◌<◌, List, [], None, ap, sym, ◌∙◌, subst, arith}
 use Rattle.rv_types.specs.Memory.{Code}
 use Rattle.elf_loader.specs.inner.Code.{word_at}
 use Rattle.machine_desc.specs.declared.Desc.{Desc}
 use Rattle.machine_desc.proofs.EveryDesc.{every_desc}
 use Rattle.window_model.specs.State.{Machine}
-use Rattle.window_model.specs.Row.{Row}
 use Rattle.window_model.specs.Cycle.{Cycled, cycle}
 use Rattle.window_model.specs.Committed.{Aligned, Commits}
 use Rattle.machine_facts.specs.Sized.{Sized}
@@ -49,11 +48,6 @@ module _ (n : ℕ) (s s1 : Described) (begins : s1 ≡ record s { machine = at_c
       let whole : Described → Cycled = λ s1. record { machine = s1.machine; row = empty_row (s.machine.cycle + 1); piece = [] } in
       ap whole begins ∙ sym (h s.machine.cycle (omega arith) l)
 
-  pub passed : (row : Row) (piece : List ℕ) → row ≡ empty_row (s.machine.cycle + 1) → piece ≡ [] → record { machine = s1.machine; row = row; piece = piece } ≡ cycle s.desc (word_at s.code) s.machine
-  passed row piece r p =
-      let whole : Row → List ℕ → Cycled = λ row piece. record { machine = s1.machine; row = row; piece = piece } in
-      ap₂ whole r p ∙ passed_whole
-
   passed_machine : s1.machine ≡ (cycle s.desc (word_at s.code) s.machine).machine
   passed_machine = ap (λ (c : Cycled). c.machine) passed_whole
 
@@ -70,9 +64,6 @@ module _ (n : ℕ) (s s1 : Described) (begins : s1 ≡ record s { machine = at_c
             (kept_after (word_at s.code) s s1 passed_machine aligned k e (ap (λ (s : Described). s.desc) begins) (subst (λ (s : Described). HasAdvanced s.point s.machine.window) (sym begins) k.advanced));
         still = still_stays;
       }
-
-  pub passed_commits : Aligned (word_at s.code) → Kept (word_at s.code) s → s.machine.end ≡ None → (piece : List ℕ) → piece ≡ [] → Commits (word_at s.code) s.machine s1.machine piece
-  passed_commits aligned k e piece p = commits_after (word_at s.code) s s1 passed_machine aligned k e piece (p ∙ ap (λ (c : Cycled). c.piece) passed_whole)
 
 -- ---- after one that wasn't, up to what is due
 

@@ -9,7 +9,7 @@ use Rattle.machine_desc.proofs.EveryDesc.{every_desc}
 use Rattle.window_model.specs.declared.Entry.{Entry}
 use Rattle.window_model.specs.declared.Outcome.{Outcome}
 use Rattle.window_model.specs.Order.{fault_of, has_address, has_data, is_done, is_store}
-use Rattle.window_model.specs.Retire.{retire, addr_of, width_of}
+use Rattle.window_model.specs.Retire.{retire, addr_of, byte_count}
 use Rattle.window_model.proofs.Booleans.{both, done_waits}
 use Rattle.window_model.specs.Rename.{CallAlone}
 use Rattle.window_model.specs.Row.{Row}
@@ -47,7 +47,7 @@ done_address e p s d = (both (has_address e) (has_data e) (p s ∙ ap not (done_
 pub each_takes : (ram : Ram) (es : List Entry) → Each (FitsMemory ram) es → Each HasOutcome es → Each HasParts es → Each (TakesStore ram) es
 each_takes ram [] m o p = tt
 each_takes ram (e ∷ es) m o p =
-    (λ s d n. (let a = done_address e p.0 s d in takes_by ram (width_of e) e.outcome (m.0 s a) (o.0 s a) n), each_takes ram es m.1 o.1 p.1)
+    (λ s d n. (let a = done_address e p.0 s d in takes_by ram (byte_count e) e.outcome (m.0 s a) (o.0 s a) n), each_takes ram es m.1 o.1 p.1)
 
 -- ---- the queues' room stays
 
@@ -84,7 +84,7 @@ left_tied : (h : Held) (rob : Ring) (sources : Buffer Sources) (writes : List Wr
 left_tied h rob sources writes room queues tags retired w a l =
     let p = in_flight h in
     let left = gone h.rob rob in
-    let here : Tied p (left ++ rob.entries) h.sources.items h.writes h.queues = subst (λ es. Tied p es h.sources.items h.writes h.queues) l.entries w.stands in
+    let here : Tied p (left ++ rob.entries) h.sources.items h.writes h.queues = subst (λ es. Tied p es h.sources.items h.writes h.queues) l.entries w.refines in
     let all =
     all_gone p left rob.entries h.sources.items h.writes h.queues l.may_retire (subst CallAlone l.entries w.sized.call_alone)
     (subst (HasAdvanced h.point) l.entries a) here in
@@ -121,7 +121,7 @@ pub retire_whole : (h : Held) (rob : Ring) (sources : Buffer Sources) (writes : 
     Whole (record h { rob = rob; sources = sources; writes = writes; table_room = room; queues = queues; tags = tags; ram = ram; regs = regs; pc = pc; end = end; retired = retired })
 retire_whole h rob sources writes room queues tags ram regs pc end retired w v s a n f l = record {
   sized = subst (Sized h.desc) (sym (left_machine h rob tags ram regs pc end retired n f l.count)) (sized_retire h.desc (machine_of h) (every_desc h.desc) w.sized);
-  stands = left_tied h rob sources writes room queues tags retired w (advanced_here h v s a) l;
+  refines = left_tied h rob sources writes room queues tags retired w (advanced_here h v s a) l;
   made = left_sizes h rob sources writes room queues tags retired l ∙ w.made;
 }
 

@@ -1,4 +1,4 @@
--- What the stations of a core hold between two cycles (docs/architecture.md, "How they stand for it").
+-- What the stations of a core hold between two cycles (docs/architecture.md, "How the parts refine the window").
 use Rattle.std.specs.Prelude.{◌≡◌, List}
 use Rattle.machine_desc.specs.declared.Desc.{Desc}
 use Rattle.window_model.specs.declared.Entry.{Entry}

@@ -1,7 +1,7 @@
 //! The core, held by its parts and seen as the machine.
 ghost use Rattle.std.specs.Prelude.{◌≡◌, ◌<◌, true, length, IfOk};
 ghost use Rattle.queue_laws.specs.Window.{StandFor, Tracks};
-ghost use Rattle.window_model.specs.Dependence.{passing};
+ghost use Rattle.machine_desc.specs.Questions.{loads_pass};
 ghost use Rattle.window_model.specs.State.{opening};
 ghost use Rattle.core_parts.specs.Lent.{HasAddressRoots, HasRoots, NamesRoots, NamesWriters};
 ghost use Rattle.core_parts.specs.Lent.{ShowsOlder, TellsPart, TellsReady, TellsVisible};
@@ -102,7 +102,7 @@ impl<R: RenameTaint> Core<R> {
     /// flight may have one that has retired.
     pub fn lsq(&self) -> &Lsq
         ensures queues { StandFor result.now self.now.machine.window }
-        ensures tracks { passing self.now.desc ≡ true → Tracks result.now self.now.machine.window }
+        ensures tracks { loads_pass self.now.desc ≡ true → Tracks result.now self.now.machine.window }
         ensures roots { HasAddressRoots self.now.machine.next_serial result.now.stores self.now.machine.window }
     {
         self.parts.lsq()

@@ -1,7 +1,7 @@
 //! The written machine by its parts: each part answers what else the window would have to be searched for.
 //!
 //! The parts and what ties them to the machine stand in `core_parts`, each phase in a crate of its own; here they are
-//! put together to cycles (`docs/architecture.md`, "How they stand for it").
+//! put together to cycles (`docs/architecture.md`, "How the parts refine the window").
 #![tactic(auto)]
 
 mod by_parts;

@@ -40,11 +40,11 @@ Leaves code h fetch_unit past =
     (λ d. (x : Machine) → fetching.with_unit fetch_unit h.tables past x ≡ (fetching.fetches d code h.fetch_unit h.tables h.past x).machine)
 
 pub fetch_whole : (code : Code) (h : Held) (fetch_unit : FetchUnit) (past : Past) → Whole h → Leaves code h fetch_unit past →
-    fetch_unit ≡ record (h.fetch_unit) { queue = fetch_unit.queue; fetch_pc = fetch_unit.fetch_pc } → past ≡ record (h.past) { mark = past.mark } →
+    fetch_unit ≡ record (h.fetch_unit) { queue = fetch_unit.queue; fetch_pc = fetch_unit.fetch_pc } → past ≡ record (h.past) { checkpoint = past.checkpoint } →
     Whole (record h { fetch_unit = fetch_unit; past = past })
 fetch_whole code h fetch_unit past w f t p = record {
   sized = subst (Sized h.desc) (sym (f h.desc (sizes_here h w) (machine_of h))) (sized_fetch h.desc code (machine_of h) (every_desc h.desc) w.sized);
-  stands = w.stands;
+  refines = w.refines;
   made = ap₂ (λ t p. sizes (record h { fetch_unit = t; past = p })) t p ∙ w.made;
 }
 

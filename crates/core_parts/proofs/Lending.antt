@@ -6,7 +6,7 @@ use Rattle.machine_desc.specs.declared.SttModel.{SttModel}
 use Rattle.window_model.specs.declared.Entry.{Entry}
 use Rattle.lsq.specs.declared.store.Store.{Store}
 use Rattle.queue_laws.specs.Window.{StandFor, Tracks}
-use Rattle.window_model.specs.Dependence.{passing}
+use Rattle.machine_desc.specs.Questions.{loads_pass}
 use Rattle.window_model.specs.Order.{each_from, is_store}
 use Rattle.visibility.specs.Point.{Point, HasAdvanced}
 use Rattle.refinement.proofs.Lists.{map_twice}
@@ -29,13 +29,13 @@ use Rattle.core_parts.specs.Held.{Held, Sizes, Whole, described, in_flight}
 use Rattle.core_parts.specs.Lent.{HasAddressRoots, HasRoots, HoldsWaiting, NamesRoots, NamesWriters, ShowsOlder, TellsPart, TellsReady, TellsVisible, address_roots}
 
 pub lent_names : (h : Held) (v : Described) → Whole h → described h ≡ v → NamesWriters h.writes v.machine.window
-lent_names h v w s = subst (λ (v : Described). NamesWriters h.writes v.machine.window) s (λ r. names_writer (in_flight h) r w.stands)
+lent_names h v w s = subst (λ (v : Described). NamesWriters h.writes v.machine.window) s (λ r. names_writer (in_flight h) r w.refines)
 
 pub lent_name_roots : (h : Held) (v : Described) → Whole h → described h ≡ v → NamesRoots v.machine.next_serial h.writes v.machine.window
-lent_name_roots h v w s = subst (λ (v : Described). NamesRoots v.machine.next_serial h.writes v.machine.window) s (λ r. names_root (in_flight h) r w.stands)
+lent_name_roots h v w s = subst (λ (v : Described). NamesRoots v.machine.next_serial h.writes v.machine.window) s (λ r. names_root (in_flight h) r w.refines)
 
 pub lent_waiting : (h : Held) (v : Described) → Whole h → described h ≡ v → HoldsWaiting v.desc.version (hold_of v.desc v.point) h.stations v.machine.window
-lent_waiting h v w s = subst (λ (v : Described). HoldsWaiting v.desc.version (hold_of v.desc v.point) h.stations v.machine.window) s (holds_waiting (in_flight h) w.stands)
+lent_waiting h v w s = subst (λ (v : Described). HoldsWaiting v.desc.version (hold_of v.desc v.point) h.stations v.machine.window) s (holds_waiting (in_flight h) w.refines)
 
 -- results are held back by the point that has advanced
 held_by : (h : Held) → Whole h → HasAdvanced h.point h.rob.entries → MovedBy h.desc (in_flight h)
@@ -43,11 +43,11 @@ held_by h w a = record { advanced = a; model = ap (λ (s : Sizes). s.model) w.ma
 
 -- the stations tell who is ready, where the point has advanced
 ready_by : (h : Held) → Whole h → HasAdvanced h.point h.rob.entries → TellsReady h.desc h.stations h.rob.entries
-ready_by h w a i e b c = tells_ready h.desc (in_flight h) i e w.stands (held_by h w a) b c
+ready_by h w a i e b c = tells_ready h.desc (in_flight h) i e w.refines (held_by h w a) b c
 
 -- the stations tell which part of a store is ready, where the point has advanced
 part_by : (h : Held) → Whole h → HasAdvanced h.point h.rob.entries → TellsPart h.desc h.stations h.rob.entries
-part_by h w a part i e b c = tells_part part h.desc (in_flight h) i e w.stands (held_by h w a) b c
+part_by h w a part i e b c = tells_part part h.desc (in_flight h) i e w.refines (held_by h w a) b c
 
 pub lent_ready : (h : Held) (v : Described) → Whole h → described h ≡ v → HasAdvanced v.point v.machine.window → TellsReady v.desc h.stations v.machine.window
 lent_ready h v w s = subst (λ (v : Described). HasAdvanced v.point v.machine.window → TellsReady v.desc h.stations v.machine.window) s (ready_by h w)
@@ -56,10 +56,10 @@ pub lent_parts : (h : Held) (v : Described) → Whole h → described h ≡ v �
 lent_parts h v w s = subst (λ (v : Described). HasAdvanced v.point v.machine.window → TellsPart v.desc h.stations v.machine.window) s (part_by h w)
 
 pub lent_queues : (h : Held) (v : Described) → Whole h → described h ≡ v → StandFor h.queues v.machine.window
-lent_queues h v w s = subst (λ (v : Described). StandFor h.queues v.machine.window) s (queues_stand (in_flight h) w.stands)
+lent_queues h v w s = subst (λ (v : Described). StandFor h.queues v.machine.window) s (queues_stand (in_flight h) w.refines)
 
-pub lent_tracks : (h : Held) (v : Described) → Whole h → described h ≡ v → passing v.desc ≡ true → Tracks h.queues v.machine.window
-lent_tracks h v w s = subst (λ (v : Described). passing v.desc ≡ true → Tracks h.queues v.machine.window) s (queues_track (in_flight h) w.stands)
+pub lent_tracks : (h : Held) (v : Described) → Whole h → described h ≡ v → loads_pass v.desc ≡ true → Tracks h.queues v.machine.window
+lent_tracks h v w s = subst (λ (v : Described). loads_pass v.desc ≡ true → Tracks h.queues v.machine.window) s (queues_track (in_flight h) w.refines)
 
 -- ---- the roots of the stores' addresses
 
@@ -78,7 +78,7 @@ lent_addresses h v w s =
     let p = in_flight h in
     subst (λ (v : Described). HasAddressRoots v.machine.next_serial h.queues.stores v.machine.window) s
     (sym (map_twice (λ (x : StoreFootprint). x.root) (store_in (terms p) (oldest_of h.next_serial h.rob.entries)) h.queues.stores)
-    ∙ ap (map (λ (x : StoreFootprint). x.root)) w.stands.columns.stores ∙ address_are (terms p) [] h.rob.entries)
+    ∙ ap (map (λ (x : StoreFootprint). x.root)) w.refines.columns.stores ∙ address_are (terms p) [] h.rob.entries)
 
 -- ---- the point, once it has advanced
 
@@ -101,7 +101,7 @@ point_older q p window e a = older_by q window (subst (λ p. HasAdvanced p windo
 
 -- the parts hold the sources of each entry of the window, and no others
 pub each_has_sources : (h : Held) → Whole h → length h.sources.items ≡ length h.rob.entries
-each_has_sources h w = counts_sources (in_flight h) w.stands
+each_has_sources h w = counts_sources (in_flight h) w.refines
 
 pub lent_counts : (h : Held) (v : Described) (i : ℕ) → Whole h → described h ≡ v → i < length v.machine.window → i < length h.sources.items
 lent_counts h v i w s l =
@@ -113,4 +113,4 @@ pub lent_roots : (h : Held) (v : Described) (i : ℕ) (k : Sources) → Whole h 
     HasRoots v.machine.next_serial v.machine.window i k.roots
 lent_roots h v i k w s g =
     subst (λ (v : Described). HasRoots v.machine.next_serial v.machine.window i k.roots) s
-    (λ e a. ap (λ (x : Sources). x.roots) (sources_are (in_flight h) i e k w.stands a g))
+    (λ e a. ap (λ (x : Sources). x.roots) (sources_are (in_flight h) i e k w.refines a g))

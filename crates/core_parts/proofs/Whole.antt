@@ -13,7 +13,7 @@ use Rattle.window_model.specs.State.{Machine, After}
 use Rattle.core_parts.specs.Described.{Described}
 use Rattle.core_parts.specs.Held.{Held, Whole, described, in_flight, machine_of}
 use Rattle.refinement.specs.Steps.{with_moved}
-use Rattle.refinement.proofs.Steps.{stands_moved}
+use Rattle.refinement.proofs.Steps.{refines_moved}
 use Rattle.core_parts.proofs.Waking.{at_point, none_released}
 
 -- ---- what is shown of the parts
@@ -37,7 +37,7 @@ told_by phase h v old new e s = e ∙ ap (λ (v : Described). record old { event
 pub begin_whole : (h : Held) (cycle : ℕ) → Whole h → cycle ≡ h.cycle + 1 → Whole (record h { cycle = cycle })
 begin_whole h cycle w e = record {
   sized = subst (λ c. Sized h.desc (record (machine_of h) { cycle = c })) (sym e) (sized_begin h.desc (machine_of h) (every_desc h.desc) w.sized);
-  stands = w.stands;
+  refines = w.refines;
   made = w.made;
 }
 
@@ -47,7 +47,7 @@ advance_whole : (h : Held) (point : Point) (stations : Stations) → Whole h →
 advance_whole h point stations w e t =
     subst (λ s. Whole (record h { point = point; stations = s })) (sym t)
     (subst (λ p. Whole (record h { point = p; stations = record (h.stations) { held = (with_moved (in_flight h)).held } })) (sym e)
-    (record { sized = w.sized; stands = stands_moved (in_flight h) w.stands; made = w.made }))
+    (record { sized = w.sized; refines = refines_moved (in_flight h) w.refines; made = w.made }))
 
 -- where nothing is held back the stations are told nothing
 nothing_told : (h : Held) → holds h.desc.stt_defence ≡ false → h.stations ≡ record (h.stations) { held = (with_moved (in_flight h)).held }

@@ -25,7 +25,7 @@ use Rattle.window_model.proofs.Serials.{splits}
 use Rattle.core_parts.specs.Described.{Described}
 use Rattle.core_parts.specs.Held.{Held, Whole, described, in_flight, machine_of}
 use Rattle.core_parts.specs.Dropped.{StopsBelow}
-use Rattle.refinement.proofs.Steps.{stands_dropped}
+use Rattle.refinement.proofs.Steps.{refines_dropped}
 
 -- ---- a window that is cut has no more of anything
 
@@ -74,10 +74,10 @@ dropped h first next = record h {
 
 dropped_whole : (h : Held) (first : ℕ) (next : Option ℕ) → Whole h → StopsBelow first h.point h.rob.entries → Whole (dropped h first next)
 dropped_whole h first next w s =
-    let t = splits first h.rob.entries w.stands.rise in
+    let t = splits first h.rob.entries w.refines.rise in
     record {
       sized = sized_dropped h.desc (machine_of h) (below first h.rob.entries) t.gone next (freed_from first h.ports.divider) t.whole w.sized;
-      stands = stands_dropped (in_flight h) first s.position s.entry w.stands s.here s.older s.not_past;
+      refines = refines_dropped (in_flight h) first s.position s.entry w.refines s.here s.older s.not_past;
       made = w.made;
     }
 

@@ -13,13 +13,13 @@ use Rattle.machine_desc.specs.declared.SttModel.{SttModel}
 use Rattle.window_model.specs.contracts.Divider as divider
 use Rattle.window_model.specs.contracts.Entry as entry
 use Rattle.window_model.specs.contracts.Item as item
-use Rattle.window_model.specs.contracts.Mark as mark
+use Rattle.window_model.specs.contracts.Checkpoint as checkpoint
 use Rattle.window_model.specs.contracts.Miss as miss
 use Rattle.window_model.specs.contracts.Target as target
 use Rattle.window_model.specs.declared.Divider.{Divider}
 use Rattle.window_model.specs.declared.Entry.{Entry}
 use Rattle.window_model.specs.declared.Item.{Item}
-use Rattle.window_model.specs.declared.Mark.{Mark}
+use Rattle.window_model.specs.declared.Checkpoint.{Checkpoint}
 use Rattle.window_model.specs.declared.Miss.{Miss}
 use Rattle.window_model.specs.declared.Target.{Target}
 use Rattle.window_model.specs.State.{After, Machine, opening}
@@ -62,10 +62,10 @@ committed_code = coded× coded_ℕ (coded× (coded_list coded_ℕ) (coded× code
 
 -- what is in flight: the window, the next serial, the queue, the fetch pc, and history and stack
 abbrev pub Unretired : Type 0
-Unretired = List Entry × (ℕ × (List Item × (Option ℕ × Mark)))
+Unretired = List Entry × (ℕ × (List Item × (Option ℕ × Checkpoint)))
 
 abbrev pub unretired_code : Coded Unretired
-unretired_code = coded× (coded_list entry.the_row.coded) (coded× coded_ℕ (coded× (coded_list item.the_row.coded) (coded× (coded_option coded_ℕ) mark.the_row.coded)))
+unretired_code = coded× (coded_list entry.the_row.coded) (coded× coded_ℕ (coded× (coded_list item.the_row.coded) (coded× (coded_option coded_ℕ) checkpoint.the_row.coded)))
 
 -- the sets of lines of both levels of a cache
 abbrev pub Levels : Type 0
@@ -94,7 +94,7 @@ machine_code =
     code_by (Committed × (Unretired × Learnt)) (coded× committed_code (coded× unretired_code learnt_code))
     (λ x. (
       (x.cycle, (x.regs, (x.pc, (x.ram, (x.retired, x.end))))),
-      ((x.window, (x.next_serial, (x.queue, (x.fetch_pc, x.mark)))), ((x.counters, (x.targets, x.dependence)), ((x.cache, x.second), (x.misses, x.divider)))),
+      ((x.window, (x.next_serial, (x.queue, (x.fetch_pc, x.checkpoint)))), ((x.counters, (x.targets, x.dependence)), ((x.cache, x.second), (x.misses, x.divider)))),
     ))
     (λ p. record {
       cycle = p.0.0;
@@ -104,7 +104,7 @@ machine_code =
       window = p.1.0.0;
       queue = p.1.0.1.1.0;
       fetch_pc = p.1.0.1.1.1.0;
-      mark = p.1.0.1.1.1.1;
+      checkpoint = p.1.0.1.1.1.1;
       counters = p.1.1.0.0;
       targets = p.1.1.0.1.0;
       dependence = p.1.1.0.1.1;

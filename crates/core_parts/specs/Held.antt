@@ -1,5 +1,5 @@
 -- What the parts of a core hold, of which machine they are, and what holds of them in every state (docs/machine.md,
--- "State", docs/architecture.md, "How they stand for it").
+-- "State", docs/architecture.md, "How the parts refine the window").
 use Rattle.std.specs.Prelude.{◌≡◌, ℕ, Bool, List, length, Option}
 use Rattle.circular_buffer.specs.Buffer.{Buffer}
 use Rattle.rv_types.specs.Memory.{Ram}
@@ -7,7 +7,7 @@ use Rattle.rv_types.specs.declared.End.{End}
 use Rattle.elf_loader.specs.inner.Code.{CodeText}
 use Rattle.machine_desc.specs.declared.Desc.{Desc}
 use Rattle.machine_desc.specs.declared.SttModel.{SttModel}
-use Rattle.window_model.specs.Dependence.{passing}
+use Rattle.machine_desc.specs.Questions.{loads_pass}
 use Rattle.window_model.specs.Ready.{holds}
 use Rattle.window_model.specs.State.{Machine}
 use Rattle.machine_facts.specs.Sized.{Sized}
@@ -69,7 +69,7 @@ machine_of h = record {
   counters = h.tables.counters;
   targets = h.tables.targets;
   dependence = h.dependence;
-  mark = h.past.mark;
+  checkpoint = h.past.checkpoint;
   cache = h.tags.sets;
   second = h.second.sets;
   misses = h.mshrs.misses;
@@ -88,7 +88,7 @@ abbrev pub in_flight : Held → InFlight
 in_flight h = record {
   version = h.desc.version;
   holds = holds h.desc.stt_defence;
-  tracked = passing h.desc;
+  tracked = loads_pass h.desc;
   next = h.next_serial;
   window = h.rob.entries;
   sources = h.sources.items;
@@ -166,6 +166,6 @@ pub record Whole (h : Held) : Type 0 where
   -- what each part holds is within the sizes of the description
   pub sized : Sized h.desc (machine_of h)
   -- what stands beside the window so that it needn't be searched stands for it
-  pub stands : Refines (in_flight h)
+  pub refines : Refines (in_flight h)
   -- the parts are made for the description, with its sizes
   pub made : sizes h ≡ sizes_for h.desc

@@ -1,4 +1,4 @@
--- What the parts that a core lends tell of its machine (docs/architecture.md, "How they stand for it").
+-- What the parts that a core lends tell of its machine (docs/architecture.md, "How the parts refine the window").
 use Rattle.std.specs.Prelude.{◌≡◌, ℕ, ◌<◌, ◌≤◌, nat_le, true, List, [], ◌∷◌, map, reverse, slice_get, Option, Some, if◌then◌else◌}
 use Rattle.std.specs.Option.{option_map}
 use Rattle.machine_desc.specs.declared.Desc.{Desc}

@@ -30,7 +30,7 @@ pub fn gives(entry: &Entry, defence: Defence, point: &VisPoint) -> bool
 
 /// The visibility point moves over the window, and the stations are told which loads give their values from then on,
 /// where results of loads are held back: those that are Done, and that the point has passed.
-pub fn advance_and_wake(point: &mut VisPoint, rob: &RobRing, stations: &mut Stations)
+pub(crate) fn advance_and_wake(point: &mut VisPoint, rob: &RobRing, stations: &mut Stations)
     requires rise { Rise rob.now.entries }
     requires few { All (λ e. e.serial < 2 ^ 64 - 1) rob.now.entries }
     requires can { CanAdvance point.old rob.now.entries }

@@ -3,7 +3,7 @@ ghost use Rattle.std.specs.Prelude.{◌≡◌, ◌<◌, true, length};
 ghost use Rattle.refinement.specs.Telling.{hold_of};
 ghost use Rattle.queue_laws.specs.Window.{StandFor, Tracks};
 ghost use Rattle.visibility.specs.Point.{HasAdvanced};
-ghost use Rattle.window_model.specs.Dependence.{passing};
+ghost use Rattle.machine_desc.specs.Questions.{loads_pass};
 ghost use Rattle.core_parts.specs.Lent.{HasAddressRoots, HasRoots, HoldsWaiting, NamesRoots, NamesWriters};
 ghost use Rattle.core_parts.specs.Lent.{TellsPart, TellsReady};
 
@@ -48,7 +48,7 @@ impl<R: RenameTaint> Parts<R> {
     /// addresses; and what loads have read and which stores are cleared, where loads may pass stores.
     pub fn lsq(&self) -> &Lsq
         ensures queues { StandFor result.now self.now.machine.window }
-        ensures tracks { passing self.now.desc ≡ true → Tracks result.now self.now.machine.window }
+        ensures tracks { loads_pass self.now.desc ≡ true → Tracks result.now self.now.machine.window }
         ensures roots { HasAddressRoots self.now.machine.next_serial result.now.stores self.now.machine.window }
     {
         &self.lsq

@@ -16,17 +16,6 @@ kept_place true false h = refl
 kept_place true true (inl e) = absurd (cc)
 kept_place true true (inr e) = absurd (cc)
 
--- nothing is done at first
-pub fills_start : {X : Type 0} (covered : ℕ → Bool) (value : ℕ → X) (xs : List X) (left : List Bool) → Fills covered value 0 xs xs left left
-fills_start covered value xs left = record {
-  size = refl;
-  room = refl;
-  cells = λ k d a b. absurd (omega arith);
-  places = λ k a. absurd (omega arith);
-  rest_cells = λ k d a. refl;
-  rest_places = λ k a. refl;
-}
-
 -- cells that are not left or not covered may be passed over
 skip_cell : {X : Type 0} (covered : ℕ → Bool) (value : ℕ → X) (done : ℕ) (old new : List X) (left left' : List Bool) → Fills covered value done old new left left'
     → (k : ℕ) (d : X) → k < length old → (k < done) ⊎ (done ≤ k) → (done ≤ k → (get_or left' k false ≡ false) ⊎ (covered k ≡ false))

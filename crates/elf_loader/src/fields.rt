@@ -5,39 +5,39 @@ ghost use Rattle.elf_loader.specs.Fields.{has_magic, header_of, program_header};
 use byte_ram::{half_at, word_at};
 
 /// The first bytes of every ELF file.
-pub const MAGIC: [u8; 4] = [0x7f, 0x45, 0x4c, 0x46];
+pub(crate) const MAGIC: [u8; 4] = [0x7f, 0x45, 0x4c, 0x46];
 
 /// The number of bytes of the header.
-pub const HEADER_SIZE: u64 = 52;
+pub(crate) const HEADER_SIZE: u64 = 52;
 
 /// The number of bytes of a program header.
-pub const PROGRAM_HEADER_SIZE: u16 = 32;
+pub(crate) const PROGRAM_HEADER_SIZE: u16 = 32;
 
 /// The class of files of 32 bits.
-pub const CLASS_32: u8 = 1;
+pub(crate) const CLASS_32: u8 = 1;
 
 /// The encoding of numbers with their lowest byte first.
-pub const LITTLE_ENDIAN: u8 = 1;
+pub(crate) const LITTLE_ENDIAN: u8 = 1;
 
 /// The one version of ELF that there is.
-pub const VERSION: u8 = 1;
+pub(crate) const VERSION: u8 = 1;
 
 /// The type of executable files.
-pub const EXECUTABLE: u16 = 2;
+pub(crate) const EXECUTABLE: u16 = 2;
 
 /// RISC-V's number as a machine.
-pub const RISC_V: u16 = 243;
+pub(crate) const RISC_V: u16 = 243;
 
 /// The type of the program header of a segment to be loaded.
-pub const LOAD: u32 = 1;
+pub(crate) const LOAD: u32 = 1;
 
 /// The type of the program header that names an interpreter.
-pub const INTERP: u32 = 3;
+pub(crate) const INTERP: u32 = 3;
 
 /// What is read of the header: `kind` is the type of the file, `table` the place of the program headers in it,
 /// `entry_size` the size of one of them and `count` their number.
 #[derive(Clone, Copy)]
-pub struct Header {
+pub(crate) struct Header {
     pub class: u8,
     pub encoding: u8,
     pub version: u8,
@@ -53,7 +53,7 @@ pub struct Header {
 /// What is read of a program header: `offset` is the place of the segment's bytes in the file, `filesz` their number,
 /// `memsz` the number of bytes in memory.
 #[derive(Clone, Copy)]
-pub struct ProgramHeader {
+pub(crate) struct ProgramHeader {
     pub kind: u32,
     pub offset: u32,
     pub vaddr: u32,
@@ -64,7 +64,7 @@ pub struct ProgramHeader {
 
 /// Whether the file begins as every ELF file does.
 #[tactic(auto, unfolding(crate::specs::Fields::has_magic))]
-pub fn has_magic(file: &[u8]) -> bool
+pub(crate) fn has_magic(file: &[u8]) -> bool
     ensures { result ≡ has_magic file.now }
 {
     file.starts_with(&MAGIC)
@@ -72,7 +72,7 @@ pub fn has_magic(file: &[u8]) -> bool
 
 /// The fields of a file's header, its first 52 bytes.
 #[tactic(auto, unfolding(crate::specs::Fields::half, crate::specs::Fields::word))]
-pub fn header_of(file: &[u8]) -> Header
+pub(crate) fn header_of(file: &[u8]) -> Header
     requires { 52 ≤ length file.now }
     ensures { result ≡ header_of file.now }
 {
@@ -92,7 +92,7 @@ pub fn header_of(file: &[u8]) -> Header
 
 /// Program header i, which lies in the file.
 #[tactic(auto, unfolding(crate::specs::Fields::word))]
-pub fn program_header(file: &[u8], i: u16) -> ProgramHeader
+pub(crate) fn program_header(file: &[u8], i: u16) -> ProgramHeader
     requires header { 52 ≤ length file.now }
     requires inside { (header_of file.now).table + 32 * i + 32 ≤ length file.now }
     ensures { result ≡ program_header file.now i }

@@ -19,7 +19,7 @@ const ALIGNMENT: usize = 16;
 
 /// A span of memory's bytes: the place of the first one, and of the first behind it, both multiples of 16.
 #[derive(Clone, Copy)]
-pub struct Span {
+pub(crate) struct Span {
     pub from: usize,
     pub to: usize,
 }
@@ -91,7 +91,7 @@ fn at_least_a_row(span: Span, size: usize) -> Span
 }
 
 /// The span of the segments, at least one row.
-pub fn span_of(segments: &Segments<'_>, ram: &Ram) -> Span
+pub(crate) fn span_of(segments: &Segments<'_>, ram: &Ram) -> Span
     requires { ram_fault segments.now ram.now ≡ None }
     ensures some { result.from < result.to }
     ensures span { InRows (length ram.now.bytes) result.from result.to }
@@ -107,7 +107,7 @@ pub fn span_of(segments: &Segments<'_>, ram: &Ram) -> Span
 }
 
 /// A copy of this span of memory, as a memory of its own. The one error is want of memory.
-pub fn part_of(alloc: Global, ram: &Ram, span: Span) -> Result<Ram, NoMemory>
+pub(crate) fn part_of(alloc: Global, ram: &Ram, span: Span) -> Result<Ram, NoMemory>
     requires some { span.from < span.to }
     requires span { InRows (length ram.now.bytes) span.from span.to }
     ensures { IfOk result (λ p. p ≡ part ram.now span.from span.to) }

@@ -12,7 +12,7 @@ use std::marker::Model;
 
 /// The places that are left, seen as a list of Bools.
 #[derive(Drop)]
-pub struct Unwritten {
+pub(crate) struct Unwritten {
     jumps: Vec<u32>,
 }
 

@@ -13,7 +13,7 @@ use Rattle.window_model.specs.declared.Entry.{Entry}
 use Rattle.window_model.specs.State.{Machine}
 use Rattle.rv_types.specs.Value.{bytes_in}
 use Rattle.window_model.specs.Order.{is_done, is_store, fault_of}
-use Rattle.window_model.specs.Retire.{Retired, addr_of, call_leaves, hart_of, head_leaves, head_turn, may_leave, retire, stays, store_waits, then_retires, trap_as, trap_of, turn, turns, unless_ended, width_of}
+use Rattle.window_model.specs.Retire.{Retired, addr_of, call_leaves, hart_of, head_leaves, head_turn, may_leave, retire, stays, store_waits, then_retires, trap_as, trap_of, turn, turns, unless_ended, byte_count}
 use Rattle.secret_marks.specs.declared.EntryMarks.{EntryMarks}
 use Rattle.entry_marks.specs.declared.oldest.LeavingEntry.{LeavingEntry}
 use Rattle.entry_marks.specs.Oldest.{InsideEach, IsCopiedFrom, done_heads}
@@ -119,7 +119,7 @@ done_taken d x =
 
 -- memory takes what the entry writes, if it is a Done store without a fault
 abbrev pub Takes : Ram → Entry → Type 0
-Takes ram e = is_store e.item.kind ≡ true → is_done e.state ≡ true → fault_of e.outcome ≡ None → store_fault ram (addr_of e.outcome) (width_of e) ≡ None
+Takes ram e = is_store e.item.kind ≡ true → is_done e.state ≡ true → fault_of e.outcome ≡ None → store_fault ram (addr_of e.outcome) (byte_count e) ≡ None
 
 each_at : (P : Entry → Type 0) (es : List Entry) → Each P es → (i : ℕ) (e : Entry) → slice_get es i ≡ Some e → P e
 each_at P [] h i e at = absurd (cc)
@@ -135,9 +135,9 @@ get_left (y ∷ es) more (suc i) e at = get_left es more i e at
 fits : (ram : Ram) (a n : ℕ) → store_fault ram a n ≡ None → (a - ram.base) + n ≤ length ram.bytes
 fits ram a n h = let within = inside _ _ ram a n h in omega (arith, within)
 
-done_store : (ram : Ram) (e : Entry) → e.item.kind ≡ Store → Leaves e → Takes ram e → (addr_of e.outcome - ram.base) + width_of e ≤ length ram.bytes
+done_store : (ram : Ram) (e : Entry) → e.item.kind ≡ Store → Leaves e → Takes ram e → (addr_of e.outcome - ram.base) + byte_count e ≤ length ram.bytes
 done_store ram e k it takes =
-    fits ram (addr_of e.outcome) (width_of e)
+    fits ram (addr_of e.outcome) (byte_count e)
     (takes (ap is_store k) (first_of (is_done e.state) _ it.0) (sym (ap (λ k. trap_as k e) k) ∙ it.1))
 
 -- marks of memory have a place for each byte of the stores that retire

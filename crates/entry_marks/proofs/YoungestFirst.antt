@@ -1,7 +1,7 @@
 -- The marks that Issue leaves, on a walk from the youngest entry on: what stands before a position is as it was.
-use Rattle.std.proofs.Common.{◌≡◌, ℕ, ◌+◌, ◌≤◌, Bool, true, false, ◌||◌, ◌&&◌, List, [], ◌∷◌, ◌++◌, length, take, drop, Some, slice_get, slice_set, refl, ap, ap₂, sym, ◌∙◌, arith, append_assoc}
+use Rattle.std.proofs.Common.{◌≡◌, ℕ, ◌+◌, Bool, true, false, ◌||◌, ◌&&◌, List, [], ◌∷◌, ◌++◌, length, take, drop, Some, slice_get, slice_set, refl, ap, ap₂, sym, ◌∙◌, arith, append_assoc}
 use Rattle.std.specs.Prelude.{reverse, if◌then◌else◌}
-use Rattle.std.proofs.lemmas.List.{take_more, take-append-drop, length-take-le, drop_all}
+use Rattle.std.proofs.lemmas.List.{take_more, length-take-le}
 use Rattle.std.proofs.Math.Seq.{set-append_seam, take-append_seam}
 use Rattle.std.proofs.lemmas.Option.{get_or_from_slice_get, slice_get_within}
 use Rattle.window_model.specs.declared.Entry.{Entry}
@@ -60,16 +60,6 @@ module _ (cycle base : ℕ) (m : Marks) (window : List Entry) (owns : List Entry
   -- the marks once the entries from position k on have those with which Issue leaves them
   abbrev pub left_from : ℕ → List EntryMarks
   left_from k = take k owns ++ issued_from cycle base m (before_at window k) (marks_before owns k) (drop k window) (drop k owns)
-
-  nothing_from : (before : List Entry) (marks owns : List EntryMarks) → issued_from cycle base m before marks [] owns ≡ owns
-  nothing_from before marks [] = refl
-  nothing_from before marks (o ∷ owns) = refl
-
-  pub none_walked : (n : ℕ) → length window ≤ n → owns ≡ left_from n
-  none_walked n le =
-      sym (ap (λ es. take n owns ++ issued_from cycle base m (before_at window n) (marks_before owns n) es (drop n owns)) (drop_all n window le)
-      ∙ ap (λ os. take n owns ++ os) (nothing_from (before_at window n) (marks_before owns n) (drop n owns))
-      ∙ take-append-drop n owns)
 
   module _ (step : length owns ≡ length window) (n k : ℕ) (next : n ≡ k + 1) (e : Entry) (here : slice_get window k ≡ Some e) where
     -- the marks behind position k, with which Issue leaves those entries

@@ -4,7 +4,7 @@ use Rattle.rv_types.specs.Value.{bytes_in}
 use Rattle.rv_types.specs.declared.Kind.TheVariants.{Store}
 use Rattle.window_model.specs.declared.Entry.{Entry}
 use Rattle.window_model.specs.Order.{is_done}
-use Rattle.window_model.specs.Retire.{addr_of, width_of}
+use Rattle.window_model.specs.Retire.{addr_of, byte_count}
 use Rattle.secret_marks.specs.declared.EntryMarks.{EntryMarks}
 use Rattle.entry_marks.specs.declared.oldest.LeavingEntry.{LeavingEntry}
 
@@ -13,7 +13,7 @@ pub record IsCopied (e : Entry) (mark : EntryMarks) (copy : LeavingEntry) : Type
   pub kind : copy.kind ≡ e.item.kind
   pub instr : copy.instr ≡ e.item.instr
   pub addr : copy.addr ≡ addr_of e.outcome
-  pub width : bytes_in copy.width ≡ width_of e
+  pub width : bytes_in copy.width ≡ byte_count e
   pub marks : copy.marks ≡ mark
 
 -- how many of the oldest entries are Done, up to the first that isn't

@@ -14,8 +14,8 @@ use Rattle.history_pred.specs.Past as past
 use Rattle.history_pred.specs.Past.{Past}
 use Rattle.fetch_unit.specs.Unit.{AreAsked, FetchUnit, IsAsked}
 
--- the first description in the newest version, with the second one's targets, and what the third one asks for of history
--- and stack
+-- the first description in the newest version, with the second one's targets, and what the third one asks for of
+-- history and stack
 abbrev pub joined : Desc → Desc → Desc → Desc
 joined unit jumps history = record unit {
   version = 2;

@@ -10,7 +10,7 @@ use Rattle.window_model.specs.declared.Item.{Item}
 use Rattle.window_model.specs.State.{Machine, After, then_does, nothing}
 use Rattle.window_model.specs.Row.{Row}
 use Rattle.window_model.specs.Fetch.{fetch, fetch_up_to, fetch_from, fetch_one, guess, item_at}
-use Rattle.window_model.specs.History.{mark_after}
+use Rattle.window_model.specs.History.{checkpoint_after}
 use Rattle.predictor.specs.Tables.{Tables}
 use Rattle.history_pred.specs.Past as histories
 use Rattle.history_pred.specs.Past.{Past}
@@ -70,7 +70,7 @@ one_behind d code n x pc es r p =
 
 -- history and stack after an item that goes this way
 abbrev pub followed : Desc → Past → Item → Bool → Past
-followed d p item way = record p { mark = mark_after item.kind d item.pc item.instr way p.mark }
+followed d p item way = record p { checkpoint = checkpoint_after item.kind d item.pc item.instr way p.checkpoint }
 
 -- the history has the sizes that it had at first
 still : (code : Code) (t : Tables) (first : FetchUnit) (past : Past) (row : Row) (n : ℕ) (f : FetchUnit) (p : Past) (now : Row) (d : Desc) → FetchesOn code t first past row n f p now → Predicts t past d → Predicts t p d
@@ -83,8 +83,8 @@ still code t first past row n f p now d o s = record {
 
 pub fetches_more : (code : Code) (t : Tables) (first : FetchUnit) (past : Past) (row : Row) (i : ℕ) (f : FetchUnit) (p : Past) (now : Row) (pc : ℕ) (item : Item) (way : Bool) (f2 : FetchUnit) (p2 : Past) (now2 : Row) →
     FetchesOn code t first past row (first.width - i) f p now → i < first.width → next_fetch f ≡ Some pc →
-    ((d : Desc) → Predicts t p d → (x : Machine) → item ≡ item_at d code (predicting t p x) pc) → ((d : Desc) → Predicts t p d → way ≡ guess item.kind d t.counters p.mark pc) →
-    f2 ≡ with_item f item → histories.InEach p (λ d. p2 ≡ followed d p item way) → p2 ≡ record p { mark = p2.mark } → now2 ≡ record now { events = now.events ++ event.Fet pc ∷ [] } →
+    ((d : Desc) → Predicts t p d → (x : Machine) → item ≡ item_at d code (predicting t p x) pc) → ((d : Desc) → Predicts t p d → way ≡ guess item.kind d t.counters p.checkpoint pc) →
+    f2 ≡ with_item f item → histories.InEach p (λ d. p2 ≡ followed d p item way) → p2 ≡ record p { checkpoint = p2.checkpoint } → now2 ≡ record now { events = now.events ++ event.Fet pc ∷ [] } →
     FetchesOn code t first past row (first.width - (i + 1)) f2 p2 now2
 fetches_more code t first past row i f p now pc item way f2 p2 now2 o lt q comes guessed e follows same r =
     let k = first.width - (i + 1) in
@@ -96,7 +96,7 @@ fetches_more code t first past row i f p now pc item way f2 p2 now2 o lt q comes
           let y = with_unit f t p x in
           let here = still code t first past row (first.width - i) f p now d o s.predicts in
           let room : nat_lt (length f.queue) d.core_queue ≡ true = ap (nat_lt (length f.queue)) (sym s.room ∙ sym o.room) ∙ a.0 in
-          let after : Item → Past = λ i. record p { mark = mark_after i.kind d i.pc i.instr (guess i.kind d t.counters p.mark pc) p.mark } in
+          let after : Item → Past = λ i. record p { checkpoint = checkpoint_after i.kind d i.pc i.instr (guess i.kind d t.counters p.checkpoint pc) p.checkpoint } in
           let own : item ≡ item_at d code y pc = comes d here x in
           let gone : p2 ≡ after (item_at d code y pc) = follows d here.counters here.directions here.returns ∙ ap (followed d p item) (guessed d here) ∙ ap after own in
           ap (λ es. behind es (fetch_up_to d code k (with_unit f2 t p2 x))) es
@@ -129,7 +129,7 @@ pub record Over (code : Code) (t : Tables) (first : FetchUnit) (past : Past) (be
   pub machine : InEach first t past (λ d. (x : Machine) → with_unit f t p x ≡ (fetches d code first t past x).machine)
   pub row : InEach first t past (λ d. (x : Machine) → now ≡ record begun { events = begun.events ++ (fetches d code first t past x).events })
   pub sizes : f ≡ record first { queue = f.queue; fetch_pc = f.fetch_pc }
-  pub history_sizes : p ≡ record past { mark = p.mark }
+  pub history_sizes : p ≡ record past { checkpoint = p.checkpoint }
   pub few : length now.events ≤ length begun.events + first.width
 
 over : (code : Code) (t : Tables) (first : FetchUnit) (past : Past) (row : Row) (n : ℕ) (f : FetchUnit) (p : Past) (now : Row) →

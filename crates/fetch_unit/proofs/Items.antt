@@ -12,10 +12,10 @@ use Rattle.window_model.specs.Fetch.{guess, item_at, predicted, instr_at, kind_a
 
 -- the item of an instruction
 abbrev item_of : Desc → Machine → ℕ → Instr → Item
-item_of d x pc i = record { pc = pc; instr = i; kind = kind_of i; predicted = predicted (kind_of i) d x.targets x.mark (guess (kind_of i) d x.counters x.mark pc) pc i; mark = x.mark }
+item_of d x pc i = record { pc = pc; instr = i; kind = kind_of i; predicted = predicted (kind_of i) d x.targets x.checkpoint (guess (kind_of i) d x.counters x.checkpoint pc) pc i; checkpoint = x.checkpoint }
 
 abbrev item_by : Desc → Machine → ℕ → Option ℕ → Item
-item_by d x pc w = record { pc = pc; instr = instr_at w; kind = kind_at w; predicted = predicted (kind_at w) d x.targets x.mark (guess (kind_at w) d x.counters x.mark pc) pc (instr_at w); mark = x.mark }
+item_by d x pc w = record { pc = pc; instr = instr_at w; kind = kind_at w; predicted = predicted (kind_at w) d x.targets x.checkpoint (guess (kind_at w) d x.counters x.checkpoint pc) pc (instr_at w); checkpoint = x.checkpoint }
 
 some_is : (w : ℕ) (i : Instr) → Some i ≡ option_map decode (Some w) → i ≡ decode w
 some_is w i e = cc

@@ -25,7 +25,7 @@ unit_code =
 
 -- a machine with this fetch unit, this predictor, and this history and stack in the place of its own
 abbrev pub with_unit : FetchUnit → Tables → Past → Machine → Machine
-with_unit f t p x = record x { queue = f.queue; fetch_pc = f.fetch_pc; counters = t.counters; targets = t.targets; mark = p.mark }
+with_unit f t p x = record x { queue = f.queue; fetch_pc = f.fetch_pc; counters = t.counters; targets = t.targets; checkpoint = p.checkpoint }
 
 -- phase Fetch of such a machine under a description
 abbrev pub fetches : Desc → Code → FetchUnit → Tables → Past → Machine → After
@@ -33,7 +33,7 @@ fetches d code f t p x = fetch d code (with_unit f t p x)
 
 -- a machine with this predictor, and this history and stack
 abbrev pub predicting : Tables → Past → Machine → Machine
-predicting t p x = record x { counters = t.counters; targets = t.targets; mark = p.mark }
+predicting t p x = record x { counters = t.counters; targets = t.targets; checkpoint = p.checkpoint }
 
 -- where the next item is fetched: nowhere where the queue is full
 abbrev pub next_fetch : FetchUnit → Option ℕ

@@ -37,7 +37,7 @@ fn stored_target(predictor: &Predictor, pc: u32) -> u32
 // Where a JALR is predicted to go: a return to the youngest address on the stack, if there is one. Any other to the
 // target stored for it, else to the address behind.
 fn jump_target(predictor: &Predictor, history: &History, pc: u32, instr: &Instr) -> u32
-    ensures { result ≡ unless_returns (returns_to instr.now history.now.mark)
+    ensures { result ≡ unless_returns (returns_to instr.now history.now.checkpoint)
         (stored_target pc (slice_index_or predictor.now.targets (target_place predictor.now pc) None)) }
 {
     match history.returns_to(instr) {
@@ -50,10 +50,10 @@ fn jump_target(predictor: &Predictor, history: &History, pc: u32, instr: &Instr)
 fn guess(predictor: &Predictor, history: &History, pc: u32, kind: Kind) -> bool
     requires same_counters { history.now.counters ≡ length predictor.now.counters }
     ensures { (d : Desc) → history.now.counters ≡ d.predictor_counters
-        → result ≡ guess kind d predictor.now.counters history.now.mark pc }
+        → result ≡ guess kind d predictor.now.counters history.now.checkpoint pc }
 {
     match kind {
-        Kind::Branch => predictor.direction(history.index(history.mark(), pc)),
+        Kind::Branch => predictor.direction(history.index(history.checkpoint(), pc)),
         _ => false,
     }
 }
@@ -68,7 +68,7 @@ fn predicted(
     kind: Kind,
 ) -> Option<u32>
     ensures { (d : Desc) → length predictor.now.targets ≡ d.predictor_btb
-        → result ≡ predicted kind d predictor.now.targets history.now.mark taken pc instr.now }
+        → result ≡ predicted kind d predictor.now.targets history.now.checkpoint taken pc instr.now }
 {
     match kind {
         Kind::Stop(_) => None,
@@ -99,7 +99,7 @@ pub(crate) fn fetched_at(predictor: &Predictor, history: &History, code: &Code, 
     ensures item { (d : Desc) → Predicts predictor.now history.now d → (x : Machine)
         → result.item ≡ item_at d (word_at code.now) (predicting predictor.now history.now x) pc }
     ensures taken { (d : Desc) → Predicts predictor.now history.now d
-        → result.taken ≡ guess result.item.kind d predictor.now.counters history.now.mark pc }
+        → result.taken ≡ guess result.item.kind d predictor.now.counters history.now.checkpoint pc }
 {
     let Some(instr) = code.instr(pc) else {
         return Fetched {
@@ -108,7 +108,7 @@ pub(crate) fn fetched_at(predictor: &Predictor, history: &History, code: &Code, 
                 instr: Instr::Illegal(0),
                 kind: Kind::Stop(Cause::outside_code()),
                 predicted: None,
-                mark: *history.mark(),
+                checkpoint: *history.checkpoint(),
             },
             taken: false,
         };
@@ -121,7 +121,7 @@ pub(crate) fn fetched_at(predictor: &Predictor, history: &History, code: &Code, 
             instr,
             kind,
             predicted: predicted(predictor, history, taken, pc, &instr, kind),
-            mark: *history.mark(),
+            checkpoint: *history.checkpoint(),
         },
         taken,
     }

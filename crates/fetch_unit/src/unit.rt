@@ -84,7 +84,7 @@ impl Fetch {
             → row.new ≡ with_events row.old
             (fetches d (word_at code.now) self.old predictor.now history.old x).events) }
         ensures sizes { self.new ≡ record self.old { queue = self.new.queue; fetch_pc = self.new.fetch_pc } }
-        ensures history_sizes { history.new ≡ record history.old { mark = history.new.mark } }
+        ensures history_sizes { history.new ≡ record history.old { checkpoint = history.new.checkpoint } }
         ensures few { IsLonger most_fetched row.old row.new }
     {
         predictor.described();

@@ -7,6 +7,7 @@ pub mod BitAsksForNoClearing
 pub mod BitsStaySet
 pub mod BranchToTheNext
 pub mod ByteAtItsEndCovered
+pub mod CheckpointOfTheLoad
 pub mod ClearedAtASquash
 pub mod CoveredLineIsAccessed
 pub mod DividerKeptAtAViolation
@@ -49,7 +50,6 @@ pub mod LoadMovesTheLineThatHits
 pub mod LoadReachesBehindMemory
 pub mod LoopByHistory
 pub mod LowerLineComesLater
-pub mod MarkOfTheLoad
 pub mod MemoryAndSecond
 pub mod MisalignedRefused
 pub mod Mixed1

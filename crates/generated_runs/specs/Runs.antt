@@ -7,6 +7,7 @@ use Rattle.generated_runs.specs.BitAsksForNoClearing.{bit_asks_for_no_clearing}
 use Rattle.generated_runs.specs.BitsStaySet.{bits_stay_set}
 use Rattle.generated_runs.specs.BranchToTheNext.{branch_to_the_next}
 use Rattle.generated_runs.specs.ByteAtItsEndCovered.{byte_at_its_end_covered}
+use Rattle.generated_runs.specs.CheckpointOfTheLoad.{checkpoint_of_the_load}
 use Rattle.generated_runs.specs.ClearedAtASquash.{cleared_at_a_squash}
 use Rattle.generated_runs.specs.CoveredLineIsAccessed.{covered_line_is_accessed}
 use Rattle.generated_runs.specs.DividerKeptAtAViolation.{divider_kept_at_a_violation}
@@ -49,7 +50,6 @@ use Rattle.generated_runs.specs.LoadMovesTheLineThatHits.{load_moves_the_line_th
 use Rattle.generated_runs.specs.LoadReachesBehindMemory.{load_reaches_behind_memory}
 use Rattle.generated_runs.specs.LoopByHistory.{loop_by_history}
 use Rattle.generated_runs.specs.LowerLineComesLater.{lower_line_comes_later}
-use Rattle.generated_runs.specs.MarkOfTheLoad.{mark_of_the_load}
 use Rattle.generated_runs.specs.MemoryAndSecond.{memory_and_second}
 use Rattle.generated_runs.specs.MisalignedRefused.{misaligned_refused}
 use Rattle.generated_runs.specs.Mixed1.{mixed_1}
@@ -194,6 +194,7 @@ runs =
     bits_stay_set ∷
     branch_to_the_next ∷
     byte_at_its_end_covered ∷
+    checkpoint_of_the_load ∷
     cleared_at_a_squash ∷
     covered_line_is_accessed ∷
     divider_kept_at_a_violation ∷
@@ -236,7 +237,6 @@ runs =
     load_reaches_behind_memory ∷
     loop_by_history ∷
     lower_line_comes_later ∷
-    mark_of_the_load ∷
     memory_and_second ∷
     misaligned_refused ∷
     mixed_1 ∷

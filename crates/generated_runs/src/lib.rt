@@ -1,10 +1,10 @@
 //! Runs of the written machine whose traces independent models wrote, evaluated: no code, and nothing stands on it.
 //!
-//! `specs/Runs.antt` lists the runs, of both versions. The models are written in other languages, from the machine's description in
-//! words; `tools/evaluate/write` makes the runs and their facts of `tools/evaluate/runs`, whose `README.md` says where
-//! they come from.
-//! `specs/Agreement.antt` says what it is to agree with one, from the description's text and the image's bytes to the trace's text.
-//! Runs that were worked out by hand stand in `worked_runs`.
+//! `specs/Runs.antt` lists the runs, of both versions. The models are written in other languages, from the machine's
+//! description in words; `tools/evaluate/write` makes the runs and their facts of `tools/evaluate/runs`, whose
+//! `README.md` says where they come from. `specs/Agreement.antt` says what it is to agree with one, from the
+//! description's text and the image's bytes to the trace's text. Runs that were worked out by hand stand in
+//! `worked_runs`.
 #![tactic(auto)]
 
 ghost use Rattle.std.specs.Prelude.{All};

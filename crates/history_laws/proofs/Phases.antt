@@ -1,4 +1,4 @@
--- Every phase but Retire keeps that what is left leads to the present mark.
+-- Every phase but Retire keeps that what is left leads to the present checkpoint.
 use Rattle.std.proofs.Common.{◌≡◌, ℕ, ◌+◌, Bool, true, false, ◌&&◌, List, [], ◌∷◌, ◌++◌, Some, refl, ap, sym, ◌∙◌, subst, append_assoc}
 use Rattle.std.proofs.lemmas.List.{append-nil, map-append}
 use Rattle.std.specs.Prelude.{if◌then◌else◌, map, reverse, nat_lt, length, ◌==◌}
@@ -20,7 +20,7 @@ use Rattle.window_model.specs.Ports.{LoadPort, may_at}
 use Rattle.window_model.specs.Issue.{Begun, begun, issue, issue_entry}
 use Rattle.window_model.specs.Rename.{rename, rename_one, renamed, fits}
 use Rattle.window_model.specs.Fetch.{fetch, fetch_one, guess, item_at, kind_at, predicted}
-use Rattle.window_model.specs.History.{no_mark}
+use Rattle.window_model.specs.History.{no_checkpoint}
 use Rattle.window_model.specs.State.{Machine}
 use Rattle.window_model.proofs.Booleans.{done_waits}
 use Rattle.window_model.proofs.Clearing.{Cleared, Violated, clear_keep}
@@ -39,12 +39,13 @@ pub record Fresh (e : Entry) : Type 0 where
   pub waits : is_waiting e.state ≡ true → e.resolved ≡ false
   pub store : is_store e.item.kind ≡ true → e.resolved ≡ false
 
--- what has retired, what is in flight and what is fetched lead from no mark to the present one, by these directions
+-- what has retired, what is in flight and what is fetched lead from no checkpoint to the present one, by these
+-- directions
 pub record Left (d : Desc) (gone : List Entry) (ways : List Bool) (x : Machine) : Type 0 where
-  pub leads : Leads d no_mark (gone ++ x.window) x.queue ways x.mark
+  pub leads : Leads d no_checkpoint (gone ++ x.window) x.queue ways x.checkpoint
   pub fresh : Each Fresh x.window
 
--- what is left leads to the present mark by the first of these directions
+-- what is left leads to the present checkpoint by the first of these directions
 pub record LeftBy (d : Desc) (gone : List Entry) (ways : List Bool) (x : Machine) : Type 0 where
   pub first : List Bool
   pub others : List Bool
@@ -90,7 +91,7 @@ module _ (d : Desc) (gone : List Entry) (ways : List Bool) where
   pub left_complete : (x : Machine) → Left d gone ways x → Left d gone ways (complete x).machine
   left_complete x h =
       let all = all_completed x.cycle x.window h.fresh in
-      record { leads = leads_behind d no_mark x.mark gone x.window (map (completed x.cycle) x.window) x.queue ways all.0 h.leads; fresh = all.1 }
+      record { leads = leads_behind d no_checkpoint x.checkpoint gone x.window (map (completed x.cycle) x.window) x.queue ways all.0 h.leads; fresh = all.1 }
 
 -- ---- Resolve keeps what is left
 
@@ -117,10 +118,10 @@ kept_counts true s true_way way q t = absurd (cc)
 kept_counts false true true_way way q t = absurd (cc)
 
 module _ (d : Desc) (gone : List Entry) (ways : List Bool) (x : Machine) (p : Place) (t : Taken d x p) (h : Left d gone ways x) where
-  here : Leads d no_mark ((gone ++ reverse p.before) ++ p.entry ∷ p.younger) x.queue ways x.mark
+  here : Leads d no_checkpoint ((gone ++ reverse p.before) ++ p.entry ∷ p.younger) x.queue ways x.checkpoint
   here =
-      subst (λ w. Leads d no_mark w x.queue ways x.mark) (sym (append_assoc gone (reverse p.before) (p.entry ∷ p.younger)))
-      (subst (λ w. Leads d no_mark (gone ++ w) x.queue ways x.mark) t.window h.leads)
+      subst (λ w. Leads d no_checkpoint w x.queue ways x.checkpoint) (sym (append_assoc gone (reverse p.before) (p.entry ∷ p.younger)))
+      (subst (λ w. Leads d no_checkpoint (gone ++ w) x.queue ways x.checkpoint) t.window h.leads)
 
   all : Each Fresh (reverse p.before ++ p.entry ∷ p.younger)
   all = subst (Each Fresh) t.window h.fresh
@@ -136,13 +137,13 @@ module _ (d : Desc) (gone : List Entry) (ways : List Bool) (x : Machine) (p : Pl
   squashed : squashes p.entry ≡ true → LeftBy d gone ways (squash d p (taught d p x)).machine
   squashed q =
       let true_way = value_of p.entry.outcome == 1 in
-      let cut = leads_cut d no_mark x.mark (gone ++ reverse p.before) p.younger p.entry (resolved_one p.entry) x.queue ways true_way refl (squashed_counts p.entry (squashes p.entry) q) here in
+      let cut = leads_cut d no_checkpoint x.checkpoint (gone ++ reverse p.before) p.younger p.entry (resolved_one p.entry) x.queue ways true_way refl (squashed_counts p.entry (squashes p.entry) q) here in
       record {
         first = cut.first;
         others = cut.others;
         whole = cut.whole;
         left = record {
-          leads = subst (λ w. Leads d no_mark w [] cut.first (after_item d p.entry.item true_way)) (append_assoc gone (reverse p.before) (resolved_one p.entry ∷ [])) cut.leads;
+          leads = subst (λ w. Leads d no_checkpoint w [] cut.first (after_item d p.entry.item true_way)) (append_assoc gone (reverse p.before) (resolved_one p.entry ∷ [])) cut.leads;
           fresh = fresh_to [] (λ k. tt);
         };
       }
@@ -150,8 +151,8 @@ module _ (d : Desc) (gone : List Entry) (ways : List Bool) (x : Machine) (p : Pl
   kept : squashes p.entry ≡ false → Left d gone ways (keep p (taught d p x)).machine
   kept q = record {
     leads =
-        subst (λ w. Leads d no_mark w x.queue ways x.mark) (append_assoc gone (reverse p.before) (resolved_one p.entry ∷ p.younger))
-        (leads_behind d no_mark x.mark (gone ++ reverse p.before) (p.entry ∷ p.younger) (resolved_one p.entry ∷ p.younger) x.queue ways
+        subst (λ w. Leads d no_checkpoint w x.queue ways x.checkpoint) (append_assoc gone (reverse p.before) (resolved_one p.entry ∷ p.younger))
+        (leads_behind d no_checkpoint x.checkpoint (gone ++ reverse p.before) (p.entry ∷ p.younger) (resolved_one p.entry ∷ p.younger) x.queue ways
         (record { item = refl; counts = λ way. kept_counts p.entry.resolved (squashes p.entry) (value_of p.entry.outcome == 1) way t.parts.fresh q }, zip_same p.younger) here);
     fresh = fresh_to p.younger (λ k. k);
   }
@@ -167,11 +168,11 @@ module _ (d : Desc) (gone : List Entry) (ways : List Bool) (x : Machine) (p : Pl
   abbrev front : List Entry
   front = gone ++ reverse p.before
 
-  marked : Leads d no_mark (front ++ cleared_one p.entry ∷ p.younger) x.queue ways x.mark
+  marked : Leads d no_checkpoint (front ++ cleared_one p.entry ∷ p.younger) x.queue ways x.checkpoint
   marked =
-      leads_behind d no_mark x.mark front (p.entry ∷ p.younger) (cleared_one p.entry ∷ p.younger) x.queue ways (record { item = refl; counts = λ way. refl }, zip_same p.younger)
-      (subst (λ w. Leads d no_mark w x.queue ways x.mark) (sym (append_assoc gone (reverse p.before) (p.entry ∷ p.younger)))
-      (subst (λ w. Leads d no_mark (gone ++ w) x.queue ways x.mark) t.window h.leads))
+      leads_behind d no_checkpoint x.checkpoint front (p.entry ∷ p.younger) (cleared_one p.entry ∷ p.younger) x.queue ways (record { item = refl; counts = λ way. refl }, zip_same p.younger)
+      (subst (λ w. Leads d no_checkpoint w x.queue ways x.checkpoint) (sym (append_assoc gone (reverse p.before) (p.entry ∷ p.younger)))
+      (subst (λ w. Leads d no_checkpoint (gone ++ w) x.queue ways x.checkpoint) t.window h.leads))
 
   fresh_here : (zs : List Entry) → (Each Fresh p.younger → Each Fresh zs) → Each Fresh (reverse p.before ++ cleared_one p.entry ∷ zs)
   fresh_here zs f =
@@ -181,16 +182,16 @@ module _ (d : Desc) (gone : List Entry) (ways : List Bool) (x : Machine) (p : Pl
 
   cleared : Left d gone ways (clears p x).machine
   cleared = record {
-    leads = subst (λ w. Leads d no_mark w x.queue ways x.mark) (append_assoc gone (reverse p.before) (cleared_one p.entry ∷ p.younger)) marked;
+    leads = subst (λ w. Leads d no_checkpoint w x.queue ways x.checkpoint) (append_assoc gone (reverse p.before) (cleared_one p.entry ∷ p.younger)) marked;
     fresh = fresh_here p.younger (λ k. k);
   }
 
-  -- what is left in front of the violated load leads to the load's mark
-  stopped : (q : Place) → Violated p q → LeadsBy d no_mark (front ++ cleared_one p.entry ∷ reverse q.before) ways q.entry.item.mark
+  -- what is left in front of the violated load leads to the load's checkpoint
+  stopped : (q : Place) → Violated p q → LeadsBy d no_checkpoint (front ++ cleared_one p.entry ∷ reverse q.before) ways q.entry.item.checkpoint
   stopped q u =
-      leads_stop d no_mark x.mark (front ++ cleared_one p.entry ∷ reverse q.before) q.younger q.entry x.queue ways
-      (subst (λ w. Leads d no_mark w x.queue ways x.mark) (sym (append_assoc front (cleared_one p.entry ∷ reverse q.before) (q.entry ∷ q.younger)))
-      (subst (λ w. Leads d no_mark (front ++ cleared_one p.entry ∷ w) x.queue ways x.mark) u.younger marked))
+      leads_stop d no_checkpoint x.checkpoint (front ++ cleared_one p.entry ∷ reverse q.before) q.younger q.entry x.queue ways
+      (subst (λ w. Leads d no_checkpoint w x.queue ways x.checkpoint) (sym (append_assoc front (cleared_one p.entry ∷ reverse q.before) (q.entry ∷ q.younger)))
+      (subst (λ w. Leads d no_checkpoint (front ++ cleared_one p.entry ∷ w) x.queue ways x.checkpoint) u.younger marked))
 
   violated : (q : Place) → Violated p q → LeftBy d gone ways (violates d p q x).machine
   violated q u =
@@ -200,7 +201,7 @@ module _ (d : Desc) (gone : List Entry) (ways : List Bool) (x : Machine) (p : Pl
         others = stop.others;
         whole = stop.whole;
         left = record {
-          leads = subst (λ w. Leads d no_mark w [] stop.first q.entry.item.mark) (append_assoc gone (reverse p.before) (cleared_one p.entry ∷ reverse q.before)) stop.leads;
+          leads = subst (λ w. Leads d no_checkpoint w [] stop.first q.entry.item.checkpoint) (append_assoc gone (reverse p.before) (cleared_one p.entry ∷ reverse q.before)) stop.leads;
           fresh = fresh_here (reverse q.before) (λ k. each_left Fresh (reverse q.before) _ (subst (Each Fresh) u.younger k));
         };
       }
@@ -243,7 +244,7 @@ pub left_issue : (d : Desc) (gone : List Entry) (ways : List Bool) (x : Machine)
 left_issue d gone ways x h =
     let all = all_issue d (around x) [] x.window h.fresh in
     let w = map (λ (t : Begun). t.entry) (each_from (issue_entry d (around x)) [] x.window) in
-    let leads = leads_behind d no_mark x.mark gone x.window w x.queue ways all.0 h.leads in
+    let leads = leads_behind d no_checkpoint x.checkpoint gone x.window w x.queue ways all.0 h.leads in
     by_after_load d x (λ y. (v : Divider) → Left d gone ways (record y { window = w; divider = v })) (λ c s m v. record { leads = leads; fresh = all.1 }) (first (may_at d (around x) LoadPort) x.window) _
 
 -- ---- Rename and Fetch keep what is left
@@ -254,16 +255,16 @@ left_rename d gone ways = rename_keep d (Left d gone ways) one
     one : (x : Machine) (i : Item) (rest : List Item) → x.queue ≡ i ∷ rest → fits d x.window i ≡ true → Left d gone ways x → Left d gone ways (rename_one d i rest x).machine
     one x i rest q f h = record {
       leads =
-          subst (λ w. Leads d no_mark w rest ways x.mark) (append_assoc gone x.window (renamed d x.next_serial i ∷ []))
-          (leads_rename d no_mark x.mark (gone ++ x.window) i rest ways x.next_serial (subst (λ q. Leads d no_mark (gone ++ x.window) q ways x.mark) q h.leads));
+          subst (λ w. Leads d no_checkpoint w rest ways x.checkpoint) (append_assoc gone x.window (renamed d x.next_serial i ∷ []))
+          (leads_rename d no_checkpoint x.checkpoint (gone ++ x.window) i rest ways x.next_serial (subst (λ q. Leads d no_checkpoint (gone ++ x.window) q ways x.checkpoint) q h.leads));
       fresh = each_push Fresh x.window (renamed d x.next_serial i) h.fresh (record { waits = λ w. refl; store = λ s. refl });
     }
 
 -- fetching goes on where an item is predicted to lead
-goes : (k : Kind) (d : Desc) (t : _) (i : Item) (way : Bool) → i.predicted ≡ predicted k d t i.mark way i.pc i.instr → GoesBy k i way
+goes : (k : Kind) (d : Desc) (t : _) (i : Item) (way : Bool) → i.predicted ≡ predicted k d t i.checkpoint way i.pc i.instr → GoesBy k i way
 goes Branch d t i way h = by_way way h
   where
-    by_way : (way : Bool) → i.predicted ≡ predicted Branch d t i.mark way i.pc i.instr → GoesBy Branch i way
+    by_way : (way : Bool) → i.predicted ≡ predicted Branch d t i.checkpoint way i.pc i.instr → GoesBy Branch i way
     by_way true h = h
     by_way false h = h
 goes _ d t i way h = tt
@@ -283,10 +284,10 @@ fetches d code gone ways x h =
     one : (y : Machine) (pc : ℕ) → y.fetch_pc ≡ Some pc → nat_lt (length y.queue) d.core_queue ≡ true → Fetches d gone ways x y → Fetches d gone ways x (fetch_one d (item_at d code y pc) y).machine
     one y pc q r f =
         let i = item_at d code y pc in
-        let way = guess (kind_at (code pc)) d y.counters y.mark pc in
+        let way = guess (kind_at (code pc)) d y.counters y.checkpoint pc in
         let by_x : ways ++ guesses d x.counters (f.items ++ i ∷ []) ≡ (ways ++ guesses d x.counters f.items) ++ way ∷ [] =
-        ap (λ all. ways ++ all) (map-append (λ (i : Item). guess i.kind d x.counters i.mark i.pc) f.items (i ∷ []))
-        ∙ ap (λ counters. ways ++ (guesses d x.counters f.items ++ guess (kind_at (code pc)) d counters y.mark pc ∷ [])) (sym f.counters)
+        ap (λ all. ways ++ all) (map-append (λ (i : Item). guess i.kind d x.counters i.checkpoint i.pc) f.items (i ∷ []))
+        ∙ ap (λ counters. ways ++ (guesses d x.counters f.items ++ guess (kind_at (code pc)) d counters y.checkpoint pc ∷ [])) (sym f.counters)
         ∙ sym (append_assoc ways (guesses d x.counters f.items) (way ∷ [])) in
         let next = fetch_one d i y in
         record {
@@ -295,8 +296,8 @@ fetches d code gone ways x h =
           counters = f.counters;
           left = record {
             leads =
-                subst (λ ways. Leads d no_mark (gone ++ y.window) (y.queue ++ i ∷ []) ways next.machine.mark) (sym by_x)
-                (leads_push d no_mark y.mark (gone ++ y.window) y.queue (ways ++ guesses d x.counters f.items) i way f.left.leads refl (goes (kind_at (code pc)) d y.targets i way refl));
+                subst (λ ways. Leads d no_checkpoint (gone ++ y.window) (y.queue ++ i ∷ []) ways next.machine.checkpoint) (sym by_x)
+                (leads_push d no_checkpoint y.checkpoint (gone ++ y.window) y.queue (ways ++ guesses d x.counters f.items) i way f.left.leads refl (goes (kind_at (code pc)) d y.targets i way refl));
             fresh = f.left.fresh;
           };
         }

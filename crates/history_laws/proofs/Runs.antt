@@ -15,7 +15,7 @@ use Rattle.window_model.specs.Issue.{issue}
 use Rattle.window_model.specs.Rename.{rename}
 use Rattle.window_model.specs.Resolve.{resolve}
 use Rattle.window_model.proofs.Quiet.{at_retire, cycle_is}
-use Rattle.window_model.specs.History.{no_mark}
+use Rattle.window_model.specs.History.{no_checkpoint}
 use Rattle.history_laws.specs.Left.{Leads, before_fetch, guesses, predicted_in, predicted_on, retired_in, retiring}
 use Rattle.history_laws.proofs.Leading.{leads_count}
 use Rattle.history_laws.proofs.Phases.{Fetches, Left, LeftBy, by_all, fetches, left_begin, left_clear, left_complete, left_fill, left_issue, left_rename, left_resolve, left_then}
@@ -43,7 +43,7 @@ module _ (d : Desc) (gone : List Entry) (ways : List Bool) (y z : Machine) (h : 
   fetched = f h.first h.left
 
   count : length h.first ≡ length (gone ++ y.window) + length y.queue
-  count = leads_count d no_mark y.mark (gone ++ y.window) y.queue h.first h.left.leads
+  count = leads_count d no_checkpoint y.checkpoint (gone ++ y.window) y.queue h.first h.left.leads
 
   same : h.first ++ guesses d y.counters fetched.items ≡ take (length (gone ++ y.window) + length y.queue) ways ++ guesses d y.counters (drop (length y.queue) z.queue)
   same =
@@ -107,5 +107,5 @@ left_at d code entry ram k = left_run d code k [] [] (opening d entry ram) (reco
 
 pub leads_at : (d : Desc) (code : Code) (entry : ℕ) (ram : Ram) (k : ℕ) →
     let first = opening d entry ram in
-    let x = at d code entry ram k in Leads d no_mark (retired_in d code k first ++ x.window) x.queue (predicted_in d code k [] first []) x.mark
+    let x = at d code entry ram k in Leads d no_checkpoint (retired_in d code k first ++ x.window) x.queue (predicted_in d code k [] first []) x.checkpoint
 leads_at d code entry ram k = (left_at d code entry ram k).leads

@@ -7,8 +7,8 @@ use Rattle.rv_types.specs.declared.Kind.TheVariants.{Branch}
 use Rattle.machine_desc.specs.declared.Desc.{Desc}
 use Rattle.window_model.specs.declared.Entry.{Entry}
 use Rattle.window_model.specs.declared.Item.{Item}
-use Rattle.window_model.specs.declared.Mark.{Mark}
-use Rattle.window_model.specs.History.{mark_after, no_mark}
+use Rattle.window_model.specs.declared.Checkpoint.{Checkpoint}
+use Rattle.window_model.specs.History.{checkpoint_after, no_checkpoint}
 use Rattle.window_model.specs.Fetch.{guess, target_of}
 use Rattle.window_model.specs.Issue.{issue}
 use Rattle.window_model.specs.Rename.{rename}
@@ -38,19 +38,20 @@ direction e predicted = if has_squashed e then is_taken e.outcome else predicted
 -- ---- over what history and stack go on
 
 -- history and stack after an item that counts with this direction
-abbrev pub after_item : Desc → Item → Bool → Mark
-after_item d i way = mark_after i.kind d i.pc i.instr way i.mark
+abbrev pub after_item : Desc → Item → Bool → Checkpoint
+after_item d i way = checkpoint_after i.kind d i.pc i.instr way i.checkpoint
 
--- items with these predicted directions lead from one mark to another: each has the mark to which those before it lead
-abbrev pub LeadsOver : Desc → Mark → List Item → List Bool → Mark → Type 0
+-- items with these predicted directions lead from one checkpoint to another: each has the checkpoint to which those
+-- before it lead
+abbrev pub LeadsOver : Desc → Checkpoint → List Item → List Bool → Checkpoint → Type 0
 LeadsOver d from [] [] to = to ≡ from
-LeadsOver d from (i ∷ q) (way ∷ ways) to = (i.mark ≡ from) × Goes i way × LeadsOver d (after_item d i way) q ways to
+LeadsOver d from (i ∷ q) (way ∷ ways) to = (i.checkpoint ≡ from) × Goes i way × LeadsOver d (after_item d i way) q ways to
 LeadsOver d from _ _ to = ⊥
 
--- entries with these predicted directions, and items behind them, lead from one mark to another
-abbrev pub Leads : Desc → Mark → List Entry → List Item → List Bool → Mark → Type 0
+-- entries with these predicted directions, and items behind them, lead from one checkpoint to another
+abbrev pub Leads : Desc → Checkpoint → List Entry → List Item → List Bool → Checkpoint → Type 0
 Leads d from [] q ways to = LeadsOver d from q ways to
-Leads d from (e ∷ es) q (way ∷ ways) to = (e.item.mark ≡ from) × Goes e.item way × Leads d (after_item d e.item (direction e way)) es q ways to
+Leads d from (e ∷ es) q (way ∷ ways) to = (e.item.checkpoint ≡ from) × Goes e.item way × Leads d (after_item d e.item (direction e way)) es q ways to
 Leads d from (e ∷ es) q [] to = ⊥
 
 -- ---- what is left of all that was fetched
@@ -76,7 +77,7 @@ before_fetch d x =
 
 -- the directions that the counters predict of items
 abbrev pub guesses : Desc → List ℕ → List Item → List Bool
-guesses d counters items = map (λ i. guess i.kind d counters i.mark i.pc) items
+guesses d counters items = map (λ i. guess i.kind d counters i.checkpoint i.pc) items
 
 -- the directions of what is left after a cycle, with all that has retired: of as many as are left as its last phase
 -- begins, and then those that are predicted of the items that it fetches
@@ -91,9 +92,9 @@ predicted_in d code zero gone x ways = ways
 predicted_in d code (suc k) gone x ways =
     unless_ended x.end ways (predicted_in d code k (gone ++ retiring d x) (cycle d code x).machine (predicted_on d code (gone ++ retiring d x) x ways))
 
--- in every state of a run what has retired, what is in flight and what is fetched lead from no mark to the present one,
--- by what was predicted of each as it was fetched
+-- in every state of a run what has retired, what is in flight and what is fetched lead from no checkpoint to the
+-- present one, by what was predicted of each as it was fetched
 abbrev pub FollowWhatIsLeft : Type 0
 FollowWhatIsLeft = (d : Desc) (code : Code) (entry : ℕ) (ram : Ram) (k : ℕ) →
     let first = opening d entry ram in
-    let x = at d code entry ram k in Leads d no_mark (retired_in d code k first ++ x.window) x.queue (predicted_in d code k [] first []) x.mark
+    let x = at d code entry ram k in Leads d no_checkpoint (retired_in d code k first ++ x.window) x.queue (predicted_in d code k [] first []) x.checkpoint

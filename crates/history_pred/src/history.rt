@@ -1,7 +1,7 @@
 //! The present history and stack.
 ghost use Rattle.std.specs.Prelude.{◌≡◌, ◌<◌, ◌≤◌, ◌+◌, ◌*◌, ◌^◌, ◌%◌};
 ghost use Rattle.rv_types.specs.Value.{one_if};
-ghost use Rattle.window_model.specs.History.{counter_index, jumped, mark_after, no_mark};
+ghost use Rattle.window_model.specs.History.{counter_index, jumped, checkpoint_after, no_checkpoint};
 ghost use Rattle.window_model.specs.History.{popped, pushed, returns_to, shifted, stack, youngest};
 ghost use Rattle.history_pred.specs.Past.{InEach, IsAsked, counter_place, with_address, with_direction};
 
@@ -10,16 +10,17 @@ use crate::stack::{popped, pushed, youngest};
 use machine_desc::Desc;
 use rv_types::{Instr, Kind};
 use std::marker::Model;
-use window_model::{Item, Mark};
+use window_model::{Checkpoint, Item};
 
 /// Global history and return stack, seen as how many counters branches have, how many directions and addresses are
-/// kept, and a mark: what they are as the next item comes to be fetched. Each number is what some description asks for.
+/// kept, and a checkpoint: what they are as the next item comes to be fetched. Each number is what some description
+/// asks for.
 #[derive(Drop)]
 pub struct History {
     counters: u32,
     directions: u32,
     returns: u32,
-    mark: Mark,
+    checkpoint: Checkpoint,
 }
 
 impl Model for History {
@@ -34,7 +35,7 @@ impl Model for History {
       counters = h.counters;
       directions = h.directions;
       returns = h.returns;
-      mark = h.mark;
+      checkpoint = h.checkpoint;
     } };
 
     ghost invariant = { λ h. (0 < h.counters) × (h.directions ≤ 12) × (h.returns ≤ 16)
@@ -48,14 +49,14 @@ impl History {
           counters = desc.now.predictor_counters;
           directions = desc.now.predictor_history;
           returns = desc.now.predictor_returns;
-          mark = no_mark;
+          checkpoint = no_checkpoint;
         } }
     {
         History {
             counters: desc.predictor_counters,
             directions: desc.predictor_history,
             returns: desc.predictor_returns,
-            mark: Mark::default(),
+            checkpoint: Checkpoint::default(),
         }
     }
 
@@ -68,62 +69,63 @@ impl History {
         let _ = &self.counters;
     }
 
-    /// Where the counter of a branch stands that comes with this mark: its word's number, with the history over it.
-    pub fn index(&self, mark: &Mark, pc: u32) -> u32
-        ensures place { result ≡ counter_place self.now mark.now pc }
+    /// Where the counter of a branch stands that comes with this checkpoint: its word's number, with the history over
+    /// it.
+    pub fn index(&self, checkpoint: &Checkpoint, pc: u32) -> u32
+        ensures place { result ≡ counter_place self.now checkpoint.now pc }
         ensures inside { result < self.now.counters }
-        ensures machine { InEach self.now (λ d. result ≡ counter_index d mark.now pc) }
+        ensures machine { InEach self.now (λ d. result ≡ counter_index d checkpoint.now pc) }
     {
-        (pc / 4 ^ mark.history) % self.counters
+        (pc / 4 ^ checkpoint.history) % self.counters
     }
 
     /// A branch goes this way: its direction enters the history, and the oldest leaves it.
     pub fn shift(&mut self, taken: bool)
         ensures direction { self.new ≡ with_direction self.old taken }
-        ensures machine { InEach self.old (λ d. self.new ≡ record self.old { mark = shifted d taken self.old.mark }) }
+        ensures machine { InEach self.old (λ d. self.new ≡ record self.old { checkpoint = shifted d taken self.old.checkpoint }) }
     {
-        self.mark.history = shifted(self.mark.history, self.directions, taken);
+        self.checkpoint.history = shifted(self.checkpoint.history, self.directions, taken);
     }
 
     /// Pushes the address to which a call returns. Where the stack then has more than are kept, the oldest goes.
     pub fn push(&mut self, addr: u32)
         ensures address { self.new ≡ with_address self.old addr }
-        ensures machine { InEach self.old (λ d. self.new ≡ record self.old { mark = pushed d addr self.old.mark }) }
+        ensures machine { InEach self.old (λ d. self.new ≡ record self.old { checkpoint = pushed d addr self.old.checkpoint }) }
     {
-        self.mark = pushed(&self.mark, addr, self.returns);
+        self.checkpoint = pushed(&self.checkpoint, addr, self.returns);
     }
 
     /// Takes the youngest address off the stack and answers it. None exactly where the stack is empty.
     pub fn pop(&mut self) -> Option<u32>
-        ensures address { result ≡ youngest (stack self.old.mark) }
-        ensures left { self.new ≡ record self.old { mark = popped self.old.mark } }
+        ensures address { result ≡ youngest (stack self.old.checkpoint) }
+        ensures left { self.new ≡ record self.old { checkpoint = popped self.old.checkpoint } }
     {
-        let address = youngest(&self.mark);
-        self.mark = popped(&self.mark);
+        let address = youngest(&self.checkpoint);
+        self.checkpoint = popped(&self.checkpoint);
         address
     }
 
     /// Lends the present history and stack.
-    pub fn mark(&self) -> &Mark
-        ensures { result.now ≡ self.now.mark }
+    pub fn checkpoint(&self) -> &Checkpoint
+        ensures { result.now ≡ self.now.checkpoint }
     {
-        &self.mark
+        &self.checkpoint
     }
 
-    /// Puts history and stack back to what they were at this mark.
-    pub fn restore(&mut self, mark: &Mark)
-        ensures { self.new ≡ record self.old { mark = mark.now } }
+    /// Puts history and stack back to what they were at this checkpoint.
+    pub fn restore(&mut self, checkpoint: &Checkpoint)
+        ensures { self.new ≡ record self.old { checkpoint = checkpoint.now } }
     {
-        self.mark = *mark;
+        self.checkpoint = *checkpoint;
     }
 
     /// Where an instruction is predicted to return to: the youngest address, where it is a return. None for any other
     /// instruction, and where the stack is empty.
     pub fn returns_to(&self, instr: &Instr) -> Option<u32>
-        ensures { result ≡ returns_to instr.now self.now.mark }
+        ensures { result ≡ returns_to instr.now self.now.checkpoint }
     {
         if returns(instr) {
-            youngest(&self.mark)
+            youngest(&self.checkpoint)
         } else {
             None
         }
@@ -134,9 +136,9 @@ impl History {
     #[inline(always)]
     pub fn follow(&mut self, item: &Item, taken: bool)
         ensures described { IsAsked self.old.counters self.old.directions self.old.returns }
-        ensures sizes { self.new ≡ record self.old { mark = self.new.mark } }
+        ensures sizes { self.new ≡ record self.old { checkpoint = self.new.checkpoint } }
         ensures machine { InEach self.old (λ d. self.new ≡ record self.old {
-          mark = mark_after item.now.kind d item.now.pc item.now.instr taken self.old.mark;
+          checkpoint = checkpoint_after item.now.kind d item.now.pc item.now.instr taken self.old.checkpoint;
         }) }
     {
         self.described();
@@ -150,9 +152,9 @@ impl History {
 
     // A jump that links pushes the address behind it, and a return pops.
     fn jump(&mut self, pc: u32, instr: &Instr)
-        ensures sizes { self.new ≡ record self.old { mark = self.new.mark } }
+        ensures sizes { self.new ≡ record self.old { checkpoint = self.new.checkpoint } }
         ensures machine { InEach self.old (λ d. self.new ≡ record self.old {
-          mark = jumped d pc instr.now self.old.mark;
+          checkpoint = jumped d pc instr.now self.old.checkpoint;
         }) }
     {
         if links(instr) {

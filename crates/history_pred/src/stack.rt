@@ -1,43 +1,43 @@
-//! The addresses of a mark, as a stack.
+//! The addresses of a checkpoint, as a stack.
 ghost use Rattle.std.specs.Prelude.{◌≡◌, ◌≤◌, ◌+◌, ◌∷◌, drop, length, take};
 ghost use Rattle.window_model.specs.History.{popped, pushed, stack, with_stack, youngest};
 
-use window_model::{Mark, RETURNS_MAX};
+use window_model::{Checkpoint, RETURNS_MAX};
 
 // The addresses on the stack, youngest first.
-fn stack(mark: &Mark) -> &[u32]
-    ensures value { result.now ≡ stack mark.now }
+fn stack(checkpoint: &Checkpoint) -> &[u32]
+    ensures value { result.now ≡ stack checkpoint.now }
     ensures few { length result.now ≤ 16 }
 {
-    &mark.addresses[..(mark.depth as usize).min(RETURNS_MAX)]
+    &checkpoint.addresses[..(checkpoint.depth as usize).min(RETURNS_MAX)]
 }
 
-// The mark with these addresses on its stack.
-fn with_stack(mark: &Mark, addresses: &[u32]) -> Mark
+// The checkpoint with these addresses on its stack.
+fn with_stack(checkpoint: &Checkpoint, addresses: &[u32]) -> Checkpoint
     requires { length addresses.now ≤ 16 }
-    ensures { result ≡ with_stack addresses.now mark.now }
+    ensures { result ≡ with_stack addresses.now checkpoint.now }
 {
     let mut places = [0u32; RETURNS_MAX];
     places[..addresses.len()].copy_from_slice(addresses);
-    Mark {
-        history: mark.history,
+    Checkpoint {
+        history: checkpoint.history,
         depth: addresses.len() as u32,
         addresses: places,
     }
 }
 
 // The youngest address, None where there is none.
-pub(crate) fn youngest(mark: &Mark) -> Option<u32>
-    ensures { result ≡ youngest (stack mark.now) }
+pub(crate) fn youngest(checkpoint: &Checkpoint) -> Option<u32>
+    ensures { result ≡ youngest (stack checkpoint.now) }
 {
-    stack(mark).first().copied()
+    stack(checkpoint).first().copied()
 }
 
-// The mark without its youngest address.
-pub(crate) fn popped(mark: &Mark) -> Mark
-    ensures { result ≡ popped mark.now }
+// The checkpoint without its youngest address.
+pub(crate) fn popped(checkpoint: &Checkpoint) -> Checkpoint
+    ensures { result ≡ popped checkpoint.now }
 {
-    with_stack(mark, all_but_first(stack(mark)))
+    with_stack(checkpoint, all_but_first(stack(checkpoint)))
 }
 
 // The addresses but for the first, which is the youngest.
@@ -50,14 +50,14 @@ fn all_but_first(addresses: &[u32]) -> &[u32]
     }
 }
 
-// The mark with one address more, on a stack of at most so many.
-pub(crate) fn pushed(mark: &Mark, address: u32, most: u32) -> Mark
+// The checkpoint with one address more, on a stack of at most so many.
+pub(crate) fn pushed(checkpoint: &Checkpoint, address: u32, most: u32) -> Checkpoint
     requires { most ≤ 16 }
-    ensures { result ≡ with_stack (take most (address ∷ stack mark.now)) mark.now }
+    ensures { result ≡ with_stack (take most (address ∷ stack checkpoint.now)) checkpoint.now }
 {
-    let older = stack(mark);
+    let older = stack(checkpoint);
     let all = added(address, older);
-    with_stack(mark, &all[..(older.len() + 1).min(most as usize)])
+    with_stack(checkpoint, &all[..(older.len() + 1).min(most as usize)])
 }
 
 // An address, and behind it the others.

@@ -186,10 +186,10 @@ second_ready d before e own other = by_version (d.version == 1) refl
 
 -- a part that hasn't issued may where it is ready
 pub part_may_by : (part : Part) (d : Desc) (before : List Entry) (e : Entry) (r : Bool) → has_issued part e ≡ false → ready_part d (own_of part (sources e)) before e ≡ r → part_may (part_port part) d before e ≡ r
-part_may_by part.Base d before e r f h = address_part d before e ∙ ap₂ (λ a r. not a && r) f h
-part_may_by part.Other d before e r f h = data_part d before e ∙ ap₂ (λ a r. not a && r) f h
+part_may_by part.Address d before e r f h = address_part d before e ∙ ap₂ (λ a r. not a && r) f h
+part_may_by part.Data d before e r f h = data_part d before e ∙ ap₂ (λ a r. not a && r) f h
 
 -- a part of a store that has issued may not issue again
 pub part_gone : (part : Part) (d : Desc) (before : List Entry) (e : Entry) → has_issued part e ≡ true → part_may (part_port part) d before e ≡ false
-part_gone part.Base d before e h = address_part d before e ∙ ap (λ a. not a && ready_part d (base_of (sources e)) before e) h
-part_gone part.Other d before e h = data_part d before e ∙ ap (λ a. not a && ready_part d (others_of (sources e)) before e) h
+part_gone part.Address d before e h = address_part d before e ∙ ap (λ a. not a && ready_part d (base_of (sources e)) before e) h
+part_gone part.Data d before e h = data_part d before e ∙ ap (λ a. not a && ready_part d (others_of (sources e)) before e) h

@@ -16,7 +16,7 @@ use Rattle.window_model.specs.declared.Progress.TheVariants.{Waiting, Busy, Done
 use Rattle.window_model.specs.Access.{covers}
 use Rattle.window_model.specs.MayIssue.{address_of, bytes_of, effect_of, first_operand, goes_behind, lets, passes_stores, second_operand, stores_done, stores_let}
 use Rattle.window_model.specs.Order.{before_at, has_address, has_data, is_done, is_store, is_waiting, sources}
-use Rattle.window_model.specs.Retire.{width_of}
+use Rattle.window_model.specs.Retire.{byte_count}
 use Rattle.window_model.specs.Taint.{address_tainted}
 use Rattle.machine_facts.specs.Sized.{HasParts, Together}
 use Rattle.machine_facts.specs.Timely.{WaitsOrDone, is_busy}
@@ -109,11 +109,11 @@ module _ (s : Seen) (i : ℕ) (e : Entry) (t : Stands s) (h : StandsAt s i e) wh
       ∙ done_complete before parts_before settled_before ∙ sym (known_is (stores s i e t h) before (stand s i e t h)) ∙ k
 
   -- a load without fault asks for all its bytes
-  pub lets_sound : (addr : ℕ) → addr ≡ (effect_of s.regs.now before e).addr → load_fault s.ram.now addr (width_of e) ≡ None → goes_behind s.desc.now (around_of s) before e ≡ true →
-      stores_let s.desc.now.stt_model (passes_stores s.desc.now (around_of s) e) (range addr (width_of e)) before ≡ true
+  pub lets_sound : (addr : ℕ) → addr ≡ (effect_of s.regs.now before e).addr → load_fault s.ram.now addr (byte_count e) ≡ None → goes_behind s.desc.now (around_of s) before e ≡ true →
+      stores_let s.desc.now.stt_model (passes_stores s.desc.now (around_of s) e) (range addr (byte_count e)) before ≡ true
   lets_sound addr q sound g =
       let a = q ∙ address_is s.regs.now before e in
-      let fault = sym (ap (λ a. load_fault s.ram.now a (width_of e)) a) ∙ sound in
-      ap (λ a. stores_let s.desc.now.stt_model (passes_stores s.desc.now (around_of s) e) (range a (width_of e)) before) a
-      ∙ sym (ap (λ f. stores_let s.desc.now.stt_model (passes_stores s.desc.now (around_of s) e) (unless_fault f (range (address_of s.regs.now before e) (width_of e))) before) fault)
+      let fault = sym (ap (λ a. load_fault s.ram.now a (byte_count e)) a) ∙ sound in
+      ap (λ a. stores_let s.desc.now.stt_model (passes_stores s.desc.now (around_of s) e) (range a (byte_count e)) before) a
+      ∙ sym (ap (λ f. stores_let s.desc.now.stt_model (passes_stores s.desc.now (around_of s) e) (unless_fault f (range (address_of s.regs.now before e) (byte_count e))) before) fault)
       ∙ sym goes_is ∙ g

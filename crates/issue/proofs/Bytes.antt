@@ -13,7 +13,7 @@ use Rattle.window_model.specs.declared.Entry.{Entry}
 use Rattle.window_model.specs.Access.{all_covered, any_store_hidden, load_bytes}
 use Rattle.window_model.specs.MayIssue.{stores_let}
 use Rattle.window_model.specs.Order.{before_at}
-use Rattle.window_model.specs.Retire.{width_of}
+use Rattle.window_model.specs.Retire.{byte_count}
 use Rattle.rob_ring.specs.Ring.{below}
 use Rattle.lsq.specs.Queues.{Queues, older, youngest_root}
 use Rattle.lsq.specs.Merging.{all_forwarded, merged_bytes}
@@ -70,15 +70,15 @@ module _ (s : Seen) (i : ℕ) (e : Entry) (t : Stands s) (h : StandsAt s i e) wh
       ∙ ap (λ b. (passes || not (list_any lacks_address stores)) && not (list_any (lacks_data_for (bytes_asked fault a n)) stores) && not b) (hides_root s.point.now.serial (youngest_root (filter (λ s. not (is_some s.stored)) stores)))
 
   -- the number that the queue merges for a load is that of the bytes that the definition loads
-  pub number_is : (passes : Bool) (a : ℕ) (w : Width) → bytes_in w ≡ width_of e → stores_let model passes (range a (width_of e)) before ≡ true →
-      from_le (merged_bytes s.ram.now stores a (bytes_in w)) ≡ from_le (load_bytes s.ram.now before a (width_of e))
+  pub number_is : (passes : Bool) (a : ℕ) (w : Width) → bytes_in w ≡ byte_count e → stores_let model passes (range a (byte_count e)) before ≡ true →
+      from_le (merged_bytes s.ram.now stores a (bytes_in w)) ≡ from_le (load_bytes s.ram.now before a (byte_count e))
   number_is passes a w n d =
       ap from_le (bytes_are model passes s.ram.now stores before a (bytes_in w) stand (ap (λ n. stores_let model passes (range a n) before) n ∙ d))
       ∙ ap (λ n. from_le (load_bytes s.ram.now before a n)) n
 
-  pub forwarded_is : (passes : Bool) (a : ℕ) (w : Width) (b c : Bool) → bytes_in w ≡ width_of e → stores_let model passes (range a (width_of e)) before ≡ true →
+  pub forwarded_is : (passes : Bool) (a : ℕ) (w : Width) (b c : Bool) → bytes_in w ≡ byte_count e → stores_let model passes (range a (byte_count e)) before ≡ true →
       b ≡ all_forwarded stores a (bytes_in w) → c ≡ is_hidden s.point.now.serial (youngest_root stores) →
-      (b && not c) ≡ (all_covered before a (width_of e) && not (any_store_hidden model before))
+      (b && not c) ≡ (all_covered before a (byte_count e) && not (any_store_hidden model before))
   forwarded_is passes a w b c n d p q =
       let covered = p ∙ covered_is model passes stores before a (bytes_in w) stand (ap (λ n. stores_let model passes (range a n) before) n ∙ d) ∙ ap (all_covered before a) n in
       let hidden = q ∙ sym (hides_root s.point.now.serial (youngest_root stores)) ∙ hidden_is model (λ root. nat_le root s.point.now.serial) (down s.point.now.serial) stores before each_told in

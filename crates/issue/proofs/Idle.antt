@@ -96,7 +96,7 @@ module _ (d : Desc) (x : Machine) (h : Along (AsksNone d (around x)) [] x.window
 none_may : (h : Held) → Whole h → HasAdvanced h.point h.rob.entries → list_any is_able h.stations.held ≡ false → Along (AsksNone h.desc (around (machine_of h))) [] h.rob.entries
 none_may h w a none =
     let moved : MovedBy h.desc (in_flight h) = record { advanced = a; model = ap (λ (s : Sizes). s.model) w.made; holds = refl } in
-    all_stay h.desc (around (machine_of h)) (in_flight h) refl w.stands moved w.sized.parts w.sized.together none
+    all_stay h.desc (around (machine_of h)) (in_flight h) refl w.refines moved w.sized.parts w.sized.together none
 
 -- where no station is able, the phase leaves what is described of the parts, and has no event
 pub idle_shown : (h : Held) (v : Described) → Whole h → HasAdvanced h.point h.rob.entries → list_any is_able h.stations.held ≡ false → described h ≡ v → described h ≡ record v { machine = (issue v.desc v.machine).machine }

@@ -9,9 +9,9 @@ use Rattle.std.proofs.lemmas.List.Elements.{All-head}
 use Rattle.std.proofs.lemmas.Option.{slice_get_within}
 use Rattle.machine_desc.specs.declared.Desc.{Desc}
 use Rattle.window_model.specs.declared.Entry.{Entry}
-use Rattle.window_model.specs.Dependence.{passing}
+use Rattle.machine_desc.specs.Questions.{loads_pass}
 use Rattle.window_model.specs.Order.{is_waiting}
-use Rattle.window_model.specs.Retire.{width_of}
+use Rattle.window_model.specs.Retire.{byte_count}
 use Rattle.lsq.specs.Queues.{Queues, issued_at}
 use Rattle.lsq.specs.declared.load.Load.{Load}
 use Rattle.refinement.specs.Noted.{access_in, has_read, noted}
@@ -20,7 +20,7 @@ use Rattle.rob_ring.specs.Issued.{with_issued}
 use Rattle.rob_ring.specs.Ring.{Ring, is_unsafe}
 use Rattle.stations.specs.Stations.{Station, Stations}
 use Rattle.refinement.proofs.Moving.{passes_issued}
-use Rattle.refinement.proofs.Noting.{stands_issued}
+use Rattle.refinement.proofs.Noting.{refines_issued}
 use Rattle.refinement.proofs.Stations.{station_within as held_within, stations_older}
 use Rattle.refinement.specs.InFlight.{InFlight}
 use Rattle.refinement.specs.Refines.{Refines}
@@ -35,18 +35,18 @@ use Rattle.issue.proofs.Turning.{issues_here, placed_push}
 -- whatever stood for the one window, with these stations and queues, does for the other with those
 abbrev pub Ties : Desc → List Entry → List Station → Queues → List Entry → List Station → Queues → Type 0
 Ties d entries held queues now held_now queues_now =
-    (p : InFlight) → Refines (record p { version = d.version; tracked = passing d; window = entries; held = held; queues = queues }) →
-    Refines (record p { version = d.version; tracked = passing d; window = now; held = held_now; queues = queues_now })
+    (p : InFlight) → Refines (record p { version = d.version; tracked = loads_pass d; window = entries; held = held; queues = queues }) →
+    Refines (record p { version = d.version; tracked = loads_pass d; window = now; held = held_now; queues = queues_now })
 
 -- an entry comes in its place, its station is freed or waits for what is left, and what has issued of it is known
 ties_more : (d : Desc) (entries : List Entry) (held : List Station) (queues : Queues) (now : List Entry) (held_now : List Station) (queues_now : Queues) (put : Put) →
     Ties d entries held queues now held_now queues_now → (k : IsPut now put) →
-    Ties d entries held queues (slice_set now put.position (with_issued put.issued k.old)) (left_held d.version put.station (with_issued put.issued k.old) held_now) (known_in (passing d) queues_now (with_issued put.issued k.old))
+    Ties d entries held queues (slice_set now put.position (with_issued put.issued k.old)) (left_held d.version put.station (with_issued put.issued k.old) held_now) (known_in (loads_pass d) queues_now (with_issued put.issued k.old))
 ties_more d entries held queues now held_now queues_now put t k =
     let new = with_issued put.issued k.old in
-    let P : ℕ → Type 0 = λ n. Ties d entries held queues (slice_set now put.position new) (left_held d.version n new held_now) (known_in (passing d) queues_now new) in
+    let P : ℕ → Type 0 = λ n. Ties d entries held queues (slice_set now put.position new) (left_held d.version n new held_now) (known_in (loads_pass d) queues_now new) in
     subst P (sym k.station)
-    (λ p s. stands_issued (record p { version = d.version; tracked = passing d; window = now; held = held_now; queues = queues_now }) put.position k.old new (width_for (width_of k.old)) (t p s) k.here k.waits k.issues k.stay (λ t. k.tracks))
+    (λ p s. refines_issued (record p { version = d.version; tracked = loads_pass d; window = now; held = held_now; queues = queues_now }) put.position k.old new (width_for (byte_count k.old)) (t p s) k.here k.waits k.issues k.stay (λ t. k.tracks))
 
 -- ---- entries that are put in place
 
@@ -112,7 +112,7 @@ room_by true loads q = (refl, refl)
 room_by false loads q = (refl, refl)
 
 same_room_known : (passes : Bool) (q : Queues) (e : Entry) → ((known_in passes q e).max_loads ≡ q.max_loads) × ((known_in passes q e).max_stores ≡ q.max_stores)
-same_room_known passes q e = room_by (passes && has_read e) (map (issued_at e.serial (access_in (width_for (width_of e)) e)) q.loads) (noted (width_for (width_of e)) e q)
+same_room_known passes q e = room_by (passes && has_read e) (map (issued_at e.serial (access_in (width_for (byte_count e)) e)) q.loads) (noted (width_for (byte_count e)) e q)
 
 -- ---- the loop over the puts
 
@@ -156,18 +156,18 @@ module _ (d : Desc) (puts : List Put) (rob : Ring) (stations : Stations) (queues
   place_within = slice_get_within r.entries put.position here.old here.here
 
   -- the stations and queues of this turn of the loop stand for the window of this turn
-  now_refines : (p : InFlight) × Refines (record p { version = d.version; tracked = passing d; window = rob.entries; held = stations.held; queues = queues }) →
-      (p : InFlight) × Refines (record p { version = d.version; tracked = passing d; window = r.entries; held = s.held; queues = q })
+  now_refines : (p : InFlight) × Refines (record p { version = d.version; tracked = loads_pass d; window = rob.entries; held = stations.held; queues = queues }) →
+      (p : InFlight) × Refines (record p { version = d.version; tracked = loads_pass d; window = r.entries; held = s.held; queues = q })
   now_refines k = (k.0, t.ties k.0 k.1)
 
-  pub station_within : (p : InFlight) × Refines (record p { version = d.version; tracked = passing d; window = rob.entries; held = stations.held; queues = queues }) → put.station < length s.held
+  pub station_within : (p : InFlight) × Refines (record p { version = d.version; tracked = loads_pass d; window = rob.entries; held = stations.held; queues = queues }) → put.station < length s.held
   station_within k =
       let now = now_refines k in
       subst (λ n. n < length s.held) (sym here.station)
-      (held_within (record now.0 { version = d.version; tracked = passing d; window = r.entries; held = s.held; queues = q }) put.position here.old now.1 here.here here.waits)
+      (held_within (record now.0 { version = d.version; tracked = loads_pass d; window = r.entries; held = s.held; queues = q }) put.position here.old now.1 here.here here.waits)
 
   -- the entry there waits, and so is unresolved: once it or a part of it has issued it is safe as it was
-  pub as_safe : (p : InFlight) × Refines (record p { version = d.version; tracked = passing d; window = rob.entries; held = stations.held; queues = queues }) → (e : Entry) → slice_get r.entries put.position ≡ Some e →
+  pub as_safe : (p : InFlight) × Refines (record p { version = d.version; tracked = loads_pass d; window = rob.entries; held = stations.held; queues = queues }) → (e : Entry) → slice_get r.entries put.position ≡ Some e →
       is_unsafe (with_issued put.issued e) ≡ is_unsafe e
   as_safe k e at =
       subst (λ e. is_unsafe (with_issued put.issued e) ≡ is_unsafe e) (one_there r.entries put.position here.old e here.here at)
@@ -195,18 +195,18 @@ module _ (d : Desc) (puts : List Put) (rob : Ring) (stations : Stations) (queues
     still_within = slice_get_within r2.entries put.position new new_there
 
     pub places_more : (e2 : Entry) (s2 : Stations) (q2 : Queues) → slice_get r2.entries put.position ≡ Some e2 → s2 ≡ record s { held = left_held d.version put.station e2 s.held } →
-        q2 ≡ known_in (passing d) q e2 → PlacesOn d puts rob stations queues rest r2 s2 q2
+        q2 ≡ known_in (loads_pass d) q e2 → PlacesOn d puts rob stations queues rest r2 s2 q2
     places_more e2 s2 q2 at k n =
         let is : e2 ≡ new = one_there r2.entries put.position e2 new at new_there in
         subst (λ r2. PlacesOn d puts rob stations queues rest r2 s2 q2) (sym ring_is)
         (subst (λ s2. PlacesOn d puts rob stations queues rest (record r { entries = with_new }) s2 q2) (sym (k ∙ ap (λ e. record s { held = left_held d.version put.station e s.held }) is))
-        (subst (λ q2. PlacesOn d puts rob stations queues rest (record r { entries = with_new }) (record s { held = left_held d.version put.station new s.held }) q2) (sym (n ∙ ap (known_in (passing d) q) is))
+        (subst (λ q2. PlacesOn d puts rob stations queues rest (record r { entries = with_new }) (record s { held = left_held d.version put.station new s.held }) q2) (sym (n ∙ ap (known_in (loads_pass d) q) is))
         (record {
           whole = ap (placed rest) (sym (issues_here put r.entries here.old here.here)) ∙ sym (placed_push rest put r.entries) ∙ ap (λ ps. placed ps r.entries) (sym split) ∙ t.whole;
           rest = still_left r.entries rest put new are;
           same_room = t.same_room;
           same_places = t.same_places;
-          same_loads = (same_room_known (passing d) q new).0 ∙ t.same_loads;
-          same_stores = (same_room_known (passing d) q new).1 ∙ t.same_stores;
+          same_loads = (same_room_known (loads_pass d) q new).0 ∙ t.same_loads;
+          same_stores = (same_room_known (loads_pass d) q new).1 ∙ t.same_stores;
           ties = ties_more d rob.entries stations.held queues r.entries s.held q put t.ties here;
         })))

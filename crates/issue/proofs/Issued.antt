@@ -68,7 +68,7 @@ all_left h cycle now ports w b = subst (LeftAfter h.desc now []) (sym b) (left_f
 
 -- the parts refine the window
 pub refining : (h : Held) → Whole h → (p : InFlight) × Refines (holding h.desc h.rob h.stations h.queues p)
-refining h w = (in_flight h, w.stands)
+refining h w = (in_flight h, w.refines)
 
 -- what an entry looks at, with this divider
 abbrev pub now_with : Held → Divider → Around
@@ -133,7 +133,7 @@ module _ (h : Held) (decided : Decided) (rob : Ring) (stations : Stations) (queu
       queues.max_loads ≡ h.queues.max_loads → queues.max_stores ≡ h.queues.max_stores → ports.alus ≡ h.ports.alus → Whole new
   issued_whole refines s a b p = record {
     sized = subst (Sized h.desc) (sym issued_machine) (sized_issue h.desc (machine_of h) (every_desc h.desc) w.sized);
-    stands = refines (in_flight h) w.stands;
+    refines = refines (in_flight h) w.refines;
     made = issued_sizes s a b p ∙ w.made;
   }
 
@@ -144,4 +144,4 @@ module _ (h : Held) (decided : Decided) (rob : Ring) (stations : Stations) (queu
   pub issued_advanced : (v : Described) → described h ≡ v → HasAdvanced v.point v.machine.window → HasAdvanced h.point rob.entries
   issued_advanced v s a =
       subst (HasAdvanced h.point) (sym (ap (λ (x : Machine). x.window) issued_machine))
-      (issue_advanced h.desc h.point (machine_of h) w.sized.parts w.stands.point.unresolved (advanced h v w s a))
+      (issue_advanced h.desc h.point (machine_of h) w.sized.parts w.refines.point.unresolved (advanced h v w s a))

@@ -9,7 +9,7 @@ use Rattle.window_model.specs.declared.Event.{Event}
 use Rattle.window_model.specs.Access.{Access}
 use Rattle.window_model.specs.Order.{before_at}
 use Rattle.unit_ports.specs.Ports.{Ports}
-use Rattle.stations.specs.Stations.{MarksAble, Station, is_able}
+use Rattle.stations.specs.Stations.{PlacesAble, Station, is_able}
 use Rattle.issue.specs.declared.decide.Put.{Put}
 use Rattle.issue.specs.declared.seen.Seen.{Seen}
 use Rattle.issue.specs.State.{Stands, around_of, flight_of, window_of}
@@ -54,7 +54,7 @@ one_unable held k unable j low high =
     subst (λ j. option_map is_able (slice_get held j) ≡ Some false) same unable
 
 -- where a word of flags has no bit set, no station from there on is able
-pub unable_by : (held : List Station) (from k : ℕ) → MarksAble held from 0 → from ≤ k → k < length held → option_map is_able (slice_get held k) ≡ Some false
+pub unable_by : (held : List Station) (from k : ℕ) → PlacesAble held from 0 → from ≤ k → k < length held → option_map is_able (slice_get held k) ≡ Some false
 unable_by held from k m low lt =
     let t = slice_get-some held k lt in
     let marked = m k t.0 low t.1 in

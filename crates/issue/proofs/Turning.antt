@@ -18,7 +18,7 @@ use Rattle.window_model.specs.Around.{Around}
 use Rattle.window_model.specs.State.{lines_of}
 use Rattle.window_model.specs.Access.{Line, Looks, Request, look_up, prefetched, source_of}
 use Rattle.window_model.specs.Order.{has_address, has_data, is_load, is_store, is_waiting}
-use Rattle.window_model.specs.Retire.{op_of, width_of}
+use Rattle.window_model.specs.Retire.{op_of, byte_count}
 use Rattle.window_model.specs.MayIssue.{effect_of}
 use Rattle.window_model.specs.Ports.{AddressPort, DataPort, is_granted, port_of}
 use Rattle.window_model.specs.Issue.{Begun, access_of, begin_as, begins, if_granted, issue_entry, issue_store, load_as, waits, with_address, with_data}
@@ -87,8 +87,8 @@ pub record Acts (e : Entry) (b : Begun) : Type 0 where
   -- nothing else of the entry changes
   pub rest : with_issued (issued_of b.entry) e ≡ b.entry
   pub issues : Issues e b.entry
-  pub stay : is_store e.item.kind ≡ true → PartsGoOn (width_for (width_of e)) e b.entry
-  pub tracks : TracksOn (width_for (width_of e)) e b.entry
+  pub stay : is_store e.item.kind ≡ true → PartsGoOn (width_for (byte_count e)) e b.entry
+  pub tracks : TracksOn (width_for (byte_count e)) e b.entry
 
 abbrev pub Turns : Entry → Begun → Type 0
 Turns e b = (b ≡ waits e) ⊎ Acts e b
@@ -134,7 +134,7 @@ begin_turns _ d now before e s w = one_event now e _ _ _ s w
 
 -- what is tracked of a store stays
 parts_track : (a c : Bool) (d : Desc) (now : Around) (before : List Entry) (e : Entry) →
-    TracksOn (width_for (width_of e)) e (parts_as a c d now before e).entry
+    TracksOn (width_for (byte_count e)) e (parts_as a c d now before e).entry
 parts_track true true d now before e = record { cleared = refl; unread = λ l h. refl; size = λ h. size_is (op_of e.item.instr) }
 parts_track true false d now before e = record { cleared = refl; unread = λ l h. refl; size = λ h. size_is (op_of e.item.instr) }
 parts_track false true d now before e = record { cleared = refl; unread = λ l h. refl; size = λ h. size_is (op_of e.item.instr) }
@@ -282,8 +282,8 @@ puts_more window i station e puts b h n (inr a) t =
       waits = a.waits;
       station = n;
       issues = subst (Issues e) (sym a.rest) a.issues;
-      stay = λ s. subst (PartsGoOn (width_for (width_of e)) e) (sym a.rest) (a.stay s);
-      tracks = subst (TracksOn (width_for (width_of e)) e) (sym a.rest) a.tracks;
+      stay = λ s. subst (PartsGoOn (width_for (byte_count e)) e) (sym a.rest) (a.stay s);
+      tracks = subst (TracksOn (width_for (byte_count e)) e) (sym a.rest) a.tracks;
     } in
     subst (λ events. PutsTo window (i + 1) (puts ++ puts_by i station (after_by b.entry events))) (sym a.has)
     (record {

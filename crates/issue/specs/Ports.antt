@@ -26,13 +26,13 @@ may_here port s p = may_at s.desc.now (around_of s) port (before_of s p) p.entry
 
 -- a part of a store has issued
 abbrev pub has_issued : Part → Entry → Bool
-has_issued part.Base e = has_address e
-has_issued part.Other e = has_data e
+has_issued part.Address e = has_address e
+has_issued part.Data e = has_data e
 
 -- the port of a part of a store
 abbrev pub part_port : Part → Port
-part_port part.Base = AddressPort
-part_port part.Other = DataPort
+part_port part.Address = AddressPort
+part_port part.Data = DataPort
 
 -- the entry in its place is granted this port
 abbrev pub granted_at : Port → Seen → Place → Bool

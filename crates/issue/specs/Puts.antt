@@ -6,7 +6,7 @@ use Rattle.rv_types.specs.declared.Width.{Width}
 use Rattle.rv_types.specs.declared.Width.TheVariants.{B, H, W}
 use Rattle.window_model.specs.declared.Entry.{Entry}
 use Rattle.window_model.specs.Order.{is_store, is_waiting}
-use Rattle.window_model.specs.Retire.{width_of}
+use Rattle.window_model.specs.Retire.{byte_count}
 use Rattle.rob_ring.specs.Issued.{with_issued}
 use Rattle.lsq.specs.Queues.{Queues}
 use Rattle.refinement.specs.Noted.{PartsGoOn, TracksOn, noted, noted_load}
@@ -24,8 +24,8 @@ pub record IsPut (window : List Entry) (p : Put) : Type 0 where
   pub waits : is_waiting old.state ≡ true
   pub station : p.station ≡ station_of p.position window
   pub issues : Issues old (with_issued p.issued old)
-  pub stay : is_store old.item.kind ≡ true → PartsGoOn (width_for (width_of old)) old (with_issued p.issued old)
-  pub tracks : TracksOn (width_for (width_of old)) old (with_issued p.issued old)
+  pub stay : is_store old.item.kind ≡ true → PartsGoOn (width_for (byte_count old)) old (with_issued p.issued old)
+  pub tracks : TracksOn (width_for (byte_count old)) old (with_issued p.issued old)
 
 -- every put names an entry of the window that issues, and they are named by age
 pub record ArePuts (window : List Entry) (puts : List Put) : Type 0 where
@@ -49,4 +49,4 @@ placed (p ∷ ps) window = issue_in p (placed ps window)
 -- what has issued of the entry is known to the queues, if it is a store; and if it is a load what it reads, where loads
 -- may pass stores
 abbrev pub known_in : Bool → Queues → Entry → Queues
-known_in passing q e = noted_load passing (width_for (width_of e)) e (noted (width_for (width_of e)) e q)
+known_in loads_pass q e = noted_load loads_pass (width_for (byte_count e)) e (noted (width_for (byte_count e)) e q)

@@ -1,5 +1,5 @@
 -- The state that the phase looks at, where its parts stand for a machine, and an entry in its place (docs/machine.md,
--- "Issue"; docs/architecture.md, "How they stand for it").
+-- "Issue"; docs/architecture.md, "How the parts refine the window").
 use Rattle.std.specs.Prelude.{◌≡◌, ℕ, ◌+◌, ◌^◌, ◌≤◌, List, true, length, slice_get, Some}
 use Rattle.std.specs.List.{AllByRecursion as Each}
 use Rattle.machine_desc.specs.declared.Desc.{Desc}
@@ -7,7 +7,7 @@ use Rattle.machine_facts.specs.Sized.{HasParts, Together}
 use Rattle.machine_facts.specs.Timely.{WaitsOrDone}
 use Rattle.window_model.specs.declared.Entry.{Entry}
 use Rattle.window_model.specs.Around.{Around}
-use Rattle.window_model.specs.Dependence.{passing}
+use Rattle.machine_desc.specs.Questions.{loads_pass}
 use Rattle.window_model.specs.Order.{before_at, is_waiting}
 use Rattle.window_model.specs.Ready.{holds}
 use Rattle.rename_taint.specs.declared.Write.{Write}
@@ -33,7 +33,7 @@ abbrev pub flight_of : ℕ → List Write → Seen → InFlight
 flight_of next writes s = record {
   version = s.desc.now.version;
   holds = holds s.desc.now.stt_defence;
-  tracked = passing s.desc.now;
+  tracked = loads_pass s.desc.now;
   next = next;
   window = s.rob.now.entries;
   sources = s.sources.now.items;

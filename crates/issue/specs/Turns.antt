@@ -13,7 +13,7 @@ use Rattle.window_model.specs.Access.{Access, access_at}
 use Rattle.window_model.specs.Around.{Around}
 use Rattle.window_model.specs.MayIssue.{effect_of}
 use Rattle.window_model.specs.Issue.{Begun, access_of, begin_as, if_granted, load_as, taken_for, value_loaded, with_address, with_data}
-use Rattle.window_model.specs.Retire.{width_of}
+use Rattle.window_model.specs.Retire.{byte_count}
 use Rattle.window_model.specs.Row.{Row}
 use Rattle.window_model.specs.inner.Row.{with_events}
 use Rattle.rob_ring.specs.Issued.{issued_of}
@@ -31,7 +31,7 @@ effect_here s p = effect_of s.regs.now (before_of s p) p.entry.now
 
 -- what a load without fault finds from an address on: what its access comes to, and its value
 abbrev pub access_from : ℕ → Desc → Around → List Entry → Entry → Access
-access_from a d now before e = access_at d now before a (width_of e) None
+access_from a d now before e = access_at d now before a (byte_count e) None
 
 abbrev pub value_from : ℕ → Desc → Around → List Entry → Entry → ℕ
 value_from a d now before e = value_loaded now.ram before e a

@@ -161,15 +161,15 @@ impl<'a> Seen<'a> {
         ensures only { OnlyPorts ports.old ports.new }
         ensures few { IsLonger most_issued row.old row.new }
     {
-        let mut marks = self.stations.able_marks();
+        let mut able = self.stations.able_places();
         for station in 0..self.stations.len() {
-            if !self.stations.is_marked(marks, station) {
+            if !self.stations.is_among(able, station) {
                 continue;
             }
-            marks = self.stations.passed(marks, station);
+            able = self.stations.without(able, station);
             let place = self.place_at(station);
             self.decide_entry(&place, ports, decided, row);
-            if marks == 0 {
+            if able == 0 {
                 return;
             }
         }

@@ -25,8 +25,9 @@ impl<'a> Seen<'a> {
         *sources_at(self.sources, place.position)
     }
 
-    // Whether the older stores let a load go that has this effect: each has both its parts; or in version 2 each has its
-    // address, unless the load passes stores, and each without data an untainted one that covers none of the load's bytes.
+    // Whether the older stores let a load go that has this effect: each has both its parts; or in version 2 each has
+    // its address, unless the load passes stores, and each without data an untainted one that covers none of the load's
+    // bytes.
     fn goes(&self, place: &Place, made: &Effect) -> bool
         requires turn { HasTurn self.now place.now }
         requires effect { seen made.now ≡ effect_here self.now place.now }
@@ -80,8 +81,8 @@ impl<'a> Seen<'a> {
         }
     }
 
-    /// Whether the entry, which is no store, may ask for its port: one is left, and no tainted operand holds it back. It
-    /// is served then where it has what it asks for besides.
+    /// Whether the entry, which is no store, may ask for its port: one is left, and no tainted operand holds it back.
+    /// It is served then where it has what it asks for besides.
     pub(crate) fn may_ask(&self, place: &Place, ports: &Ports) -> bool
         requires turn { HasTurn self.now place.now }
         requires whole { is_store place.now.entry.now.item.kind ≡ false }

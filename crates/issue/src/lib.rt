@@ -2,8 +2,8 @@
 //! are ports.
 //!
 //! `docs/machine.md`, "Issue" and "Loads", has the rules in words; the contract of [`issue`] cites them from
-//! `window_model/specs`, `Issue` and `Access`. Every test is made on what the parts hold before the phase (`Seen`); what is decided
-//! is written then.
+//! `window_model/specs`, `Issue` and `Access`. Every test is made on what the parts hold before the phase (`Seen`);
+//! what is decided is written then.
 #![tactic(auto)]
 
 mod access;

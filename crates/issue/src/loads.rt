@@ -48,7 +48,7 @@ impl<'a> Seen<'a> {
     ghost use Rattle.window_model.specs.Access.{due_by, due_of};
     ghost use Rattle.window_model.specs.MayIssue.{goes_behind, stores_let};
     ghost use Rattle.window_model.specs.Issue.{access_of, begin_as};
-    ghost use Rattle.window_model.specs.Retire.{width_of};
+    ghost use Rattle.window_model.specs.Retire.{byte_count};
     ghost use Rattle.window_model.specs.inner.Row.{HasRoom};
     ghost use Rattle.visibility.specs.Point.{is_hidden};
     ghost use Rattle.issue.specs.Accesses.{as_access, as_line, as_lines};
@@ -67,8 +67,8 @@ impl<'a> Seen<'a> {
     fn load_sound(&self, place: &Place, addr: u32) -> Loaded
         requires turn { HasTurn self.now place.now }
         requires lets { stores_let self.now.desc.now.stt_model (passes_here self.now place.now)
-            (range addr (width_of place.now.entry.now)) (before_of self.now place.now) ≡ true }
-        requires sound { load_fault self.now.ram.now addr (width_of place.now.entry.now) ≡ None }
+            (range addr (byte_count place.now.entry.now)) (before_of self.now place.now) ≡ true }
+        requires sound { load_fault self.now.ram.now addr (byte_count place.now.entry.now) ≡ None }
         ensures access { as_access result.access ≡ here (access_from addr) self.now place.now }
         ensures value { result.value ≡ here (value_from addr) self.now place.now }
     {

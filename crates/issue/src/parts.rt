@@ -65,8 +65,8 @@ fn has_issued(entry: &Entry, part: Part) -> bool
     ensures { result ≡ has_issued part entry.now }
 {
     match part {
-        Part::Base => entry.addr_due.is_some(),
-        Part::Other => entry.data_due.is_some(),
+        Part::Address => entry.addr_due.is_some(),
+        Part::Data => entry.data_due.is_some(),
     }
 }
 
@@ -111,7 +111,7 @@ impl<'a> Seen<'a> {
         ensures granted { result ≡ granted_at AddressPort self.now place.now }
         ensures asked { ports.new ≡ if_asked (may_here AddressPort self.now place.now) AddressPort ports.old }
     {
-        if !self.may_part(place, Part::Base) {
+        if !self.may_part(place, Part::Address) {
             return false;
         }
         ports.grant(place.entry.item.kind)
@@ -126,7 +126,7 @@ impl<'a> Seen<'a> {
         ensures granted { result ≡ granted_at DataPort self.now place.now }
         ensures asked { ports.new ≡ if_asked (may_here DataPort self.now place.now) DataPort ports.old }
     {
-        if !self.may_part(place, Part::Other) {
+        if !self.may_part(place, Part::Data) {
             return false;
         }
         ports.grant_data()

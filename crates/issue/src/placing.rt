@@ -1,8 +1,9 @@
-//! The entries that issue, or of which a part does, in their places (`docs/architecture.md`, "How they stand for it").
+//! The entries that issue, or of which a part does, in their places (`docs/architecture.md`, "How the parts refine the
+//! window").
 ghost use Rattle.std.specs.Prelude.{◌≡◌, ◌<◌, length, true};
-ghost use Rattle.window_model.specs.Dependence.{passing};
+ghost use Rattle.machine_desc.specs.Questions.{loads_pass};
 ghost use Rattle.window_model.specs.Order.{has_address, has_data, is_store, is_waiting};
-ghost use Rattle.window_model.specs.Retire.{width_of};
+ghost use Rattle.window_model.specs.Retire.{byte_count};
 ghost use Rattle.refinement.specs.Noted.{noted, noted_load, with_span};
 ghost use Rattle.refinement.specs.InFlight.{InFlight};
 ghost use Rattle.refinement.specs.Refines.{Refines};
@@ -25,8 +26,8 @@ fn wants_by(address: bool, stored: bool) -> Wants
 {
     match (address, stored) {
         (false, false) => Wants::Either,
-        (false, true) => Wants::Base,
-        (true, _) => Wants::Other,
+        (false, true) => Wants::Address,
+        (true, _) => Wants::Data,
     }
 }
 
@@ -59,7 +60,7 @@ fn settle(stations: &mut Stations, version: u32, station: u32, entry: &Entry)
 #[tactic(auto, using(crate::proofs::Width::width_is))]
 fn note_address(lsq: &mut Lsq, entry: &Entry)
     ensures { lsq.new ≡ record lsq.old {
-      stores = with_span (has_address entry.now) (width_for (width_of entry.now)) entry.now lsq.old.stores;
+      stores = with_span (has_address entry.now) (width_for (byte_count entry.now)) entry.now lsq.old.stores;
     } }
 {
     if let Some(due) = entry.addr_due {
@@ -75,7 +76,7 @@ fn note_address(lsq: &mut Lsq, entry: &Entry)
 
 // What has issued of an entry is known to the queue of stores, if it is a store.
 fn note_store(lsq: &mut Lsq, entry: &Entry)
-    ensures { lsq.new ≡ noted (width_for (width_of entry.now)) entry.now lsq.old }
+    ensures { lsq.new ≡ noted (width_for (byte_count entry.now)) entry.now lsq.old }
 {
     if !entry.is_store() {
         return;
@@ -89,7 +90,7 @@ fn note_store(lsq: &mut Lsq, entry: &Entry)
 // What an entry reads is known to the queue of loads, if it is a load that has issued, and loads may pass stores.
 #[tactic(auto, using(crate::proofs::Width::width_is))]
 fn note_load(lsq: &mut Lsq, desc: &Desc, entry: &Entry)
-    ensures { lsq.new ≡ noted_load (passing desc.now) (width_for (width_of entry.now)) entry.now lsq.old }
+    ensures { lsq.new ≡ noted_load (loads_pass desc.now) (width_for (byte_count entry.now)) entry.now lsq.old }
 {
     if desc.predictor_depend == 0 || !entry.is_load() {
         return;
@@ -108,7 +109,7 @@ fn note_load(lsq: &mut Lsq, desc: &Desc, entry: &Entry)
 // What has issued of an entry is known to the queues: of a store its parts, of a load what it reads, where loads may
 // pass stores.
 fn note(lsq: &mut Lsq, desc: &Desc, entry: &Entry)
-    ensures { lsq.new ≡ known_in (passing desc.now) lsq.old entry.now }
+    ensures { lsq.new ≡ known_in (loads_pass desc.now) lsq.old entry.now }
 {
     note_store(lsq, entry);
     note_load(lsq, desc, entry);

@@ -6,9 +6,8 @@
 //! a store is known part by part, each from the Issue in which the part goes: where it writes, and what. Where loads
 //! may pass stores whose address isn't known, it is noted too what each load reads and when it issued; a store that is
 //! then cleared tells which load passed it wrongly ("Clear"). `specs/Queues.antt` says what contracts see of it,
-//! `specs/Pending.antt` what a load waits for,
-//! `specs/Merging.antt` what it finds, `specs/Clearing.antt` which load is violated; `queue_laws` says what the queues stand
-//! for in the machine's window.
+//! `specs/Pending.antt` what a load waits for, `specs/Merging.antt` what it finds, `specs/Clearing.antt` which load is
+//! violated; `queue_laws` says what the queues stand for in the machine's window.
 #![tactic(auto)]
 
 mod clearing;

@@ -10,7 +10,7 @@ use crate::{Defence, DescFault, Key, Section, SttModel, Subject};
 use toml::{Table, Value};
 
 // The least name at the top that is neither the version's nor a table's.
-pub fn unknown_section<'a>(document: &'a Table, sections: &[Section]) -> Option<&'a str>
+pub(crate) fn unknown_section<'a>(document: &'a Table, sections: &[Section]) -> Option<&'a str>
     ensures { option_map (λ s. s.now) result ≡ unknown (some_top sections.now) (table_view document.now) }
 {
     for name in document.keys() {
@@ -22,7 +22,7 @@ pub fn unknown_section<'a>(document: &'a Table, sections: &[Section]) -> Option<
 }
 
 // The least name of a table that isn't that of a key of this version.
-pub fn unknown_key<'a>(
+pub(crate) fn unknown_key<'a>(
     version: u32,
     table: &'a Table,
     keys: &[Key],
@@ -39,14 +39,14 @@ pub fn unknown_key<'a>(
 }
 
 // What a table has at a name.
-pub fn member_of<'a>(table: &'a Table, name: &str) -> Option<&'a Value>
+pub(crate) fn member_of<'a>(table: &'a Table, name: &str) -> Option<&'a Value>
     ensures { option_map (λ v. view v.now) result ≡ get_member name.now (table_view table.now) }
 {
     table.get(name)
 }
 
 // The value of a key, where it and its table are there.
-pub fn value_at<'a>(document: &'a Table, key: Key) -> Option<&'a Value>
+pub(crate) fn value_at<'a>(document: &'a Table, key: Key) -> Option<&'a Value>
     ensures { option_map (λ v. view v.now) result ≡ value_at (table_view document.now) key }
 {
     match member_of(document, key.section().name()) {
@@ -59,7 +59,7 @@ pub fn value_at<'a>(document: &'a Table, key: Key) -> Option<&'a Value>
 }
 
 // The version of a value.
-pub fn version_in(value: Option<&Value>) -> Result<u32, DescFault>
+pub(crate) fn version_in(value: Option<&Value>) -> Result<u32, DescFault>
     ensures { result ≡ version_in (option_map (λ v. view v.now) value.entry) }
 {
     match value {
@@ -105,7 +105,7 @@ fn whole_in(key: Key, least: u32, most: u32, shape: Shape, number: i64) -> Resul
 }
 
 // The number of a key.
-pub fn number_in(
+pub(crate) fn number_in(
     key: Key,
     least: u32,
     most: u32,
@@ -124,7 +124,7 @@ pub fn number_in(
 }
 
 // The number of a key that may be left out.
-pub fn number_or_least(
+pub(crate) fn number_or_least(
     key: Key,
     least: u32,
     most: u32,
@@ -152,7 +152,7 @@ fn model_named(key: Key, off: bool, text: &str) -> Result<SttModel, DescFault>
 }
 
 // The model that a key names.
-pub fn model_in(key: Key, off: bool, value: Option<&Value>) -> Result<SttModel, DescFault>
+pub(crate) fn model_in(key: Key, off: bool, value: Option<&Value>) -> Result<SttModel, DescFault>
     ensures { result ≡ model_in key off (option_map (λ v. view v.now) value.entry) }
 {
     match value {
@@ -176,7 +176,7 @@ fn defence_named(key: Key, hold: bool, text: &str) -> Result<Defence, DescFault>
 }
 
 // The defence that a key names, which may be left out.
-pub fn defence_in(key: Key, hold: bool, value: Option<&Value>) -> Result<Defence, DescFault>
+pub(crate) fn defence_in(key: Key, hold: bool, value: Option<&Value>) -> Result<Defence, DescFault>
     ensures { result ≡ defence_in key hold (option_map (λ v. view v.now) value.entry) }
 {
     match value {

@@ -7,7 +7,7 @@ use arrayvec::ArrayVec;
 use std::fmt;
 
 /// The most bytes of an unknown name that are kept, its table and the dot not counted.
-pub const KEPT: usize = 64;
+pub(crate) const KEPT: usize = 64;
 
 /// The most bytes of a name with its table and the dot.
 pub const NAME_MAX: usize = 80;

@@ -1,4 +1,4 @@
--- Clear keeps sizes and entries, times, and marks; it has at most four events.
+-- Clear keeps sizes and entries, times, and checkpoints; it has at most four events.
 use Rattle.std.proofs.Common.{ℕ, ◌+◌, ◌≤◌, Bool, true, false, List, [], ◌∷◌, ◌++◌, Option, Some, None, refl, ap, sym, subst, ◌∙◌, arith}
 use Rattle.std.proofs.lemmas.List.{length-set}
 use Rattle.std.specs.Prelude.{if◌then◌else◌, is_some, reverse}
@@ -10,12 +10,12 @@ use Rattle.window_model.specs.declared.Entry.{Entry}
 use Rattle.window_model.specs.State.{Machine, nothing}
 use Rattle.window_model.specs.Order.{Place, first}
 use Rattle.window_model.specs.Resolve.{is_from}
-use Rattle.window_model.specs.Dependence.{passing}
+use Rattle.machine_desc.specs.Questions.{loads_pass}
 use Rattle.window_model.specs.Clear.{clear, clear_at, clear_with, cleared_one, clears, may_clear, violated_by, violates}
 use Rattle.window_model.proofs.Clearing.{Cleared, Violated, clear_keep, cleared_goes}
 use Rattle.window_model.proofs.Counts.{Evolves, evolves_same, evolves_thins, goes_same, place_evolves}
 use Rattle.window_model.proofs.Lists.{each_join, each_left, each_right}
-use Rattle.machine_facts.specs.Marks.{FitsMark, Marked}
+use Rattle.machine_facts.specs.Checkpoints.{FitsCheckpoint, FitCheckpoints}
 use Rattle.machine_facts.specs.Sized.{Sized}
 use Rattle.machine_facts.specs.Timely.{IsDue, PartsDue, Rises, StaysCleared, Timely, WaitsOrDone, last_from, last_item_from, longest_division}
 use Rattle.machine_facts.proofs.Adds.{Adds}
@@ -144,14 +144,14 @@ clear_each P f d =
 pub clear_settles : (d : Desc) (x : Machine) → Each WaitsOrDone x.window → Each WaitsOrDone (clear d x).machine.window
 clear_settles = clear_each WaitsOrDone (λ e k. k)
 
--- ---- marks: at a violation history and stack are those of the load
+-- ---- checkpoints: at a violation history and stack are those of the load
 
 abbrev EntryFits : Desc → Entry → Type 0
-EntryFits d e = FitsMark d e.item.mark
+EntryFits d e = FitsCheckpoint d e.item.checkpoint
 
-pub marked_clear : (d : Desc) (x : Machine) → Marked d x → Marked d (clear d x).machine
-marked_clear d =
-    clear_keep d (Marked d)
+pub checkpoints_clear : (d : Desc) (x : Machine) → FitCheckpoints d x → FitCheckpoints d (clear d x).machine
+checkpoints_clear d =
+    clear_keep d (FitCheckpoints d)
     (λ x p t h. record { next = h.next; entries = each_cleared (EntryFits d) d x p t (λ k. k) h.entries p.younger (λ k. k); items = h.items })
     (λ x p q t u h.
     let younger = (each_right (EntryFits d) (reverse p.before) _ (subst (Each (EntryFits d)) t.window h.entries)).1 in
@@ -169,7 +169,7 @@ at_adds d None x = record { events = omega arith; cycle = refl; serials = refl; 
 at_adds d (Some p) x = with_adds d p (violated_by p) x
 
 pub clear_adds : (d : Desc) (x : Machine) → Adds 4 x (clear d x)
-clear_adds d x = by_passing (passing d)
+clear_adds d x = by_passing (loads_pass d)
   where
     by_passing : (b : Bool) → Adds 4 x (if b then clear_at d (first (may_clear d) x.window) x else nothing x)
     by_passing true = at_adds d (first (may_clear d) x.window) x

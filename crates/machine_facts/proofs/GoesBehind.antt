@@ -9,7 +9,8 @@ use Rattle.window_model.specs.declared.Progress.{Progress}
 use Rattle.window_model.specs.declared.Progress.TheVariants.{Waiting, Busy, Done}
 use Rattle.window_model.specs.Access.{covers}
 use Rattle.window_model.specs.Around.{Around}
-use Rattle.window_model.specs.Dependence.{passing, waits_for_stores}
+use Rattle.machine_desc.specs.Questions.{loads_pass}
+use Rattle.window_model.specs.Dependence.{waits_for_stores}
 use Rattle.window_model.specs.MayIssue.{bytes_of, goes_behind, lets, passes_stores, stores_done, stores_let}
 use Rattle.window_model.specs.Order.{has_address, has_data, is_done, is_store, is_waiting}
 use Rattle.window_model.specs.Taint.{address_tainted}
@@ -27,7 +28,7 @@ no_bit zero h = refl
 no_bit (suc n) h = absurd (cc)
 
 -- no load passes a store in version 1
-pub not_passing : (d : Desc) → d.version ≡ 1 → passing d ≡ false
+pub not_passing : (d : Desc) → d.version ≡ 1 → loads_pass d ≡ false
 not_passing d one = no_bit d.predictor_depend (no_bits (d.version == 1) d.predictor_depend _ (ap (λ v. v == 1) one) d.few_depend)
 
 pub passes_none : (d : Desc) (now : Around) (e : Entry) → d.version ≡ 1 → passes_stores d now e ≡ false

@@ -3,7 +3,7 @@ pub mod Together
 pub mod StoreParts
 pub mod Caches
 pub mod Requests
-pub mod Marks
+pub mod Checkpoints
 pub mod SizedWindow
 pub mod SizedPhases
 pub mod SizedRetire

@@ -18,7 +18,7 @@ use Rattle.window_model.specs.Around.{Around}
 use Rattle.window_model.specs.Issue.{Begun, issue_entry}
 use Rattle.window_model.specs.Rename.{is_stop, renamed}
 use Rattle.window_model.specs.Fetch.{predicted}
-use Rattle.window_model.specs.declared.Mark.{Mark}
+use Rattle.window_model.specs.declared.Checkpoint.{Checkpoint}
 use Rattle.window_model.proofs.Issuing.{issue_goes}
 use Rattle.machine_facts.proofs.StoreParts.{issued_stays}
 use Rattle.machine_facts.specs.Sized.{HasParts}
@@ -120,6 +120,6 @@ last_new d serial i = by (is_stop i.kind) (is_done (renamed d serial i).state)
     by false false = refl
 
 -- only a stop predicts nothing
-pub stop_predicts : (k : Kind) (d : Desc) (t : List (Option Target)) (m : Mark) (way : Bool) (pc : ℕ) (i : Instr) → predicted k d t m way pc i ≡ None → is_stop k ≡ true
+pub stop_predicts : (k : Kind) (d : Desc) (t : List (Option Target)) (m : Checkpoint) (way : Bool) (pc : ℕ) (i : Instr) → predicted k d t m way pc i ≡ None → is_stop k ≡ true
 stop_predicts (Stop a) d t m way pc i h = refl
 stop_predicts _ d t m way pc i h = absurd (cc)

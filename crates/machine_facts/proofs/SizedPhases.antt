@@ -13,7 +13,7 @@ use Rattle.machine_desc.specs.Ranges.{IsDesc}
 use Rattle.window_model.specs.declared.Divider.{Divider}
 use Rattle.window_model.specs.declared.Entry.{Entry}
 use Rattle.window_model.specs.declared.Item.{Item}
-use Rattle.window_model.specs.declared.Mark.{Mark}
+use Rattle.window_model.specs.declared.Checkpoint.{Checkpoint}
 use Rattle.window_model.specs.declared.Miss.{Miss}
 use Rattle.window_model.specs.declared.Progress.{Progress}
 use Rattle.window_model.specs.declared.Progress.TheVariants.{Waiting, Busy, Done}
@@ -246,9 +246,9 @@ own_kind : (k : Kind) (i : Item) → i.kind ≡ k → k ≡ kind_of i.instr → 
 own_kind (Stop c) i q h = tt
 own_kind _ i q h = h
 
-fetched_kind : (w : Option ℕ) (pc : ℕ) (p : Option ℕ) (m : Mark) → HasKind (record { pc = pc; instr = instr_at w; kind = kind_at w; predicted = p; mark = m })
+fetched_kind : (w : Option ℕ) (pc : ℕ) (p : Option ℕ) (m : Checkpoint) → HasKind (record { pc = pc; instr = instr_at w; kind = kind_at w; predicted = p; checkpoint = m })
 fetched_kind None pc p m = tt
-fetched_kind (Some w) pc p m = own_kind (kind_of (decode w)) (record { pc = pc; instr = decode w; kind = kind_of (decode w); predicted = p; mark = m }) refl refl
+fetched_kind (Some w) pc p m = own_kind (kind_of (decode w)) (record { pc = pc; instr = decode w; kind = kind_of (decode w); predicted = p; checkpoint = m }) refl refl
 
 -- an item for which there is room is fetched
 pub fetch_item : (d : Desc) (code : Code) (x : Machine) (pc : ℕ) → x.fetch_pc ≡ Some pc → nat_lt (length x.queue) d.core_queue ≡ true → Sized d x → Sized d (fetch_one d (item_at d code x pc) x).machine
@@ -260,7 +260,7 @@ fetch_item d code x pc q r s =
     whole d (fetch_one d i x).machine (record {
       window = f.window;
       entries = f.entries;
-      queue = record { queue = omega (arith, b, l); item_kinds = each_push HasKind x.queue i f.queue.item_kinds (fetched_kind (code pc) pc i.predicted i.mark) };
+      queue = record { queue = omega (arith, b, l); item_kinds = each_push HasKind x.queue i f.queue.item_kinds (fetched_kind (code pc) pc i.predicted i.checkpoint) };
       predictor = f.predictor;
       cache = f.cache;
       second = f.second;

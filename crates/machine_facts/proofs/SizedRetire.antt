@@ -13,7 +13,7 @@ use Rattle.window_model.specs.declared.Outcome.{Outcome}
 use Rattle.window_model.specs.Shape.{SameShape}
 use Rattle.window_model.specs.State.{Machine}
 use Rattle.window_model.specs.Order.{is_store, is_done, is_waiting, has_address, has_data, value_of, fault_of}
-use Rattle.window_model.specs.Retire.{retire, head_leaves, addr_of, lines_in, stored_of, width_of, may_leave, trap_of}
+use Rattle.window_model.specs.Retire.{retire, head_leaves, addr_of, lines_in, stored_of, byte_count, may_leave, trap_of}
 use Rattle.window_model.proofs.Booleans.{both, done_waits}
 use Rattle.window_model.proofs.Lists.{each_then}
 use Rattle.window_model.proofs.Memory.{same_shape, shape_then, store_keeps, same_fault}
@@ -33,7 +33,7 @@ fault_is ram ram2 width None k h = tt
 fault_is ram ram2 width (Some o) k h = h ∙ sym (same_fault _ _ ram ram2 o.addr width k)
 
 over_shape : (d : Desc) (ram ram2 : Ram) → SameShape ram ram2 → (e : Entry) → IsEntry d ram e → IsEntry d ram2 e
-over_shape d ram ram2 k e h = record { kind = h.kind; memory = λ s a. fault_is ram ram2 (width_of e) e.outcome k (h.memory s a); outcome = h.outcome; parts = h.parts; together = h.together }
+over_shape d ram ram2 k e h = record { kind = h.kind; memory = λ s a. fault_is ram ram2 (byte_count e) e.outcome k (h.memory s a); outcome = h.outcome; parts = h.parts; together = h.together }
 
 -- a store that doesn't wait has its address
 both_there : (a c w : Bool) → (a && c) ≡ not w → w ≡ false → a ≡ true
@@ -77,12 +77,12 @@ module _ (d : Desc) (ram : Ram) where
 
   -- a store at the head that is Done without fault writes inside memory
   stores : (x : Machine) (e : Entry) (rest : List Entry) → e.item.kind ≡ Store → x.window ≡ e ∷ rest → is_done e.state ≡ true → fault_of e.outcome ≡ None → Lies d ram x →
-      store_fault x.ram (addr_of e.outcome) (width_of e) ≡ None
+      store_fault x.ram (addr_of e.outcome) (byte_count e) ≡ None
   stores x e rest q w l t h =
       let own : IsEntry d x.ram e = (subst (Each (IsEntry d x.ram)) w (parts d x h.sized).entries).0 in
       let st : is_store e.item.kind ≡ true = ap is_store q in
       let a = stored_at e own.parts st l in
-      no_fault x.ram (width_of e) e.outcome (own.memory st a) (own.outcome st a) t
+      no_fault x.ram (byte_count e) e.outcome (own.memory st a) (own.outcome st a) t
 
   leaves : (x : Machine) (e : Entry) (rest : List Entry) → x.window ≡ e ∷ rest → may_leave e ≡ true → trap_of e ≡ None → Lies d ram x → Lies d ram (head_leaves e.item.kind d e rest x).machine
   leaves x e rest w l t h =
@@ -93,7 +93,7 @@ module _ (d : Desc) (ram : Ram) where
       (lies_gone x e rest _ _ _ _ _ _ w n (same_shape x.ram) cache h)
       e.item.kind (λ q.
       let inside = stores x e rest q w (both (is_done e.state) _ l).0 (no_trap e.item.kind e t).1 h in
-      lies_gone x e rest _ _ _ _ _ _ w n (store_keeps x.ram (addr_of e.outcome) (width_of e) (stored_of e.outcome) inside) (lines_fit d (lines_in d e) x.cache cache) h)
+      lies_gone x e rest _ _ _ _ _ _ w n (store_keeps x.ram (addr_of e.outcome) (byte_count e) (stored_of e.outcome) inside) (lines_fit d (lines_in d e) x.cache cache) h)
 
   ends : (x : Machine) (end : End) → Lies d ram x → Lies d ram (record x { end = Some end })
   ends x end h =

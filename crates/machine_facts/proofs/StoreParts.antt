@@ -11,7 +11,7 @@ use Rattle.window_model.specs.declared.Outcome.{Outcome}
 use Rattle.window_model.specs.declared.Progress.{Progress}
 use Rattle.window_model.specs.Around.{Around}
 use Rattle.window_model.specs.Order.{is_waiting, is_store, has_address, has_data}
-use Rattle.window_model.specs.Retire.{width_of}
+use Rattle.window_model.specs.Retire.{byte_count}
 use Rattle.window_model.specs.MayIssue.{effect_of}
 use Rattle.window_model.specs.Issue.{issue_entry, busy_until_both, so_far, with_address, with_data}
 use Rattle.window_model.proofs.Booleans.{both}
@@ -66,7 +66,7 @@ fault_stays ram width (Some o) next stored s h = h
 data_stands : (now : Around) (f : Effect) (e : Entry) → Stands now.ram e → Stands now.ram (with_data now f e)
 data_stands now f e h = record {
   kind = h.kind;
-  memory = λ s a. fault_stays now.ram (width_of e) e.outcome f.next f.stored (h.outcome s a) (h.memory s a);
+  memory = λ s a. fault_stays now.ram (byte_count e) e.outcome f.next f.stored (h.outcome s a) (h.memory s a);
   outcome = λ s a. refl;
   parts = λ s. data_parts e.addr_due e.data_due (now.cycle + 1) e.state (h.parts s);
 }

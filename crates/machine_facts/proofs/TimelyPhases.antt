@@ -251,7 +251,7 @@ fetch_item d code x pc q r h = record {
   misses = h.misses;
   lines = h.lines;
   divider = h.divider;
-  fetches = λ n. last_item_push (last_from (is_some x.end) x.window) x.queue (item_at d code x pc) ∙ stop_predicts (kind_at (code pc)) d x.targets x.mark (guess (kind_at (code pc)) d x.counters x.mark pc) pc (instr_at (code pc)) n;
+  fetches = λ n. last_item_push (last_from (is_some x.end) x.window) x.queue (item_at d code x pc) ∙ stop_predicts (kind_at (code pc)) d x.targets x.checkpoint (guess (kind_at (code pc)) d x.counters x.checkpoint pc) pc (instr_at (code pc)) n;
   zero = h.zero;
 }
 

@@ -13,7 +13,7 @@ use Rattle.window_model.specs.Retire.{retire}
 use Rattle.window_model.specs.Cycle.{at, cycle}
 use Rattle.machine_facts.specs.Sized.{Sized}
 use Rattle.machine_facts.specs.Timely.{Timely, Counted, WaitsOrDone}
-use Rattle.machine_facts.specs.Marks.{Marked}
+use Rattle.machine_facts.specs.Checkpoints.{FitCheckpoints}
 
 -- every state of a run has its sizes
 abbrev pub StatesAreSized : Type 0
@@ -24,8 +24,8 @@ abbrev pub StatesAreTimely : Type 0
 StatesAreTimely = (d : Desc) (code : Code) (entry : ℕ) (ram : Ram) (k : ℕ) → IsDesc d → Timely d (at d code entry ram k)
 
 -- in every state of a run history and stack are as large as the description says
-abbrev pub StatesAreMarked : Type 0
-StatesAreMarked = (d : Desc) (code : Code) (entry : ℕ) (ram : Ram) (k : ℕ) → Marked d (at d code entry ram k)
+abbrev pub StatesFitCheckpoints : Type 0
+StatesFitCheckpoints = (d : Desc) (code : Code) (entry : ℕ) (ram : Ram) (k : ℕ) → FitCheckpoints d (at d code entry ram k)
 
 -- from a state between two cycles on, a store takes one cycle to execute, so none is busy in what Issue finds
 abbrev pub NoStoreIsBusy : Type 0

@@ -1,6 +1,6 @@
 pub mod Sized
 pub mod Timely
-pub mod Marks
+pub mod Checkpoints
 pub mod Known
 pub mod InTurn
 pub mod Laws

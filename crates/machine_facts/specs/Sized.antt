@@ -13,7 +13,7 @@ use Rattle.window_model.specs.declared.Item.{Item}
 use Rattle.window_model.specs.declared.Outcome.{Outcome}
 use Rattle.window_model.specs.State.{Machine}
 use Rattle.window_model.specs.Order.{is_waiting, is_load, is_store, has_address, has_data}
-use Rattle.window_model.specs.Retire.{width_of}
+use Rattle.window_model.specs.Retire.{byte_count}
 use Rattle.window_model.specs.Rename.{CallAlone}
 pub use Rattle.window_model.specs.Rename.{calls}
 
@@ -44,7 +44,7 @@ FaultIs ram width (Some o) = o.fault ≡ store_fault ram o.addr width
 
 -- a store whose address part has issued is refused by its outcome exactly where memory would refuse it
 abbrev pub FitsMemory : Ram → Entry → Type 0
-FitsMemory ram e = is_store e.item.kind ≡ true → has_address e ≡ true → FaultIs ram (width_of e) e.outcome
+FitsMemory ram e = is_store e.item.kind ≡ true → has_address e ≡ true → FaultIs ram (byte_count e) e.outcome
 
 -- a store whose address part has issued has an outcome
 abbrev pub HasOutcome : Entry → Type 0

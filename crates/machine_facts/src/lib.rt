@@ -10,7 +10,7 @@ ghost use Rattle.machine_facts.specs.Laws.{
   RetireKeepsShape,
   RowsAreShort,
   StatesAreCounted,
-  StatesAreMarked,
+  StatesFitCheckpoints,
   StatesAreSized,
   StatesAreTimely,
   StatesKeepShape,
@@ -25,7 +25,7 @@ ghost use Rattle.machine_facts.specs.InTurn.{AccessesGoInTurn, AccessesLeaveInTu
 pub fn states_keep()
     ensures sized { StatesAreSized }
     ensures timely { StatesAreTimely }
-    ensures marked { StatesAreMarked }
+    ensures checkpoints { StatesFitCheckpoints }
     ensures no_busy_store { NoStoreIsBusy }
     ensures counted { StatesAreCounted }
     ensures events { RowsAreShort }

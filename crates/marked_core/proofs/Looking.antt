@@ -1,5 +1,5 @@
 -- A run until something shows, cycle by cycle.
-use Rattle.std.proofs.Common.{◌≡◌, ℕ, zero, suc, ◌+◌, ◌-◌, ◌<◌, ◌≤◌, Bool, true, false, Option, Some, None, refl, ap, ap₂, sym, ◌∙◌, arith}
+use Rattle.std.proofs.Common.{◌≡◌, ℕ, suc, ◌+◌, ◌-◌, ◌<◌, Bool, false, Option, Some, None, ap, ap₂, sym, ◌∙◌, arith}
 use Rattle.std.specs.Prelude.{is_some}
 use Rattle.rv_types.specs.Memory.{Code}
 use Rattle.rv_types.specs.declared.End.{End}
@@ -13,15 +13,12 @@ use Rattle.secret_marks.specs.Marks.{Marks}
 use Rattle.secret_marks.specs.Shown.{first_shown, in_cycle, shown_cycle}
 use Rattle.secret_marks.specs.Watch.{watch_cycle}
 use Rattle.secret_marks.proofs.Cycle.{watched_machine}
-use Rattle.marked_core.proofs.Watching.{goes_on, stops}
+use Rattle.marked_core.proofs.Watching.{goes_on}
 
 -- whether a run has ended, by what the core answers of it
 pub running_at : (end told : Option End) (b : Bool) → told ≡ end → b ≡ is_some told → b ≡ false → end ≡ None
 running_at end None b t e q = sym t
 running_at end (Some k) b t e q = absurd (cc)
-
-pub ended_at : (end told : Option End) (b : Bool) → told ≡ end → b ≡ is_some told → b ≡ true → is_some end ≡ true
-ended_at end told b t e q = ap is_some (sym t) ∙ sym e ∙ q
 
 -- the run stands after i of n cycles from a machine with marks, in which nothing has shown: the other cycles show and
 -- leave what all n do
@@ -30,25 +27,8 @@ pub record Looks (d : Desc) (code : Code) (n i : ℕ) (x : Machine) (m : Marks) 
   pub last : after_cycles d code (n - i) y ≡ after_cycles d code n x
   pub count : y.cycle ≡ x.cycle + i
 
-pub looks_start : (d : Desc) (code : Code) (n : ℕ) (x : Machine) (m : Marks) → Looks d code n 0 x m x m
-looks_start d code n x m =
-    let e : n - 0 ≡ n = omega arith in
-    record { shown = ap (λ n. first_shown d code n x m) e; last = ap (λ n. after_cycles d code n x) e; count = omega arith }
-
 one_more : (n i : ℕ) → i < n → n - i ≡ suc (n - (i + 1))
 one_more n i h = omega arith
-
-none_left : (n i : ℕ) → n ≤ i → n - i ≡ 0
-none_left n i h = omega (arith, h)
-
--- nothing shows in a run that has ended, and it stays where it is
-none_shows : (d : Desc) (code : Code) (n : ℕ) (y : Machine) (k : Marks) → is_some y.end ≡ true → first_shown d code n y k ≡ None
-none_shows d code zero y k e = refl
-none_shows d code (suc n) y k e = stops y.end None _ e
-
-ended_stays : (d : Desc) (code : Code) (n : ℕ) (y : Machine) → is_some y.end ≡ true → after_cycles d code n y ≡ y
-ended_stays d code zero y e = refl
-ended_stays d code (suc n) y e = stops y.end y _ e
 
 module _ (d : Desc) (code : Code) (n i : ℕ) (x : Machine) (m : Marks) (y : Machine) (k : Marks) (l : Looks d code n i x m y k) where
   -- what shows in the next of the cycles
@@ -82,17 +62,3 @@ module _ (d : Desc) (code : Code) (n i : ℕ) (x : Machine) (m : Marks) (y : Mac
               ∙ l.last;
           count = omega (arith, count, number);
         }
-
-  -- where the run has ended nothing shows in it
-  pub ended_none : is_some y.end ≡ true → None ≡ first_shown d code n x m
-  ended_none e = sym (none_shows d code (n - i) y k e) ∙ l.shown
-
-  pub ended_last : is_some y.end ≡ true → y ≡ after_cycles d code n x
-  ended_last e = sym (ended_stays d code (n - i) y e) ∙ l.last
-
-  -- where the cycles are over nothing has shown in them
-  pub over_none : n ≤ i → None ≡ first_shown d code n x m
-  over_none h = sym (ap (λ n. first_shown d code n y k) (none_left n i h)) ∙ l.shown
-
-  pub over_last : n ≤ i → y ≡ after_cycles d code n x
-  over_last h = sym (ap (λ n. after_cycles d code n y) (none_left n i h)) ∙ l.last

@@ -79,13 +79,13 @@ marks_extended m w n s count e =
 pub parts_beside : (h : Held) (v : Described) (ms : List EntryMarks) → Whole h → described h ≡ v → length ms ≡ length v.machine.window → StandBeside h.rob.entries h.sources.items ms
 parts_beside h v ms w s e = record {
   rest = in_flight h;
-  refines = w.stands;
+  refines = w.refines;
   step = e ∙ sym (ap (λ (v : Described). length v.machine.window) s);
 }
 
 -- events tell of the window that Issue leaves, whose serials rise
 pub told_beside : (h : Held) (v : Described) (events : List Event) → Whole h → described h ≡ v → (Rise v.machine.window → Told v.machine.cycle v.machine.window events) → Told h.cycle h.rob.entries events
-told_beside h v events w s t = subst (λ (v : Described). (Rise v.machine.window → Told v.machine.cycle v.machine.window events) → Told h.cycle h.rob.entries events) s (λ f. f w.stands.rise) t
+told_beside h v events w s t = subst (λ (v : Described). (Rise v.machine.window → Told v.machine.cycle v.machine.window events) → Told h.cycle h.rob.entries events) s (λ f. f w.refines.rise) t
 
 pub marks_issued : (h : Held) (v : Described) (m : Beside) (base : ℕ) → Whole h → described h ≡ v → base ≡ v.machine.ram.base →
     ◌≡◌ {A = Beside} record m { window = issued_from h.cycle base m [] [] h.rob.entries m.window } (after_issue_marks v.machine m)

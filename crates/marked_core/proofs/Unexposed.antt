@@ -19,11 +19,8 @@ use Rattle.window_model.specs.Fill.{complete, completed, completes}
 use Rattle.window_model.specs.Issue.{Begun, after_load, begin_as, issue, issue_entry}
 use Rattle.window_model.specs.Order.{Place, each_from, is_done, is_waiting}
 use Rattle.window_model.specs.Rename.{rename, renamed}
-use Rattle.window_model.specs.Resolve.{resolve}
 use Rattle.window_model.specs.Retire.{retire, unless_ended}
-use Rattle.window_model.specs.Row.{Row}
-use Rattle.window_model.specs.inner.Row.{with_events}
-use Rattle.window_model.specs.State.{After, Machine, nothing, then_does}
+use Rattle.window_model.specs.State.{Machine, nothing, then_does}
 use Rattle.window_model.proofs.Clearing.{clear_keep}
 use Rattle.window_model.proofs.Issuing.{Begins, Comes, Remains, begin_comes, by_issue, gone_parts}
 use Rattle.window_model.proofs.Quiet.{at_retire, cycle_is}
@@ -31,9 +28,6 @@ use Rattle.window_model.proofs.Walks.{fetch_keep, rename_keep}
 use Rattle.machine_facts.specs.Timely.{PartsDue}
 use Rattle.committed_state.specs.Computed.{Bank}
 use Rattle.committed_state.specs.Consistent.{FitsState, Stands}
-use Rattle.quiet_cycles.proofs.Early.{none_resolves, resolve_nothing}
-use Rattle.core_parts.specs.Described.{Described}
-use Rattle.core_cycle.proofs.Moving.{no_more}
 use Rattle.secret_marks.specs.declared.EntryMarks.{EntryMarks}
 use Rattle.secret_marks.specs.declared.Shown.{Shown}
 use Rattle.secret_marks.specs.declared.WordMarks.{WordMarks}
@@ -106,13 +100,6 @@ shown_of_completed cycle (e ∷ window) (mark ∷ marks) h =
 pub complete_unexposed : (x : Machine) (marks : List EntryMarks) → resolved_shown x.window marks ≡ None → resolved_shown (complete x).machine.window marks ≡ None
 complete_unexposed x marks h =
     none_shown (complete x).machine.window marks (shown_of_completed x.cycle x.window marks (each_unexposed x.window marks h))
-
--- the row is as long as it was, so Resolve has left all as it was
-pub none_resolved : (s s2 : Described) (r r2 : Row) → s2 ≡ record s { machine = (resolve s.desc s.machine).machine } →
-    r2 ≡ with_events r (resolve s.desc s.machine).events → length r2.events ≡ length r.events → s2.machine.window ≡ s.machine.window
-none_resolved s s2 r r2 e q same =
-    ap (λ (s : Described). s.machine.window) e
-    ∙ ap (λ (a : After). a.machine.window) (resolve_nothing s.desc s.machine (none_resolves s.desc s.machine (no_more r r2 (resolve s.desc s.machine).events q same)))
 
 -- ---- Clear
 

@@ -14,10 +14,11 @@ use Rattle.window_model.specs.declared.Outcome.{Outcome}
 use Rattle.window_model.specs.State.{Machine, After, nothing}
 use Rattle.window_model.specs.Access.{covers}
 use Rattle.window_model.specs.Clear.{clear_at, clear_with, cleared_one, clears, is_violated, may_clear, passed, shares, violated_by, violates}
-use Rattle.window_model.specs.Dependence.{bit_index, bit_set, passing}
+use Rattle.machine_desc.specs.Questions.{loads_pass}
+use Rattle.window_model.specs.Dependence.{bit_index, bit_set}
 use Rattle.window_model.specs.Order.{Place, first, first_from, fault_of, has_address, is_load, is_store}
 use Rattle.window_model.specs.Resolve.{freed_from}
-use Rattle.window_model.specs.Retire.{addr_of, width_of}
+use Rattle.window_model.specs.Retire.{addr_of, byte_count}
 use Rattle.window_model.proofs.Clearing.{clear_parts}
 use Rattle.window_model.proofs.Places.{Found, found}
 use Rattle.noninterference.specs.Alike.{Alike, shown, shown_after, without_outcome}
@@ -62,7 +63,7 @@ module _ (e e2 : Entry) (h : without_outcome e ≡ without_outcome e2) (same : (
   shares_alike : (model : SttModel) (b : List Entry) (y y2 : Entry) → SameEntry model b y y2 → is_load y.item.kind ≡ true → shares e y ≡ shares e2 y2
   shares_alike model b y y2 s q =
       let l = load_alike y.item.kind model b y y2 q s.outcomes in
-      ap₂ (λ f c. not (is_some f) && c) l.1 (any_same_list (λ a. covers a e) (λ a. covers a e2) _ _ (ap₂ range l.0 (ap width_of s.but_outcome)) same)
+      ap₂ (λ f c. not (is_some f) && c) l.1 (any_same_list (λ a. covers a e) (λ a. covers a e2) _ _ (ap₂ range l.0 (ap byte_count s.but_outcome)) same)
 
   violated_alike : (model : SttModel) (b : List Entry) (y y2 : Entry) → SameEntry model b y y2 → is_violated e y ≡ is_violated e2 y2
   violated_alike model b y y2 s =
@@ -121,7 +122,7 @@ module _ (d : Desc) (p p2 : Place) (s : SameShape d.stt_model p p2) (m m2 : Mach
   violates_tell : (v v2 : Place) → SameBetween v v2 → shown_after (violates d p v m) ≡ shown_after (violates d p2 v2 m2)
   violates_tell v v2 t =
       let G : Machine → List Entry → Entry → Entry → ℕ → After = λ m w e l n. record {
-        machine = record m { window = w; queue = []; fetch_pc = Some l.item.pc; mark = l.item.mark; divider = freed_from l.serial m.divider; dependence = bit_set d l.item.pc m.dependence };
+        machine = record m { window = w; queue = []; fetch_pc = Some l.item.pc; checkpoint = l.item.checkpoint; divider = freed_from l.serial m.divider; dependence = bit_set d l.item.pc m.dependence };
         events = event.Clr e.serial ∷ event.Vio l.serial ∷ event.Dp (bit_index d l.item.pc) 1 ∷ event.Sq (n + 1 + length m.queue) ∷ [];
       } in
       let w2 = map without_outcome (reverse p2.before ++ cleared_one p2.entry ∷ reverse v2.before) in
@@ -175,4 +176,4 @@ module _ (d : Desc) (x x2 : Machine) (a : OutcomesAgree d.stt_model x x2) (q : A
   clear_alike false = ap (λ (m : Machine). nothing m) q
 
 pub clear_tells_nothing : ClearTellsNothing
-clear_tells_nothing d x x2 r o = clear_alike d x x2 o r (passing d)
+clear_tells_nothing d x x2 r o = clear_alike d x x2 o r (loads_pass d)

@@ -10,7 +10,7 @@ use Rattle.window_model.specs.declared.Outcome.{Outcome}
 use Rattle.window_model.specs.Access.{covers, reaches}
 use Rattle.window_model.specs.MayIssue.{lets, stores_let}
 use Rattle.window_model.specs.Order.{fault_of, has_address, has_data, is_store}
-use Rattle.window_model.specs.Retire.{addr_of, width_of}
+use Rattle.window_model.specs.Retire.{addr_of, byte_count}
 use Rattle.window_model.specs.Taint.{address_tainted}
 use Rattle.noninterference.specs.Outcomes.{SameEntry, SameOutcome, SameOutcomes}
 use Rattle.noninterference.proofs.Looking.{any_same_list}
@@ -26,17 +26,17 @@ same_reaches a n None (Some o2) i ad f = absurd (cc)
 same_reaches a n (Some o) None i ad f = absurd (cc)
 
 covers_by : (k : Kind) (model : SttModel) (b : List Entry) (e e2 : Entry) (a : ℕ) → is_some e.outcome ≡ is_some e2.outcome → SameOutcome k model b e e2 →
-    (is_store k ≡ true → address_tainted model b e ≡ false) → width_of e ≡ width_of e2 → (is_store k && has_address e && reaches a (width_of e) e.outcome) ≡ (is_store k && has_address e && reaches a (width_of e2) e2.outcome)
+    (is_store k ≡ true → address_tainted model b e ≡ false) → byte_count e ≡ byte_count e2 → (is_store k && has_address e && reaches a (byte_count e) e.outcome) ≡ (is_store k && has_address e && reaches a (byte_count e2) e2.outcome)
 covers_by Store model b e e2 a i o t w =
     let q = o.0 (t refl) in
-    ap (λ r. has_address e && r) (same_reaches a (width_of e) e.outcome e2.outcome i q.0 q.1 ∙ ap (λ n. reaches a n e2.outcome) w)
+    ap (λ r. has_address e && r) (same_reaches a (byte_count e) e.outcome e2.outcome i q.0 q.1 ∙ ap (λ n. reaches a n e2.outcome) w)
 covers_by _ model b e e2 a i o t w = refl
 
 -- a store with an untainted address covers the same bytes in both runs
 pub same_covers : (model : SttModel) (b : List Entry) (e e2 : Entry) (a : ℕ) → SameEntry model b e e2 → (is_store e.item.kind ≡ true → address_tainted model b e ≡ false) → covers a e ≡ covers a e2
 same_covers model b e e2 a h t =
-    covers_by e.item.kind model b e e2 a h.issued h.outcomes t (ap width_of h.but_outcome)
-    ∙ ap (λ (u : Entry). is_store u.item.kind && has_address u && reaches a (width_of e2) e2.outcome) h.but_outcome
+    covers_by e.item.kind model b e e2 a h.issued h.outcomes t (ap byte_count h.but_outcome)
+    ∙ ap (λ (u : Entry). is_store u.item.kind && has_address u && reaches a (byte_count e2) e2.outcome) h.but_outcome
 
 -- ---- what lets a load go
 

@@ -20,7 +20,7 @@ use Rattle.rv_types.specs.declared.Op.TheVariants as op
 use Rattle.machine_desc.specs.declared.SttModel.{SttModel}
 use Rattle.window_model.specs.declared.Entry.{Entry}
 use Rattle.window_model.specs.Order.{base_of, is_load, is_store}
-use Rattle.window_model.specs.Retire.{width_of, width_in}
+use Rattle.window_model.specs.Retire.{byte_count, width_in}
 use Rattle.window_model.specs.Taint.{tainted, any_tainted, address_tainted}
 use Rattle.window_model.specs.Fetch.{instr_at, kind_at}
 use Rattle.window_model.specs.Shape.{SameShape}
@@ -34,10 +34,10 @@ use Rattle.noninterference.proofs.SameBytes.{same_bytes}
 
 -- a load of equal bytes has one outcome
 pub load_same : (s s2 : Bank) (e e2 : Entry) → SameShape s.ram s2.ram → e.item.instr ≡ e2.item.instr → effect_on s e ≡ effect_on s2 e2 →
-    All (λ a. byte s.ram a ≡ byte s2.ram a) (unless_fault (load_fault s.ram (effect_on s e).addr (width_of e)) (range (effect_on s e).addr (width_of e))) → replayed_as Load s e ≡ replayed_as Load s2 e2
+    All (λ a. byte s.ram a ≡ byte s2.ram a) (unless_fault (load_fault s.ram (effect_on s e).addr (byte_count e)) (range (effect_on s e).addr (byte_count e))) → replayed_as Load s e ≡ replayed_as Load s2 e2
 load_same s s2 e e2 p i f b =
     let a = (effect_on s e).addr in
-    let w = width_of e in
+    let w = byte_count e in
     let bytes = λ (n : load_fault s.ram a w ≡ None).
     let r = inside _ _ s.ram a w n in
     ap (λ (f : Effect). bytes_at s2.ram f.addr w) (sym f) ∙ sym (same_bytes s.ram s2.ram a w p r.0 r.1 (subst (λ c. All (λ a. byte s.ram a ≡ byte s2.ram a) (unless_fault c (range a w))) n b)) in
@@ -61,7 +61,7 @@ op_is f _ m d a = a
 
 -- the bytes that a load's instruction loads in a step are those of its access in the replay
 pub is_load_instr : (i : Instr) → kind_of i ≡ Load → (s : Bank) (e : Entry) → e.item.instr ≡ i →
-    loads_of (record { pc = e.item.pc; regs = s.regs; ram = s.ram }) i ≡ unless_fault (load_fault s.ram (effect_on s e).addr (width_of e)) (range (effect_on s e).addr (width_of e))
+    loads_of (record { pc = e.item.pc; regs = s.regs; ram = s.ram }) i ≡ unless_fault (load_fault s.ram (effect_on s e).addr (byte_count e)) (range (effect_on s e).addr (byte_count e))
 is_load_instr (instr.Load op rd rs1 imm) k s e q = rw q refl
 is_load_instr (instr.Jal rd imm) k s e q = absurd (let j = jal_kind is_load (word imm % 4 == 0) jump_misaligned refl refl in let t = ap is_load k in cc)
 is_load_instr (instr.OpReg o rd rs1 rs2) k s e q = absurd (let j = op_is is_load o refl refl refl in let t = ap is_load k in cc)

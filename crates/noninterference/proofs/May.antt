@@ -15,9 +15,10 @@ use Rattle.window_model.specs.MayIssue.{address_of, bytes_of, goes_behind, may_i
 use Rattle.window_model.specs.Ports.{Port, AddressPort, DataPort, asking, is_granted, may_at, part_may, port_of, ports, same_port}
 use Rattle.window_model.proofs.Together.{address_part, data_part, is_whole, ready_part}
 use Rattle.window_model.specs.Order.{base_of, has_address, has_data, is_store, is_waiting, others_of, sources}
-use Rattle.window_model.specs.Dependence.{passing, waits_for_stores}
+use Rattle.machine_desc.specs.Questions.{loads_pass}
+use Rattle.window_model.specs.Dependence.{waits_for_stores}
 use Rattle.window_model.specs.Ready.{all_known, ready}
-use Rattle.window_model.specs.Retire.{width_of}
+use Rattle.window_model.specs.Retire.{byte_count}
 use Rattle.window_model.specs.Shape.{SameShape}
 use Rattle.window_model.specs.Taint.{address_tainted, any_tainted}
 use Rattle.window_model.proofs.Booleans.{not_true}
@@ -52,16 +53,16 @@ module _ (d : Desc) (x x2 : Machine) (r : Alike x x2) (place : SameShape x.ram x
     bytes_alike : address_tainted d.stt_model b e ≡ false → bytes_of now b e ≡ bytes_of now2 b2 e2
     bytes_alike t =
         let a = address_alike d.stt_model x x2 regs_same b b2 s e e2 h t in
-        let w : width_of e ≡ width_of e2 = ap width_of h in
+        let w : byte_count e ≡ byte_count e2 = ap byte_count h in
         let a2 = address_of x2.regs b2 e2 in
-        ap (λ a. unless_fault (load_fault x.ram a (width_of e)) (range a (width_of e))) a
+        ap (λ a. unless_fault (load_fault x.ram a (byte_count e)) (range a (byte_count e))) a
         ∙ ap (λ w. unless_fault (load_fault x.ram a2 w) (range a2 w)) w
-        ∙ ap (λ c. unless_fault c (range a2 (width_of e2))) (sym (same_fault load_misaligned load_outside x.ram x2.ram a2 (width_of e2) place))
+        ∙ ap (λ c. unless_fault c (range a2 (byte_count e2))) (sym (same_fault load_misaligned load_outside x.ram x2.ram a2 (byte_count e2) place))
 
     -- two runs see alike whether a load passes stores: its bit tells
     passes_alike : passes_stores d now e ≡ passes_stores d now2 e2
     passes_alike =
-        ap (λ (m : Machine). passing d && not (waits_for_stores d m.dependence e.item.pc)) r ∙ ap (λ (t : Entry). passes_stores d now2 t) h
+        ap (λ (m : Machine). loads_pass d && not (waits_for_stores d m.dependence e.item.pc)) r ∙ ap (λ (t : Entry). passes_stores d now2 t) h
 
     -- two runs see alike whether a load with an untainted base goes behind the older stores
     behind_alike : address_tainted d.stt_model b e ≡ false → goes_behind d now b e ≡ goes_behind d now2 b2 e2

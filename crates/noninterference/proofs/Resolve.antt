@@ -10,7 +10,7 @@ use Rattle.window_model.specs.declared.Event.{Event}
 use Rattle.window_model.specs.State.{Machine, After}
 use Rattle.window_model.specs.Order.{Place, is_control, is_done, is_faulty}
 use Rattle.window_model.specs.Taint.{any_tainted}
-use Rattle.window_model.specs.Resolve.{resolve_at, may_resolve, Learnt, learn_as, with_predictor, squash, keep, squashes, freed_from, next_of, true_mark}
+use Rattle.window_model.specs.Resolve.{resolve_at, may_resolve, Learnt, learn_as, with_predictor, squash, keep, squashes, freed_from, next_of, true_checkpoint}
 use Rattle.window_model.specs.declared.Event.TheVariants as event
 use Rattle.window_model.proofs.Booleans.{both, not_true}
 use Rattle.window_model.proofs.Places.{found}
@@ -44,7 +44,7 @@ squash_tells d b b2 e y y2 m m2 h l q =
     let w = left_over b b2 (record e { resolved = true }) (record e { resolved = true }) [] [] h refl refl in
     let n = same_length y y2 l in
     let G : Machine → List Entry → ℕ → After = λ m w n. record {
-      machine = record m { window = w; queue = []; fetch_pc = if is_faulty e then None else Some (next_of e.outcome); mark = true_mark d e; divider = freed_from (e.serial + 1) m.divider };
+      machine = record m { window = w; queue = []; fetch_pc = if is_faulty e then None else Some (next_of e.outcome); checkpoint = true_checkpoint d e; divider = freed_from (e.serial + 1) m.divider };
       events = event.Sq (n + length m.queue) ∷ [];
     } in
     ap (λ m. G m (map without_outcome (reverse b ++ record e { resolved = true } ∷ [])) (length y)) q

@@ -84,7 +84,7 @@ fn memories_agree(state: &mut Isa, model: SttModel, one: &Ram, two: &[u8], steps
 /// Whether two images in memories of one place are to be told apart by nothing that a model's path through the code of
 /// both loads: they have one code, one entry and one rule for addresses, and their memories agree on each byte that the
 /// path loads in so many steps from where the first begins. The state goes on as far as that takes.
-pub fn agree_for(
+pub(crate) fn agree_for(
     state: &mut Isa,
     model: SttModel,
     same_code: bool,

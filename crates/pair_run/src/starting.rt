@@ -13,7 +13,7 @@ use std::alloc::Global;
 
 /// The entry of an image, and its memory as it is at first. It has no code: a core holds that.
 #[derive(Drop)]
-pub struct Start {
+pub(crate) struct Start {
     pub entry: u32,
     pub ram: Ram,
 }
@@ -33,7 +33,7 @@ impl Start {
 
 /// Where the runs of two images begin, and the instruction set's state where the first one begins, which goes its path.
 #[derive(Drop)]
-pub struct Starts {
+pub(crate) struct Starts {
     pub one: Start,
     pub two: Start,
     pub path: Isa,
@@ -58,7 +58,7 @@ impl Starts {
 
 /// The two cores of a comparison, before their first cycle.
 #[derive(Drop)]
-pub struct Cores<R: RenameTaint + Drop> {
+pub(crate) struct Cores<R: RenameTaint + Drop> {
     pub first: Core<R>,
     pub second: Core<R>,
 }

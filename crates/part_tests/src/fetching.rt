@@ -68,7 +68,7 @@ fn taught(alloc: Global, desc: &Desc, history: &History, target: u32) -> Result<
     ensures { IfOk result (λ p. length p.counters ≡ desc.now.predictor_counters) }
 {
     let mut predictor = Predictor::new(alloc, desc)?;
-    let _ = predictor.learn_branch(history.index(history.mark(), BRANCH), true);
+    let _ = predictor.learn_branch(history.index(history.checkpoint(), BRANCH), true);
     let _ = predictor.learn_target(RETURN, target);
     Ok(predictor)
 }

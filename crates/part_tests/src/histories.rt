@@ -5,7 +5,7 @@ use crate::descriptions::{largest, small};
 use history_pred::History;
 use rv_types::{Instr, Kind, Reg};
 use std::test::Fail;
-use window_model::{Item, Mark};
+use window_model::{Checkpoint, Item};
 
 // A JALR that writes one register and goes by another.
 fn jump(rd: u8, rs1: u8) -> Instr {
@@ -23,7 +23,7 @@ fn item(kind: Kind, instr: Instr) -> Item {
         instr,
         kind,
         predicted: None,
-        mark: Mark::default(),
+        checkpoint: Checkpoint::default(),
     }
 }
 
@@ -41,12 +41,12 @@ fn the_history_keeps_three_directions(rt: HostRuntime) -> Result<(), Fail> {
     ];
     for (taken, want) in rows {
         history.shift(taken);
-        assert_same(&rt, &history.mark().history, &want);
+        assert_same(&rt, &history.checkpoint().history, &want);
     }
     // The word's number is 0x4001, and the counters are sixteen.
     let places = [
-        history.index(history.mark(), 0x10004),
-        history.index(&Mark::default(), 0x10004),
+        history.index(history.checkpoint(), 0x10004),
+        history.index(&Checkpoint::default(), 0x10004),
     ];
     assert_same(&rt, &places, &[7, 1]);
     Ok(())
@@ -57,7 +57,7 @@ fn the_stack_drops_its_oldest(rt: HostRuntime) -> Result<(), Fail> {
     let mut history = History::new(&small(rt.alloc())?);
     history.push(0x100);
     history.push(0x200);
-    let before = *history.mark();
+    let before = *history.checkpoint();
     history.push(0x300);
     for want in [Some(0x300), Some(0x200), None] {
         assert_same(&rt, &history.pop(), &want);
@@ -88,8 +88,8 @@ fn items_are_followed(rt: HostRuntime) -> Result<(), Fail> {
             history.returns_to(&jump(0, 1)),
             history.returns_to(&jump(1, 1)),
         ];
-        let mark = history.mark();
-        let as_many = mark.depth == depth && mark.history == directions;
+        let checkpoint = history.checkpoint();
+        let as_many = checkpoint.depth == depth && checkpoint.history == directions;
         assert_same(&rt, &(&instr, as_many, told), &(&instr, true, [want, None]));
     }
     Ok(())
@@ -102,7 +102,7 @@ fn the_largest_keeps_twelve_directions_and_sixteen_addresses(rt: HostRuntime) ->
         history.shift(true);
         history.push(addr);
     }
-    assert_same(&rt, &history.mark().history, &0xfff);
+    assert_same(&rt, &history.checkpoint().history, &0xfff);
     for addr in 0..16 {
         assert_same(&rt, &history.pop(), &Some(16 - addr));
     }

@@ -15,8 +15,8 @@ fn told(stations: &Stations, i: u32) -> [bool; 4] {
     }
     [
         stations.ready(i),
-        stations.ready_part(i, Part::Base),
-        stations.ready_part(i, Part::Other),
+        stations.ready_part(i, Part::Address),
+        stations.ready_part(i, Part::Data),
         stations.able(i),
     ]
 }
@@ -72,10 +72,10 @@ fn a_part_that_is_left_needs_its_own_source(rt: HostRuntime) -> Result<(), Fail>
     let alloc = rt.alloc();
     // What the entry needs once its other part has issued, who is Done then, and whether the entry may issue.
     let rows = [
-        (Wants::Other, 3, false),
-        (Wants::Other, 67, true),
-        (Wants::Base, 3, true),
-        (Wants::Base, 67, false),
+        (Wants::Data, 3, false),
+        (Wants::Data, 67, true),
+        (Wants::Address, 3, true),
+        (Wants::Address, 67, false),
     ];
     let desc = small(alloc)?;
     for (wants, done, able) in rows {

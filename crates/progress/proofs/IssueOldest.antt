@@ -26,7 +26,7 @@ use Rattle.window_model.specs.Ready.{ready, all_known}
 use Rattle.window_model.specs.Fill.{is_due}
 use Rattle.window_model.specs.Around.{Around, around, is_free}
 use Rattle.window_model.specs.Access.{Access, Faults, Forwards, Looks, Waits, Line, access_at, all_covered, any_store_hidden, look_up, misses_after, prefetched, requests, unless_lacking}
-use Rattle.window_model.specs.Retire.{op_of, width_of}
+use Rattle.window_model.specs.Retire.{op_of, byte_count}
 use Rattle.window_model.specs.MayIssue.{effect_of, may_issue_as}
 use Rattle.window_model.specs.Ports.{AddressPort, DataPort, DivPort, LoadPort, is_granted, may_at, ports, port_of, same_port}
 use Rattle.window_model.specs.Issue.{Begun, busy_until_both, if_granted, with_address, with_data, issue, issue_entry, begin_as, load_as, access_of, waits, value_loaded, time_of, after_load, divider_after}
@@ -143,13 +143,13 @@ module _ (d : Desc) (now : Around) (i : IsDesc d) (allows : Allows d now.ram) (o
   by_covered false = by_room _ refl
 
 waits_for_some : (d : Desc) (now : Around) → IsDesc d → Allows d now.ram → (b : List Entry) (e : Entry) → WaitsForSome now (access_of d now b e)
-waits_for_some d now i allows b e = by_fault (load_fault now.ram (effect_of now.regs b e).addr (width_of e)) refl
+waits_for_some d now i allows b e = by_fault (load_fault now.ram (effect_of now.regs b e).addr (byte_count e)) refl
   where
-    by_fault : (o : Option Cause) → load_fault now.ram (effect_of now.regs b e).addr (width_of e) ≡ o → WaitsForSome now (access_at d now b (effect_of now.regs b e).addr (width_of e) o)
+    by_fault : (o : Option Cause) → load_fault now.ram (effect_of now.regs b e).addr (byte_count e) ≡ o → WaitsForSome now (access_at d now b (effect_of now.regs b e).addr (byte_count e) o)
     by_fault (Some c) q = tt
     by_fault None q =
         let a = (effect_of now.regs b e).addr in
-        by_covered d now i allows (op_of e.item.instr) a q (all_covered b a (width_of e) && not (any_store_hidden d.stt_model b))
+        by_covered d now i allows (op_of e.item.instr) a q (all_covered b a (byte_count e) && not (any_store_hidden d.stt_model b))
 
 -- a load whose lines come soon, or waits while some register is taken
 load_nearer : (a : Access) (d : Desc) (x0 x : Machine) (e : Entry) (f : Effect) (v y : ℕ) (ms : List Miss) (g : ℕ) → IsDesc d → Timely d x → Began d x0 x → LooksSoon d (around x) a → WaitsForSome (around x) a → y ≡ x.cycle →

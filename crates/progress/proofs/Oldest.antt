@@ -13,7 +13,7 @@ use Rattle.window_model.specs.Order.{Place, first, first_from, is_done, is_contr
 use Rattle.window_model.specs.Taint.{any_tainted, address_tainted, tainted}
 use Rattle.window_model.specs.Ready.{is_known, all_known, ready}
 use Rattle.window_model.specs.Resolve.{resolve, resolve_at, may_resolve, learn, squash, keep, squashes, is_from, with_predictor}
-use Rattle.window_model.specs.Dependence.{passing}
+use Rattle.machine_desc.specs.Questions.{loads_pass}
 use Rattle.window_model.specs.Clear.{clear, clear_at, clear_with, cleared_one, may_clear, violated_by}
 use Rattle.window_model.specs.Retire.{may_leave}
 use Rattle.window_model.proofs.Booleans.{both, done_waits}
@@ -173,11 +173,11 @@ module _ (d : Desc) (h : Entry) (younger : List Entry) (x : Machine) where
       record { entry = cleared_one h; rest = a.0; shape = a.1; state = refl; item = refl; resolved = refl; cleared = λ s k. refl }
 
   clear_oldest : StaysCleared d h → GetsCleared h (clear d whole).machine.window
-  clear_oldest s = by_passing (passing d) refl
+  clear_oldest s = by_passing (loads_pass d) refl
     where
-      by_passing : (b : Bool) → passing d ≡ b → GetsCleared h (if b then clear_at d (first (may_clear d) (h ∷ younger)) whole else nothing whole).machine.window
+      by_passing : (b : Bool) → loads_pass d ≡ b → GetsCleared h (if b then clear_at d (first (may_clear d) (h ∷ younger)) whole else nothing whole).machine.window
       by_passing true q = clears_first (may_clear d [] h) refl
-      by_passing false q = as_it_is (λ k a. s (needs_none (passing d) (is_store h.item.kind) q))
+      by_passing false q = as_it_is (λ k a. s (needs_none (loads_pass d) (is_store h.item.kind) q))
 
 -- ---- Resolve and Clear together
 
@@ -222,7 +222,7 @@ clear_goes d h y o p s =
 
 -- where there is no entry there is nothing to clear
 pub clear_empty : (d : Desc) (x : Machine) → (clear d (record x { window = [] })).machine ≡ record x { window = [] }
-clear_empty d x = by_passing (passing d)
+clear_empty d x = by_passing (loads_pass d)
   where
     by_passing : (b : Bool) → (if b then nothing (record x { window = [] }) else nothing (record x { window = [] })).machine ≡ record x { window = [] }
     by_passing true = refl

@@ -6,7 +6,7 @@ use Rattle.window_model.specs.declared.Entry.{Entry}
 use Rattle.window_model.specs.declared.Outcome.{Outcome}
 use Rattle.window_model.specs.Order.{fault_of, has_address, has_data, is_store}
 use Rattle.window_model.specs.Access.{covers, reaches}
-use Rattle.window_model.specs.Retire.{addr_of, width_of}
+use Rattle.window_model.specs.Retire.{addr_of, byte_count}
 use Rattle.window_model.proofs.Booleans.{both}
 use Rattle.lsq.specs.declared.store.Store.{Store}
 use Rattle.queue_laws.specs.Window.{Area, Shown, StoresStandFor, area_in, shown_entry, shown_store, stores_in}
@@ -48,12 +48,12 @@ reach_of : (a n : ℕ) (o : Option Outcome) → is_some o ≡ true → (not (is_
 reach_of a n (Some o) h = refl
 reach_of a n None h = absurd (cc)
 
-reach_by : (a : ℕ) (e : Entry) (p : Bool) → (p ≡ true → is_some e.outcome ≡ true) → reaches_shown a (if p then Some (area_in e) else None) ≡ (p && reaches a (width_of e) e.outcome)
-reach_by a e true h = reach_of a (width_of e) e.outcome (h refl)
+reach_by : (a : ℕ) (e : Entry) (p : Bool) → (p ≡ true → is_some e.outcome ≡ true) → reaches_shown a (if p then Some (area_in e) else None) ≡ (p && reaches a (byte_count e) e.outcome)
+reach_by a e true h = reach_of a (byte_count e) e.outcome (h refl)
 reach_by a e false h = refl
 
 -- a store that is computed shows the bytes that it covers
 pub covers_shown : (a : ℕ) (e : Entry) → is_store e.item.kind ≡ true → (shown_entry e).computed ≡ true → reaches_shown a (shown_entry e).span ≡ covers a e
 covers_shown a e s u =
     reach_by a e (has_address e) (has_outcome (has_address e) (has_data e) (is_some e.outcome) u)
-    ∙ ap (λ b. b && has_address e && reaches a (width_of e) e.outcome) (sym s)
+    ∙ ap (λ b. b && has_address e && reaches a (byte_count e) e.outcome) (sym s)

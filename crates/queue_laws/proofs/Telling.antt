@@ -11,7 +11,7 @@ use Rattle.window_model.specs.Order.{has_address, has_data, is_store}
 use Rattle.window_model.specs.Taint.{address_tainted}
 use Rattle.window_model.specs.Access.{byte_from, byte_of, covers, reaches}
 use Rattle.window_model.specs.MayIssue.{stores_let}
-use Rattle.window_model.specs.Retire.{stored_of, width_of}
+use Rattle.window_model.specs.Retire.{stored_of, byte_count}
 use Rattle.window_model.proofs.Booleans.{both}
 use Rattle.lsq.specs.declared.store.Span.{Span}
 use Rattle.lsq.specs.declared.store.Store.{Store}
@@ -74,7 +74,7 @@ byte_let : (model : SttModel) (passes : Bool) (a : ℕ) (bytes : List ℕ) (befo
 byte_let model passes a bytes [] h = (refl, refl)
 byte_let model passes a bytes (e ∷ before) h =
     let p = both _ (stores_let model passes (a ∷ bytes) before) h in
-    let one = split_one (is_store e.item.kind) (has_address e) passes (has_data e) (address_tainted model before e) (reaches a (width_of e) e.outcome) (list_any (λ a. covers a e) bytes) p.0 in
+    let one = split_one (is_store e.item.kind) (has_address e) passes (has_data e) (address_tainted model before e) (reaches a (byte_count e) e.outcome) (list_any (λ a. covers a e) bytes) p.0 in
     joined (gives a e) _ (list_all (gives a) before) (stores_let model passes bytes before) one.0 one.1 (byte_let model passes a bytes before p.1)
 
 -- the byte of the youngest that covers it
@@ -93,7 +93,7 @@ has_there true false q h = absurd (cc)
 has_there false p q h = absurd (cc)
 
 not_covered : (a : ℕ) (e : Entry) → is_store e.item.kind ≡ false → covers a e ≡ false
-not_covered a e h = ap (λ b. b && has_address e && reaches a (width_of e) e.outcome) h
+not_covered a e h = ap (λ b. b && has_address e && reaches a (byte_count e) e.outcome) h
 
 found_one : (a : ℕ) (b : Bool) (e : Entry) (f : List Entry) (o : Option Entry) → is_store e.item.kind ≡ b → gives a e ≡ true → (b ≡ true → (shown_entry e).computed ≡ true) →
     forwarded_shown (map shown_entry f) a ≡ option_map (byte_from a) o →
@@ -101,7 +101,7 @@ found_one : (a : ℕ) (b : Bool) (e : Entry) (f : List Entry) (o : Option Entry)
 found_one a true e f o s g u h =
     ap (λ c. option_or (byte_there a c (shown_entry e).span (shown_entry e).stored) (forwarded_shown (map shown_entry f) a)) (covers_shown a e s (u refl))
     ∙ found_as a (covers a e) (has_address e) (has_data e) e (forwarded_shown (map shown_entry f) a) o
-    (has_there (is_store e.item.kind) (has_address e) (reaches a (width_of e) e.outcome)) g h
+    (has_there (is_store e.item.kind) (has_address e) (reaches a (byte_count e) e.outcome)) g h
 found_one a false e f o s g u h = h ∙ ap (λ c. option_map (byte_from a) (cond c (Some e) o)) (sym (not_covered a e s))
 
 found_entries : (a : ℕ) (before : List Entry) → list_all (gives a) before ≡ true → all_computed (stores_in before) ≡ true → forwarded_shown (stores_in before) a ≡ option_map (byte_from a) (find (covers a) before)

@@ -10,7 +10,7 @@ use Rattle.window_model.specs.declared.Entry.{Entry}
 use Rattle.window_model.specs.Access.{covers}
 use Rattle.window_model.specs.Clear.{is_before, is_violated as violates_entry, shares}
 use Rattle.window_model.specs.Order.{Place, first, first_from, is_faulty, is_load, is_store}
-use Rattle.window_model.specs.Retire.{addr_of, width_of}
+use Rattle.window_model.specs.Retire.{addr_of, byte_count}
 use Rattle.window_model.specs.Serials.{Rise}
 use Rattle.window_model.proofs.Serials.{all_right, rise_head, rise_tail}
 use Rattle.lsq.specs.declared.load.Access.{Access}
@@ -103,8 +103,8 @@ joined false b c = refl
 wrong_as : (store e : Entry) (k : Option ℕ) (i : Option ℕ) → ((a : ℕ) → reaches_shown a (shown_entry store).span ≡ covers a store) →
     wrong_by (shown_entry store).span k (option_map (λ cycle. record { area = area_in e; cycle = cycle }) i) ≡ (is_before i k && shares store e)
 wrong_as store e (Some from) (Some cycle) h =
-    ap (λ b. nat_lt cycle from && not (is_faulty e) && b) (any_same (λ b. reaches_shown b (shown_entry store).span) (λ a. covers a store) h (range (addr_of e.outcome) (width_of e)))
-    ∙ joined (nat_lt cycle from) (not (is_faulty e)) (list_any (λ a. covers a store) (range (addr_of e.outcome) (width_of e)))
+    ap (λ b. nat_lt cycle from && not (is_faulty e) && b) (any_same (λ b. reaches_shown b (shown_entry store).span) (λ a. covers a store) h (range (addr_of e.outcome) (byte_count e)))
+    ∙ joined (nat_lt cycle from) (not (is_faulty e)) (list_any (λ a. covers a store) (range (addr_of e.outcome) (byte_count e)))
 wrong_as store e (Some from) None h = refl
 wrong_as store e None (Some cycle) h = refl
 wrong_as store e None None h = refl

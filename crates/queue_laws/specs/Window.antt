@@ -7,7 +7,7 @@ use Rattle.rv_types.specs.declared.Cause.{Cause}
 use Rattle.machine_desc.specs.declared.SttModel.{SttModel}
 use Rattle.window_model.specs.declared.Entry.{Entry}
 use Rattle.window_model.specs.Order.{fault_of, has_address, has_data, is_load, is_store}
-use Rattle.window_model.specs.Retire.{addr_of, stored_of, width_of}
+use Rattle.window_model.specs.Retire.{addr_of, stored_of, byte_count}
 use Rattle.window_model.specs.Taint.{address_tainted}
 use Rattle.lsq.specs.declared.clearing.StoreInfo.{StoreInfo}
 use Rattle.lsq.specs.declared.load.Access.{Access}
@@ -42,7 +42,7 @@ shown_store s = record { serial = s.serial; span = option_map area_of s.span; st
 
 -- what a store of the window writes on
 abbrev pub area_in : Entry → Area
-area_in e = record { addr = addr_of e.outcome; bytes = width_of e; fault = fault_of e.outcome }
+area_in e = record { addr = addr_of e.outcome; bytes = byte_count e; fault = fault_of e.outcome }
 
 -- of a store of the window
 abbrev pub shown_entry : Entry → Shown

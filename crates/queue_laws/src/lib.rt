@@ -1,8 +1,8 @@
 //! The two queues of `lsq` stand for a window's loads and stores.
 //!
 //! `specs/Window.antt` says what that is, and what they track besides where loads may pass stores of unknown address;
-//! `specs/Laws.antt` that such queues tell of a window what the machine's definitions find in it. That each step of a cycle
-//! keeps them with the window is told by `core_parts`, over the lemmas of `proofs/`.
+//! `specs/Laws.antt` that such queues tell of a window what the machine's definitions find in it. That each step of a
+//! cycle keeps them with the window is told by `core_parts`, over the lemmas of `proofs/`.
 #![tactic(auto)]
 
 ghost use Rattle.queue_laws.specs.Laws.{

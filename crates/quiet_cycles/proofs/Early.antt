@@ -18,7 +18,7 @@ use Rattle.window_model.specs.Order.{Place, first, is_faulty}
 use Rattle.window_model.specs.Fill.{fill, is_due, lines, with_line, complete, completed, completes, completes_at}
 use Rattle.window_model.specs.SecondLevel.{second_with_line}
 use Rattle.window_model.specs.Resolve.{resolve, resolve_at, may_resolve, learn, learn_as, learn_target, next_of}
-use Rattle.window_model.specs.Dependence.{passing}
+use Rattle.machine_desc.specs.Questions.{loads_pass}
 use Rattle.window_model.specs.Clear.{clear, clear_at, clear_with, may_clear, violated_by}
 use Rattle.window_model.proofs.Lists.{each_then}
 use Rattle.quiet_cycles.specs.Still.{NotDueBefore, NotDoneBefore, at_cycle}
@@ -116,7 +116,7 @@ none_cleared d c None x h = refl
 none_cleared d c (Some p) x h = absurd (clear_tells d p (violated_by p) x h)
 
 pub clear_nothing : (d : Desc) (c : ℕ) (x : Machine) → (clear d x).events ≡ [] → clear d (at_cycle c x) ≡ nothing (at_cycle c x)
-clear_nothing d c x = by_passing (passing d)
+clear_nothing d c x = by_passing (loads_pass d)
   where
     by_passing : (b : Bool) → (if b then clear_at d (first (may_clear d) x.window) x else nothing x).events ≡ [] →
         (if b then clear_at d (first (may_clear d) x.window) (at_cycle c x) else nothing (at_cycle c x)) ≡ nothing (at_cycle c x)

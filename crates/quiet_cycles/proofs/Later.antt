@@ -17,7 +17,7 @@ use Rattle.window_model.specs.State.{Machine}
 use Rattle.window_model.specs.Order.{is_store, is_waiting}
 use Rattle.window_model.specs.Taint.{any_tainted}
 use Rattle.window_model.specs.Ready.{ready}
-use Rattle.window_model.specs.Retire.{width_of}
+use Rattle.window_model.specs.Retire.{byte_count}
 use Rattle.window_model.specs.Access.{Access, Faults, access_at}
 use Rattle.window_model.specs.MayIssue.{may_issue_as, effect_of}
 use Rattle.window_model.specs.Ports.{Port, AddressPort, DataPort, port_of, ports, part_may, same_port, asking, is_granted, may_at}
@@ -54,7 +54,7 @@ module _ (d : Desc) (x : Machine) (c : ℕ) where
   begins_as_before Load before e =
       let f = effect_of x.regs before e in
       let v = value_loaded x.ram before e f.addr in
-      ap (λ a. (load_as a d later e f v).events) (same_access before f.addr (width_of e) (load_fault x.ram f.addr (width_of e)))
+      ap (λ a. (load_as a d later e f v).events) (same_access before f.addr (byte_count e) (load_fault x.ram f.addr (byte_count e)))
       ∙ load_as_before (access_of d now before e) e f v
   begins_as_before _ before e = refl
 

@@ -1,5 +1,5 @@
--- A part is a column of footprints, and stays one as entries come, go on and leave: one law for each change of a list of footprints,
--- whatever the part.
+-- A part is a column of footprints, and stays one as entries come, go on and leave: one law for each change of a list
+-- of footprints, whatever the part.
 use Rattle.std.proofs.Common.{Bool, List, None, Option, Some, [], ap, ap₂, arith, cond, drop, false, length, refl, slice_get, subst, suc, sym, take, true, zero, ℕ, ◌++◌, ◌<◌, ◌∙◌, ◌∷◌, ◌≡◌, ◌≢◌}
 use Rattle.std.proofs.lemmas.Bool.Decides.{nat_tests}
 use Rattle.std.proofs.lemmas.List.{append-nil, map-append}

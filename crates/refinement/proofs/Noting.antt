@@ -18,7 +18,7 @@ use Rattle.stations.specs.declared.wants.Wants.{Wants}
 use Rattle.window_model.proofs.Booleans.{or_false, waiting_done}
 use Rattle.window_model.specs.Clear.{cleared_one}
 use Rattle.window_model.specs.Order.{each_from, fault_of, has_address, has_data, is_done, is_load, is_store, is_waiting}
-use Rattle.window_model.specs.Retire.{addr_of, stored_of, width_of}
+use Rattle.window_model.specs.Retire.{addr_of, stored_of, byte_count}
 use Rattle.window_model.specs.declared.Entry.{Entry}
 use Rattle.window_model.specs.declared.Item.{Item}
 use Rattle.refinement.proofs.Columns.{Numbered, Rises, column_at, column_removed, column_set, noted, noted_at, place, unset}
@@ -165,11 +165,11 @@ stores_issued true t f stores ks i k k2 root w e e2 num rise h m n old new g c s
 abbrev reading_in : Entry → ℕ → ℕ → Reading
 reading_in e bytes cycle = record { area = record { addr = addr_of e.outcome; bytes = bytes; fault = fault_of e.outcome }; cycle = cycle }
 
-reading_is : (w : Width) (e : Entry) (o : Option ℕ) → is_some o ≡ true → bytes_in w ≡ width_of e → Some (reading_in e (bytes_in w) (cycle_or_first o)) ≡ option_map (reading_in e (width_of e)) o
+reading_is : (w : Width) (e : Entry) (o : Option ℕ) → is_some o ≡ true → bytes_in w ≡ byte_count e → Some (reading_in e (bytes_in w) (cycle_or_first o)) ≡ option_map (reading_in e (byte_count e)) o
 reading_is w e (Some c) h z = ap (λ n. Some (reading_in e n c)) z
 reading_is w e None h z = absurd (cc)
 
-none_read : (e : Entry) (o : Option ℕ) → is_some o ≡ false → option_map (reading_in e (width_of e)) o ≡ None
+none_read : (e : Entry) (o : Option ℕ) → is_some o ≡ false → option_map (reading_in e (byte_count e)) o ≡ None
 none_read e None h = refl
 none_read e (Some c) h = absurd (cc)
 
@@ -177,7 +177,7 @@ none_read e (Some c) h = absurd (cc)
 loads_issued : (tracked load read : Bool) (t : Terms) (loads : List QueuedLoad) (ks : List Footprint) (i : ℕ) (k k2 : Footprint) (w : Width) (e e2 : Entry) → t.tracked ≡ tracked → is_some e2.issued ≡ read →
     Each (Numbered (λ (l : ShownLoad). l.serial) (λ k. k.load)) ks → Rises ks → slice_get ks i ≡ Some k → k.serial ≡ e.serial → e2.serial ≡ e.serial →
     k.load ≡ (if load then Some (load_footprint t e) else None) → k2.load ≡ (if load then Some (load_footprint t e2) else None) →
-    (tracked ≡ true → load ≡ true → read ≡ false → e2.issued ≡ e.issued) → (tracked ≡ true → (load && read) ≡ true → bytes_in w ≡ width_of e2) → map (load_in t) loads ≡ column (λ k. k.load) ks →
+    (tracked ≡ true → load ≡ true → read ≡ false → e2.issued ≡ e.issued) → (tracked ≡ true → (load && read) ≡ true → bytes_in w ≡ byte_count e2) → map (load_in t) loads ≡ column (λ k. k.load) ks →
     map (load_in t) (if tracked && (load && read) then map (issued_at e2.serial (access_in w e2)) loads else loads) ≡ column (λ k. k.load) (slice_set ks i k2)
 loads_issued true true true t loads ks i k k2 w e e2 tr r num rise h m n old new unread size s =
     noted (load_in t) (λ k. k.load) (λ (l : QueuedLoad). l.serial) (λ (l : ShownLoad). l.serial) (λ x. refl) (λ l. record l { access = Some (access_in w e2) }) loads ks i e2.serial k k2 (load_footprint t e)
@@ -214,8 +214,8 @@ loads_of_read : (b : Bool) (w : Width) (e : Entry) (q : Queues) →
 loads_of_read true w e q = refl
 loads_of_read false w e q = refl
 
-pub stands_issued : IssuesAt
-stands_issued p i e e2 w s h waits issued on_so tracks_so =
+pub refines_issued : IssuesAt
+refines_issued p i e e2 w s h waits issued on_so tracks_so =
     let t = terms p in
     let f = oldest_of p.next p.window in
     let ks = footprints p in
@@ -263,8 +263,8 @@ store_cleared t f root e true (Some x) h = let is : store_in t f x ≡ store_foo
 store_cleared t f root e false None h = refl
 store_cleared t f root e false (Some x) h = absurd (cc)
 
-pub stands_cleared : ClearsAt
-stands_cleared p i e s h =
+pub refines_cleared : ClearsAt
+refines_cleared p i e s h =
     let t = terms p in
     let f = oldest_of p.next p.window in
     let ks = footprints p in

@@ -1,4 +1,5 @@
--- What the stations tell of the entries that wait, once the point has moved over the window: who is ready, and which part of it.
+-- What the stations tell of the entries that wait, once the point has moved over the window: who is ready, and which
+-- part of it.
 use Rattle.std.proofs.Common.{Bool, List, None, Option, Some, [], ap, ap₂, arith, false, is_none, length, map, not, refl, slice_get, subst, sym, true, ℕ, ◌&&◌, ◌||◌, ◌∙◌, ◌∷◌, ◌≡◌, ◌≤◌}
 use Rattle.std.specs.List.{list_all, list_any}
 use Rattle.std.specs.Option.{option_map}
@@ -74,12 +75,12 @@ module _ (d : Desc) (hold : Hold) where
   -- what a part of a store awaits, by its own source
   part_by : (part : Part) (before : List Entry) (rs : List ℕ) → Behind (GivesAlike d hold) before → length rs ≤ 2 →
       nothing_at (source_of part) (map (awaited hold before) (two rs)) ≡ all_known d before (own_of part rs)
-  part_by part.Base before [] k le = refl
-  part_by part.Other before [] k le = refl
-  part_by part.Base before (a ∷ []) k le = one_known before a k
-  part_by part.Other before (a ∷ []) k le = refl
-  part_by part.Base before (a ∷ b ∷ []) k le = one_known before a k
-  part_by part.Other before (a ∷ b ∷ []) k le = one_known before b k
+  part_by part.Address before [] k le = refl
+  part_by part.Data before [] k le = refl
+  part_by part.Address before (a ∷ []) k le = one_known before a k
+  part_by part.Data before (a ∷ []) k le = refl
+  part_by part.Address before (a ∷ b ∷ []) k le = one_known before a k
+  part_by part.Data before (a ∷ b ∷ []) k le = one_known before b k
   part_by part before (a ∷ b ∷ c ∷ rs) k le = absurd (omega (arith, le))
 
   or_none : (a b : Bool) → (a || (b || false)) ≡ (a || b)
@@ -97,8 +98,8 @@ module _ (d : Desc) (hold : Hold) where
   able_by : (w : Wants) (before : List Entry) (e : Entry) → Behind (GivesAlike d hold) before → able_as w (map (awaited hold before) (two (sources e))) ≡ has_sources w d before e
   able_by wants.Whole before e k = ready_by before (sources e) k (few_reads e.item.instr)
   able_by wants.Either before e k = either_by before (sources e) k (few_reads e.item.instr)
-  able_by wants.Base before e k = part_by part.Base before (sources e) k (few_reads e.item.instr)
-  able_by wants.Other before e k = part_by part.Other before (sources e) k (few_reads e.item.instr)
+  able_by wants.Address before e k = part_by part.Address before (sources e) k (few_reads e.item.instr)
+  able_by wants.Data before e k = part_by part.Data before (sources e) k (few_reads e.item.instr)
 
 -- what is asked of what a station wants and awaits is asked of its waiter
 asked_as : (t : Wants → List (Option ℕ) → Bool) (o : Option Station) → option_map (λ s. t s.wants s.awaits) o ≡ option_map (λ (w : Waiter). t w.wants w.awaits) (option_map waiter_in o)

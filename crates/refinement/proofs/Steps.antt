@@ -46,8 +46,8 @@ use Rattle.refinement.specs.Telling.{source_by}
 use Rattle.refinement.specs.Waiters.{Hold, Waiter, gives_at, oldest_of, waiter_in, wants_of, write_of}
 use Rattle.refinement.specs.Writers.{named, serial_in, source_writers, writer_of_source}
 
-pub stands_empty : OpensEmpty
-stands_empty d = record {
+pub refines_empty : OpensEmpty
+refines_empty d = record {
   rise = λ i j e lt within. absurd (omega (arith, within));
   next = All-nil (λ e. e.serial < 0);
   columns = record { sources = refl; writes = refl; waiters = refl; loads = refl; stores = refl };
@@ -104,8 +104,8 @@ fresh_store t root e a d c =
 fresh_load : (t : Terms) (e : Entry) → e.issued ≡ None → record { serial = e.serial; reading = if t.tracked then None else None } ≡ load_footprint t e
 fresh_load t e i = ap (λ (i : Option ℕ). record { serial = e.serial; reading = if t.tracked then option_map (λ cycle. record { area = area_in e; cycle = cycle }) i else None }) (sym i)
 
-pub stands_renamed : RenamesIn
-stands_renamed p e s awaits place h fresh rs ws aw =
+pub refines_renamed : RenamesIn
+refines_renamed p e s awaits place h fresh rs ws aw =
     let t = terms p in
     let f = oldest_of p.next p.window in
     let ks = footprints p in
@@ -170,8 +170,8 @@ wakes_on p point ss window s v at =
       point = at;
     }
 
-pub stands_done : CompletesAt
-stands_done p i e s h n =
+pub refines_done : CompletesAt
+refines_done p i e s h n =
     let done : Entry = record e { state = Done } in
     subst (λ held. Refines (record p { window = slice_set p.window i done; held = held })) (sym (struck_given (hold_in p) done p.held))
     (wakes_on p p.point (given (gives_at (hold_in p) done) e.serial) (slice_set p.window i done) s (wakes_done (hold_in p) p.window i e s.rise h n) (point_completes p.point p.next p.window i e s.point h))
@@ -179,14 +179,14 @@ stands_done p i e s h n =
 wakes_same : (h : Hold) (e : Entry) → Wakes h h [] e e
 wakes_same h e = record { gives = gives_same h e; same = λ t l. refl }
 
-pub stands_resolved : ResolvesAt
-stands_resolved p i e s h w =
+pub refines_resolved : ResolvesAt
+refines_resolved p i e s h w =
     let e2 : Entry = record e { resolved = true } in
     let wakes : Wakes (hold_in p) (hold_in p) [] e e2 = record { gives = record { on = record { serial = refl; item = refl }; gives = sym (or_false (gives_at (hold_in p) e)) }; same = λ t l. refl } in
     wakes_on p p.point [] (slice_set p.window i e2) s (zip_set (Wakes (hold_in p) (hold_in p) []) (wakes_same (hold_in p)) p.window i e e2 h wakes) (point_resolves p.point p.next p.window i e s.point h w)
 
-pub stands_moved : PointMoves
-stands_moved p s =
+pub refines_moved : PointMoves
+refines_moved p s =
     let moved = moved_over p.window p.point in
     let h2 : Hold = record { holds = p.holds; point = moved.serial } in
     wakes_on p moved (released (hold_in p) h2 p.window) p.window s
@@ -221,8 +221,8 @@ footprints_first t first es r =
     let s = splits first es r in
     each_take (footprint_of t) [] es (length (below first es)) ∙ ap (each_from (footprint_of t) []) (ap (take (length (below first es))) s.whole ∙ take_first (below first es) s.gone)
 
-pub stands_dropped : DropsFrom
-stands_dropped p first i e s h older l =
+pub refines_dropped : DropsFrom
+refines_dropped p first i e s h older l =
     let t = terms p in
     let f = oldest_of p.next p.window in
     let q = below_serial first p in
@@ -311,8 +311,8 @@ holds_without t next p x es r b gives s =
         let rest = filter (λ (k : Footprint). p k.serial) (each_from (footprint_of t) (x ∷ []) es) in
         ap (λ b. cond b (footprint_of t [] x ∷ rest) rest) h ∙ footprint_pass t p (x ∷ []) es a
 
-pub stands_retired : RetiresHead
-stands_retired p head s h d = by_window p.window s.rise s.next s.columns (point_retires p.point p.next p.window s.point) h
+pub refines_retired : RetiresHead
+refines_retired p head s h d = by_window p.window s.rise s.next s.columns (point_retires p.point p.next p.window s.point) h
   where
     by_window : (w : List Entry) → Rise w → All (λ e. e.serial < p.next) w → Columns (terms p) (oldest_of p.next w) (parts p) (each_from (footprint_of (terms p)) [] w) → PointStands p.point p.next (drop 1 w) →
         slice_get w 0 ≡ Some head → Refines (record (without_head head p) { window = drop 1 w })

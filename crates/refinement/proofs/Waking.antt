@@ -1,5 +1,5 @@
--- What stations await, as older entries come to give their values: one law for an entry that becomes Done and for a point that
--- moves on.
+-- What stations await, as older entries come to give their values: one law for an entry that becomes Done and for a
+-- point that moves on.
 use Rattle.std.proofs.Common.{Bool, List, None, Option, Some, [], ap, ap₂, arith, cond, false, not, refl, slice_get, subst, suc, sym, true, zero, ℕ, ◌&&◌, ◌<◌, ◌||◌, ◌∙◌, ◌∷◌, ◌≡◌, ◌≤◌}
 use Rattle.std.proofs.lemmas.Bool.Decides.{nat_tests}
 use Rattle.std.proofs.lemmas.List.Elements.{All-head, All-tail}

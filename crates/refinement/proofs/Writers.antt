@@ -1,4 +1,5 @@
--- The writers of registers among the entries in flight: where they stand, and that the serials of an entry's sources find them.
+-- The writers of registers among the entries in flight: where they stand, and that the serials of an entry's sources
+-- find them.
 use mathlib.Core.List.{reverse_aux}
 use Rattle.std.proofs.Common.{Bool, List, None, Option, Some, [], ap, ap₂, arith, cond, false, inl, inr, length, refl, slice_get, subst, suc, take, true, zero, ℕ, ⊎_elim, ◌<◌, ◌∙◌, ◌∷◌, ◌≡◌, ◌≤◌}
 use Rattle.std.proofs.lemmas.Bool.Decides.{nat_tests}

@@ -4,7 +4,7 @@ use Rattle.rv_types.specs.Value.{bytes_in}
 use Rattle.rv_types.specs.declared.Width.{Width}
 use Rattle.window_model.specs.declared.Entry.{Entry}
 use Rattle.window_model.specs.Order.{fault_of, has_address, has_data, is_load, is_store}
-use Rattle.window_model.specs.Retire.{addr_of, stored_of, width_of}
+use Rattle.window_model.specs.Retire.{addr_of, stored_of, byte_count}
 use Rattle.lsq.specs.declared.load.Access.{Access}
 use Rattle.lsq.specs.declared.store.Span.{Span}
 use Rattle.lsq.specs.declared.store.Store.{Store}
@@ -41,8 +41,8 @@ has_read e = is_load e.item.kind && is_some e.issued
 
 -- the queues once it is noted what an entry reads, where that is asked for and it is a load that has issued
 abbrev pub noted_load : Bool → Width → Entry → Queues → Queues
-noted_load passing w e q =
-    if passing && has_read e then record q { loads = map (issued_at e.serial (access_in w e)) q.loads } else q
+noted_load loads_pass w e q =
+    if loads_pass && has_read e then record q { loads = map (issued_at e.serial (access_in w e)) q.loads } else q
 
 -- the queues with the store of this serial cleared
 abbrev pub cleared_in : ℕ → Queues → Queues
@@ -53,11 +53,11 @@ pub record PartsGoOn (w : Width) (e e2 : Entry) : Type 0 where
   pub address : has_address e ≡ true → has_address e2 ≡ true
   pub stored : has_data e ≡ true → has_data e2 ≡ true
   pub outcome : (has_address e2 || has_data e2) ≡ true → is_some e2.outcome ≡ true
-  pub size : bytes_in w ≡ width_of e2
+  pub size : bytes_in w ≡ byte_count e2
 
--- what is tracked of it goes on too: it is cleared or not as it was, and what a load reads is noted once it has issued, with
--- the width of its access
+-- what is tracked of it goes on too: it is cleared or not as it was, and what a load reads is noted once it has issued,
+-- with the width of its access
 pub record TracksOn (w : Width) (e e2 : Entry) : Type 0 where
   pub cleared : e2.cleared ≡ e.cleared
   pub unread : is_load e.item.kind ≡ true → has_read e2 ≡ false → e2.issued ≡ e.issued
-  pub size : has_read e2 ≡ true → bytes_in w ≡ width_of e2
+  pub size : has_read e2 ≡ true → bytes_in w ≡ byte_count e2

@@ -1,7 +1,7 @@
--- When the parts of a core refine the window (docs/architecture.md, "How they stand for it"). The abstraction function is
--- `footprint_of`: what an entry, with the older ones, leaves in the parts. The relation is `Refines`: what each part holds is one column
--- of the entries' footprints. A step owes the footprints that it changes; those of the other entries, and the columns that it
--- doesn't touch, are the frame (`unset` and `aside` of proofs/Columns.antt).
+-- When the parts of a core refine the window (docs/architecture.md, "How the parts refine the window"). The abstraction
+-- function is `footprint_of`: what an entry, with the older ones, leaves in the parts. The relation is `Refines`: what
+-- each part holds is one column of the entries' footprints. A step owes the footprints that it changes; those of the
+-- other entries, and the columns that it doesn't touch, are the frame (`unset` and `aside` of proofs/Columns.antt).
 use Rattle.std.specs.Prelude.{◌≡◌, ℕ, ◌<◌, List, map, Some}
 use Rattle.std.specs.List.{All}
 use Rattle.window_model.specs.Order.{each}
@@ -40,7 +40,8 @@ terms p = record { version = p.version; hold = hold_in p; tracked = p.tracked }
 abbrev pub footprints : InFlight → List Footprint
 footprints p = each (footprint_of (terms p)) p.window
 
--- serials rise with age and are below the next one, the parts are the columns of the footprints, and the point can move on
+-- serials rise with age and are below the next one, the parts are the columns of the footprints, and the point can move
+-- on
 pub record Refines (p : InFlight) : Type 0 where
   pub rise : Rise p.window
   pub next : All (λ e. e.serial < p.next) p.window

@@ -1,4 +1,4 @@
--- How entries go on, and what becomes of the stations then (docs/architecture.md, "How they stand for it").
+-- How entries go on, and what becomes of the stations then (docs/architecture.md, "How the parts refine the window").
 use Rattle.std.specs.Prelude.{◌≡◌, ℕ, ◌≤◌, false, not, ◌&&◌, List, [], ◌∷◌, ◌++◌, map, take, Option, if◌then◌else◌}
 use Rattle.std.specs.List.{count_by, filter, remove}
 use Rattle.window_model.specs.declared.Entry.{Entry}

@@ -135,15 +135,15 @@ TellsReady = (d : Desc) (p : InFlight) (i : ℕ) (e : Entry) → Refines p → M
 
 -- the source of a part of a store, by its sources
 abbrev pub own_of : Part → List ℕ → List ℕ
-own_of part.Base rs = base_of rs
-own_of part.Other rs = others_of rs
+own_of part.Address rs = base_of rs
+own_of part.Data rs = others_of rs
 
 -- what an entry that waits wants is there
 abbrev pub has_sources : Wants → Desc → List Entry → Entry → Bool
 has_sources wants.Whole d before e = ready d before e
 has_sources wants.Either d before e = all_known d before (base_of (sources e)) || all_known d before (others_of (sources e))
-has_sources wants.Base d before e = all_known d before (base_of (sources e))
-has_sources wants.Other d before e = all_known d before (others_of (sources e))
+has_sources wants.Address d before e = all_known d before (base_of (sources e))
+has_sources wants.Data d before e = all_known d before (others_of (sources e))
 
 -- a station is able exactly where what its entry wants is there
 abbrev pub TellsAble : Type 0

@@ -1,5 +1,5 @@
--- What holds results back, and what an entry that waits awaits and wants (docs/machine.md, "Issue"). `before` is always a list of the
--- older entries, youngest first.
+-- What holds results back, and what an entry that waits awaits and wants (docs/machine.md, "Issue"). `before` is always
+-- a list of the older entries, youngest first.
 use Rattle.std.specs.Prelude.{ℕ, Bool, true, false, not, ◌&&◌, ◌==◌, nat_le, List, [], ◌∷◌, map, Option, Some, None, if◌then◌else◌}
 use Rattle.std.specs.Option.{option_map}
 use Rattle.rv_types.specs.Regs.{two, writes_of}
@@ -9,7 +9,7 @@ use Rattle.rename_taint.specs.declared.Write.{Write}
 use Rattle.rename_taint.specs.Writes.{root_written}
 use Rattle.stations.specs.Stations.{Station}
 use Rattle.stations.specs.declared.wants.Wants.{Wants}
-use Rattle.stations.specs.declared.wants.Wants.TheVariants.{Whole, Either, Base, Other}
+use Rattle.stations.specs.declared.wants.Wants.TheVariants.{Whole, Either, Address, Data}
 
 -- ---- results that are held back
 
@@ -52,8 +52,8 @@ awaits_of h before e = map (awaited h before) (two (sources e))
 -- what a store wants whose address and data part have issued or not
 abbrev pub wants_by : Bool → Bool → Wants
 wants_by false false = Either
-wants_by false true = Base
-wants_by true issued = Other
+wants_by false true = Address
+wants_by true issued = Data
 
 -- what an entry that waits wants: a store, but in version 1, the source of a part that hasn't issued; any other all its
 -- sources

@@ -1,5 +1,5 @@
 -- Renaming item by item: what is left makes the whole.
-use Rattle.std.proofs.Common.{◌≡◌, ℕ, zero, suc, ◌+◌, ◌-◌, ◌<◌, ◌≤◌, Bool, true, false, List, [], ◌∷◌, ◌++◌, length, Some, None, refl, ap, sym, ◌∙◌, subst, arith}
+use Rattle.std.proofs.Common.{◌≡◌, ℕ, zero, suc, ◌+◌, ◌-◌, ◌<◌, ◌≤◌, Bool, true, false, List, [], ◌∷◌, ◌++◌, length, Some, None, refl, ap, sym, ◌∙◌, arith}
 use Rattle.std.specs.Prelude.{if◌then◌else◌, drop, slice_get}
 use Rattle.std.proofs.lemmas.List.{append-nil, append_assoc, length-append}
 use Rattle.machine_desc.specs.declared.Desc.{Desc}
@@ -102,7 +102,3 @@ pub over_early : (s0 : Described) (row0 : Row) (n : ℕ) (s : Described) (row : 
 over_early s0 row0 n s row h q =
     let same = ap (λ (s : Described). s.desc) h.same in
     over s0 row0 n s row (no_more s0.desc n s.machine (ap (λ d. fitting d s.machine.window (slice_get s.machine.queue 0)) (sym same) ∙ q)) h
-
--- the phase is over once as many items have come in as the description allows a cycle
-pub over_last : (s0 : Described) (row0 : Row) (i : ℕ) (s : Described) (row : Row) → RenamesOn s0 row0 (s0.desc.core_fetch_width - i) s row → s0.desc.core_fetch_width ≤ i → Over s0 row0 s row
-over_last s0 row0 i s row h le = let z : s0.desc.core_fetch_width - i ≡ 0 = omega (arith, le) in over s0 row0 0 s row refl (subst (λ n. RenamesOn s0 row0 n s row) z h)

@@ -8,7 +8,7 @@ use Rattle.rv_types.specs.declared.Kind.{Kind}
 use Rattle.rv_types.specs.declared.Kind.TheVariants.{Load, Store}
 use Rattle.window_model.specs.declared.Entry.{Entry}
 use Rattle.window_model.specs.declared.Item.{Item}
-use Rattle.window_model.specs.Dependence.{passing}
+use Rattle.machine_desc.specs.Questions.{loads_pass}
 use Rattle.window_model.specs.Order.{is_load, is_store, sources}
 use Rattle.window_model.specs.Rename.{at_once, renamed}
 use Rattle.machine_facts.proofs.SizedPhases.{rename_item}
@@ -22,7 +22,7 @@ use Rattle.fetch_unit.specs.Unit.{FetchUnit}
 use Rattle.queue_laws.proofs.Keeping.{room_is}
 use Rattle.refinement.proofs.Queues.{queues_stand}
 use Rattle.refinement.proofs.Room.{counts_held, counts_writes}
-use Rattle.refinement.proofs.Steps.{stands_renamed}
+use Rattle.refinement.proofs.Steps.{refines_renamed}
 use Rattle.refinement.specs.Roots.{base_root}
 use Rattle.refinement.specs.Stations.{seated}
 use Rattle.refinement.specs.Steps.{Fresh, queued}
@@ -40,9 +40,9 @@ use Rattle.rename.proofs.Fitting.{fits_all, fitting_is, load_room, station_room,
 
 pub counted : (h : Held) → Whole h → Counted h.desc h.rob.entries h.stations h.queues
 counted h w = record {
-  waiting = counts_held (in_flight h) w.stands;
+  waiting = counts_held (in_flight h) w.refines;
   places = ap (λ (s : Sizes). s.places) w.made;
-  accesses = queues_stand (in_flight h) w.stands;
+  accesses = queues_stand (in_flight h) w.refines;
   loads = ap (λ (s : Sizes). s.loads) w.made;
   stores = ap (λ (s : Sizes). s.stores) w.made;
 }
@@ -59,10 +59,10 @@ pub record HasRoomFor (h : Held) (e : Entry) : Type 0 where
 pub room_for : (h : Held) (item : Item) → Whole h → fitting h.desc h.rob.entries (slice_get h.fetch_unit.queue 0) ≡ Some item → HasRoomFor h (renamed h.desc h.next_serial item)
 room_for h item w q =
     let f = fits_all h.desc h.rob.entries item (fitting_is h.desc h.rob.entries (slice_get h.fetch_unit.queue 0) item q).1 in
-    let c = counts_writes (in_flight h) w.stands in
+    let c = counts_writes (in_flight h) w.refines in
     let n = each_has_sources h w in
-    let u = counts_held (in_flight h) w.stands in
-    let k = room_is h.queues h.rob.entries (queues_stand (in_flight h) w.stands) in
+    let u = counts_held (in_flight h) w.refines in
+    let k = room_is h.queues h.rob.entries (queues_stand (in_flight h) w.refines) in
     let a = ap (λ (s : Sizes). s.entries) w.made in
     let b = ap (λ (s : Sizes). s.sources) w.made in
     let g = ap (λ (s : Sizes). s.writes) w.made in
@@ -107,7 +107,7 @@ pub entered_by : (h : Held) (item : Item) (s : Sources) (awaits : List (Option �
     fetch_unit ≡ record (h.fetch_unit) { queue = drop 1 h.fetch_unit.queue } → Entered (renamed h.desc h.next_serial item) h rob beside writes room stations q fetch_unit
 entered_by h item s awaits rob beside writes room stations q fetch_unit w are_writers are_roots are_awaits come pushed written same placed added taken =
     let e = renamed h.desc h.next_serial item in
-    let awaited = are_awaits ∙ ap (map (awaited_of_writer (hold_of h.desc h.point) h.rob.entries)) are_writers ∙ awaits_are (in_flight h) e w.stands in
+    let awaited = are_awaits ∙ ap (map (awaited_of_writer (hold_of h.desc h.point) h.rob.entries)) are_writers ∙ awaits_are (in_flight h) e w.refines in
     record {
       window = come;
       sources = pushed ∙ ap₂ (λ rs ws. buffer (h.sources.items ++ record { roots = rs; writers = ws } ∷ []) h.sources.capacity) are_roots are_writers;
@@ -152,7 +152,7 @@ first_rest [] item h = absurd (cc)
 first_rest (x ∷ q) item h = cc
 
 -- a store that loads may pass isn't cleared
-starts_uncleared : (passing store : Bool) → passing ≡ true → store ≡ true → not (passing && store) ≡ false
+starts_uncleared : (loads_pass store : Bool) → loads_pass ≡ true → store ≡ true → not (loads_pass && store) ≡ false
 starts_uncleared true true p s = refl
 starts_uncleared true false p s = absurd (cc)
 starts_uncleared false store p s = absurd (cc)
@@ -164,7 +164,7 @@ fresh h item = record {
   address = refl;
   stored = refl;
   unissued = refl;
-  uncleared = starts_uncleared (passing h.desc) (is_store item.kind);
+  uncleared = starts_uncleared (loads_pass h.desc) (is_store item.kind);
 }
 
 entered_whole : (h : Held) (item : Item) (place : ℕ) → Whole h → fitting h.desc h.rob.entries (slice_get h.fetch_unit.queue 0) ≡ Some item → Whole (entered place (renamed h.desc h.next_serial item) h)
@@ -173,7 +173,7 @@ entered_whole h item place w q =
     let found = fitting_is h.desc h.rob.entries (slice_get h.fetch_unit.queue 0) item q in
     record {
       sized = rename_item h.desc (machine_of h) item (drop 1 h.fetch_unit.queue) (first_rest h.fetch_unit.queue item found.0) found.1 w.sized;
-      stands = stands_renamed (in_flight h) e (sources_at h.writes e) (awaits_of (hold_of h.desc h.point) (reverse h.rob.entries) e) place w.stands (fresh h item) refl refl refl;
+      refines = refines_renamed (in_flight h) e (sources_at h.writes e) (awaits_of (hold_of h.desc h.point) (reverse h.rob.entries) e) place w.refines (fresh h item) refl refl refl;
       made = entered_sizes h place e ∙ w.made;
     }
 

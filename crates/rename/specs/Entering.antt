@@ -1,5 +1,5 @@
 -- What an entry brings into the parts, and the writers of an entry's sources in the window (docs/machine.md, "Rename";
--- docs/architecture.md, "How they stand for it").
+-- docs/architecture.md, "How the parts refine the window").
 use Rattle.std.specs.Prelude.{◌≡◌, ℕ, List, ◌++◌, length, slice_get, Option, Some, None}
 use Rattle.std.specs.Option.{option_map, option_to_list}
 use Rattle.rv_types.specs.Regs.{writes_of}

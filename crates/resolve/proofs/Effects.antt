@@ -6,7 +6,7 @@ use Rattle.machine_desc.specs.declared.Desc.{Desc}
 use Rattle.window_model.specs.declared.Entry.{Entry}
 use Rattle.window_model.specs.declared.Event.TheVariants as event
 use Rattle.window_model.specs.Order.{Place, is_faulty}
-use Rattle.window_model.specs.Resolve.{is_next, keep, learn, next_of, resolve, resolve_at, squash, squashes, true_mark, with_predictor}
+use Rattle.window_model.specs.Resolve.{is_next, keep, learn, next_of, resolve, resolve_at, squash, squashes, true_checkpoint, with_predictor}
 use Rattle.window_model.specs.State.{Machine, After}
 use Rattle.rob_ring.specs.Issued.{as_resolved}
 use Rattle.rob_ring.specs.Ring.{below}
@@ -59,7 +59,7 @@ marked d i e x = record x { window = slice_set x.window i (as_resolved e); count
 -- the machine once the entry at position i is resolved and has taught the predictor, with history and stack as they are
 -- behind it
 abbrev pub recalled : Desc → ℕ → Entry → Machine → Machine
-recalled d i e x = record (marked d i e x) { mark = true_mark d e }
+recalled d i e x = record (marked d i e x) { checkpoint = true_checkpoint d e }
 
 module _ (d : Desc) (x : Machine) (i : ℕ) (e : Entry) (picked : Some i ≡ resolving d x.window) (here : slice_get x.window i ≡ Some e) where
   it : Taken d x.window i e

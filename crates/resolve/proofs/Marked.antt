@@ -9,9 +9,9 @@ use Rattle.rv_types.specs.declared.Kind.TheVariants.{Branch, Jalr}
 use Rattle.machine_desc.specs.declared.Desc.{Desc}
 use Rattle.window_model.specs.declared.Entry.{Entry}
 use Rattle.window_model.specs.Order.{Place, first, is_control}
-use Rattle.window_model.specs.Resolve.{learn, may_resolve, resolve, resolve_at, true_mark}
+use Rattle.window_model.specs.Resolve.{learn, may_resolve, resolve, resolve_at, true_checkpoint}
 use Rattle.window_model.specs.Taint.{settled_as}
-use Rattle.window_model.specs.declared.Mark.{Mark}
+use Rattle.window_model.specs.declared.Checkpoint.{Checkpoint}
 use Rattle.window_model.specs.Row.{Row}
 use Rattle.window_model.specs.declared.Event.TheVariants as event
 use Rattle.window_model.specs.State.{After, Machine}
@@ -40,7 +40,7 @@ use Rattle.core_parts.specs.Described.{Described}
 use Rattle.core_parts.specs.Held.{Held, Sizes, Whole, described, in_flight, machine_of, sizes}
 use Rattle.core_parts.specs.Dropped.{StopsBelow, count_from, cut_from}
 use Rattle.core_parts.proofs.Sizes.{each_set, evolves_set}
-use Rattle.refinement.proofs.Steps.{stands_resolved, stops_at}
+use Rattle.refinement.proofs.Steps.{refines_resolved, stops_at}
 use Rattle.resolve.specs.Taken.{resolving, true_next}
 use Rattle.resolve.proofs.Effects.{marked, recalled, right_is, wrong_is}
 use Rattle.window_model.specs.Serials.{Rise}
@@ -51,7 +51,7 @@ use Rattle.resolve.proofs.Picked.{Taken, picked, inside, taken}
 pub picks : (h : Held) (v : Described) (o : Option ℕ) → Whole h → described h ≡ v → HasAdvanced v.point v.machine.window → o ≡ pick_from h.point.serial 0 h.rob.entries (each_roots h.sources.items) → o ≡ resolving v.desc v.machine.window
 picks h v o w s a e =
     let here : HasAdvanced h.point h.rob.entries = subst (λ (v : Described). HasAdvanced v.point v.machine.window) (sym s) a in
-    e ∙ picks_first h.desc (in_flight h) w.stands here (ap (λ (s : Sizes). s.model) w.made) ∙ ap (λ (v : Described). resolving v.desc v.machine.window) s
+    e ∙ picks_first h.desc (in_flight h) w.refines here (ap (λ (s : Sizes). s.model) w.made) ∙ ap (λ (v : Described). resolving v.desc v.machine.window) s
 
 no_place : (d : Desc) (x : Machine) (o : Option Place) → first (may_resolve d) x.window ≡ o → None ≡ option_map (λ (p : Place). length p.before) o → resolve d x ≡ record { machine = x; events = [] }
 no_place d x None q h = ap (λ o. resolve_at d o x) q
@@ -108,16 +108,16 @@ sized_marked d x i e h s =
       registers = f.registers;
     })
 
-sized_recalled : (d : Desc) (x : Machine) (m : Mark) → Sized d x → Sized d (record x { mark = m })
+sized_recalled : (d : Desc) (x : Machine) (m : Checkpoint) → Sized d x → Sized d (record x { checkpoint = m })
 sized_recalled d x m s =
     let f = parts d x s in
-    whole d (record x { mark = m }) (record { window = f.window; entries = f.entries; queue = f.queue; predictor = f.predictor; cache = f.cache; second = f.second; misses = f.misses; dependence = f.dependence; registers = f.registers })
+    whole d (record x { checkpoint = m }) (record { window = f.window; entries = f.entries; queue = f.queue; predictor = f.predictor; cache = f.cache; second = f.second; misses = f.misses; dependence = f.dependence; registers = f.registers })
 
 -- ---- the parts once the entry is resolved
 
 -- there is a serial after the entry's, as there is a next one
 pub serial_fits : (h : Held) (i : ℕ) (e : Entry) → Whole h → slice_get h.rob.entries i ≡ Some e → h.next_serial < 2 ^ 64 → e.serial + 1 < 2 ^ 64
-serial_fits h i e w here n = let below_next = all_at (λ (e : Entry). e.serial < h.next_serial) h.rob.entries i e w.stands.next here in omega (arith, below_next, n)
+serial_fits h i e w here n = let below_next = all_at (λ (e : Entry). e.serial < h.next_serial) h.rob.entries i e w.refines.next here in omega (arith, below_next, n)
 
 -- a branch or JALR that isn't resolved isn't settled
 unsettled : (k : Kind) (resolved cleared : Bool) → is_control k ≡ true → resolved ≡ false → settled_as k resolved cleared ≡ false
@@ -146,7 +146,7 @@ module _ (h : Held) (v : Described) (i : ℕ) (e : Entry) (rob : Ring) (tables :
   pub marked_whole : Whole (record h { rob = rob; tables = tables })
   marked_whole = subst Whole (sym are) (record {
     sized = subst (Sized h.desc) (sym machine_is) (sized_marked h.desc (machine_of h) i e here w.sized);
-    stands = stands_resolved (in_flight h) i e w.stands here (done_waits e.state may.done);
+    refines = refines_resolved (in_flight h) i e w.refines here (done_waits e.state may.done);
     made = w.made;
   })
 
@@ -158,7 +158,7 @@ module _ (h : Held) (v : Described) (i : ℕ) (e : Entry) (rob : Ring) (tables :
 
   -- the visibility point is not past the entry that is resolved
   pub marked_stops : NotPast h.point e.serial
-  marked_stops = stops_at (in_flight h) i e w.stands here (unsettled e.item.kind e.resolved e.cleared may.control may.fresh)
+  marked_stops = stops_at (in_flight h) i e w.refines here (unsettled e.item.kind e.resolved e.cleared may.control may.fresh)
 
   -- what then stands at the position is the entry, resolved
   marked_here : slice_get rob.entries i ≡ Some (as_resolved e)
@@ -168,10 +168,10 @@ module _ (h : Held) (v : Described) (i : ℕ) (e : Entry) (rob : Ring) (tables :
   still_inside = slice_get_within rob.entries i _ marked_here
 
   -- what is behind it is behind the entry as it was
-  pub behind : (then : Entry) (past : Past) → slice_get rob.entries i ≡ Some then → Remembered h (λ d. past ≡ record (h.past) { mark = true_mark d then }) → past ≡ record (h.past) { mark = true_mark h.desc e }
+  pub behind : (then : Entry) (past : Past) → slice_get rob.entries i ≡ Some then → Remembered h (λ d. past ≡ record (h.past) { checkpoint = true_checkpoint d then }) → past ≡ record (h.past) { checkpoint = true_checkpoint h.desc e }
   behind then past at m =
-      remembered_here h (λ d. past ≡ record (h.past) { mark = true_mark d then }) w m
-      ∙ ap (λ (e : Entry). record (h.past) { mark = true_mark h.desc e }) (some_of then (as_resolved e) (sym at ∙ marked_here))
+      remembered_here h (λ d. past ≡ record (h.past) { checkpoint = true_checkpoint d then }) w m
+      ∙ ap (λ (e : Entry). record (h.past) { checkpoint = true_checkpoint h.desc e }) (some_of then (as_resolved e) (sym at ∙ marked_here))
 
   told_is : told h.desc h.tables e ≡ (learn v.desc e v.machine.counters v.machine.targets).events
   told_is = ap (λ (v : Described). (learn v.desc e v.machine.counters v.machine.targets).events) s
@@ -190,26 +190,26 @@ module _ (h : Held) (v : Described) (i : ℕ) (e : Entry) (rob : Ring) (tables :
 
   -- ---- the entry was not rightly predicted
 
-  module _ (past : Past) (remembers : past ≡ record (h.past) { mark = true_mark h.desc e }) where
-    mark_is : past.mark ≡ true_mark h.desc e
-    mark_is = ap (λ (p : Past). p.mark) remembers
+  module _ (past : Past) (remembers : past ≡ record (h.past) { checkpoint = true_checkpoint h.desc e }) where
+    checkpoint_is : past.checkpoint ≡ true_checkpoint h.desc e
+    checkpoint_is = ap (λ (p : Past). p.checkpoint) remembers
 
     pub recalled_whole : Whole (record h { rob = rob; tables = tables; past = past })
     recalled_whole = record {
-      sized = sized_recalled h.desc (machine_of (record h { rob = rob; tables = tables })) past.mark marked_whole.sized;
-      stands = marked_whole.stands;
+      sized = sized_recalled h.desc (machine_of (record h { rob = rob; tables = tables })) past.checkpoint marked_whole.sized;
+      refines = marked_whole.refines;
       made = ap (λ (p : Past). sizes (record h { rob = rob; tables = tables; past = p })) remembers ∙ marked_whole.made;
     }
 
     recalled_shown : described (record h { rob = rob; tables = tables; past = past }) ≡ record v { machine = recalled v.desc i e v.machine }
     recalled_shown =
-        ap (λ m. let d = described (record h { rob = rob; tables = tables }) in record d { machine = record (d.machine) { mark = m } }) mark_is
-        ∙ ap (λ (d : Described). record d { machine = record (d.machine) { mark = true_mark h.desc e } }) marked_shown
-        ∙ ap (λ (d : Described). record v { machine = record (marked v.desc i e v.machine) { mark = true_mark d.desc e } }) s
+        ap (λ m. let d = described (record h { rob = rob; tables = tables }) in record d { machine = record (d.machine) { checkpoint = m } }) checkpoint_is
+        ∙ ap (λ (d : Described). record d { machine = record (d.machine) { checkpoint = true_checkpoint h.desc e } }) marked_shown
+        ∙ ap (λ (d : Described). record v { machine = record (marked v.desc i e v.machine) { checkpoint = true_checkpoint d.desc e } }) s
 
     module _ (wrong : resolution_of e ≡ Right → ⊥) where
       rises : Rise v.machine.window
-      rises = subst (λ (v : Described). Rise v.machine.window) s w.stands.rise
+      rises = subst (λ (v : Described). Rise v.machine.window) s w.refines.rise
 
       all : resolve v.desc v.machine
           ≡ record {

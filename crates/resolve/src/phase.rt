@@ -2,7 +2,7 @@
 //! goes.
 ghost use Rattle.std.specs.Prelude.{◌≡◌, Some};
 ghost use Rattle.visibility.specs.Point.{HasAdvanced};
-ghost use Rattle.window_model.specs.Resolve.{resolve, true_mark};
+ghost use Rattle.window_model.specs.Resolve.{resolve, true_checkpoint};
 ghost use Rattle.window_model.specs.inner.Row.{HasRoom, IsLonger, most_resolved, with_events};
 ghost use Rattle.resolve.specs.Taken.{resolving, true_next};
 ghost use Rattle.history_pred.specs.Past.{InEach};
@@ -50,12 +50,12 @@ fn resolve_at<R: RenameTaint>(position: u32, parts: &mut Parts<R>, row: &mut Row
     row.push(Event::Sq(dropped));
 }
 
-// History and stack become those behind an entry: its mark, followed by the true direction of a branch, or by a jump's
-// own push or pop.
+// History and stack become those behind an entry: its checkpoint, followed by the true direction of a branch, or by a
+// jump's own push or pop.
 fn go_back_behind(entry: &Entry, history: &mut History)
-    ensures { InEach history.old (λ d. history.new ≡ record history.old { mark = true_mark d entry.now }) }
+    ensures { InEach history.old (λ d. history.new ≡ record history.old { checkpoint = true_checkpoint d entry.now }) }
 {
-    history.restore(&entry.item.mark);
+    history.restore(&entry.item.checkpoint);
     history.follow(&entry.item, entry.is_taken());
 }
 

@@ -12,7 +12,7 @@ use Rattle.window_model.specs.declared.Entry.{Entry}
 use Rattle.window_model.specs.declared.Event.{Event}
 use Rattle.window_model.specs.Rename.{is_call, CallAlone, calls}
 use Rattle.window_model.specs.Order.{is_store, is_done}
-use Rattle.window_model.specs.Retire.{Retired, retire, turns, head_leaves, stays, trap_as, addr_of, width_of}
+use Rattle.window_model.specs.Retire.{Retired, retire, turns, head_leaves, stays, trap_as, addr_of, byte_count}
 use Rattle.window_model.specs.Row.{Row}
 use Rattle.window_model.specs.inner.Row.{HasRoom, most_retired, row_room, with_events}
 use Rattle.window_model.specs.Shape.{SameShape}
@@ -229,7 +229,7 @@ retires_more d s0 i stored s s2 e stored2 o h lt t g n b =
     subst (λ b. RetiresOn d s0 (d.core_retire_width - (i + 1)) b s2) (sym b) (retires_head d s0 i stored s s2 e h lt t (subst (λ o. HeadLeft d s e o s2) n g))
 
 -- a store that retires writes inside memory
-pub head_inside : (ram : Ram) (stored : Bool) (w : List Entry) (e : Entry) → Each (TakesStore ram) w → Goes stored w e → e.item.kind ≡ Store → store_fault ram (addr_of e.outcome) (width_of e) ≡ None
+pub head_inside : (ram : Ram) (stored : Bool) (w : List Entry) (e : Entry) → Each (TakesStore ram) w → Goes stored w e → e.item.kind ≡ Store → store_fault ram (addr_of e.outcome) (byte_count e) ≡ None
 head_inside ram stored w e h t k =
     let head = head_at stored w e t in
     let own : Each (TakesStore ram) (e ∷ head.first.0) = subst (Each (TakesStore ram)) head.first.1 h in

@@ -10,7 +10,7 @@ use Rattle.window_model.specs.declared.Entry.{Entry}
 use Rattle.window_model.specs.declared.Event.{Event}
 use Rattle.window_model.specs.declared.Event.TheVariants as event
 use Rattle.window_model.specs.Order.{is_done, is_store, fault_of}
-use Rattle.window_model.specs.Retire.{Retired, addr_of, has_line, head_leaves, lines_in, retire, touched, width_of}
+use Rattle.window_model.specs.Retire.{Retired, addr_of, has_line, head_leaves, lines_in, retire, touched, byte_count}
 use Rattle.window_model.specs.Row.{Row}
 use Rattle.window_model.specs.inner.Row.{with_events}
 use Rattle.window_model.specs.State.{Machine}
@@ -81,4 +81,4 @@ head_told _ d tags e bytes = event.Ret e.serial ∷ []
 
 -- memory takes what the entry writes, if it is a Done store without a fault
 abbrev pub TakesStore : Ram → Entry → Type 0
-TakesStore ram e = is_store e.item.kind ≡ true → is_done e.state ≡ true → fault_of e.outcome ≡ None → store_fault ram (addr_of e.outcome) (width_of e) ≡ None
+TakesStore ram e = is_store e.item.kind ≡ true → is_done e.state ≡ true → fault_of e.outcome ≡ None → store_fault ram (addr_of e.outcome) (byte_count e) ≡ None

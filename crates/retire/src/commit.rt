@@ -10,7 +10,7 @@ ghost use Rattle.machine_desc.specs.declared.Desc.{Desc};
 ghost use Rattle.cache_tags.specs.Sets.{Cache};
 ghost use Rattle.window_model.specs.Order.{value_of};
 ghost use Rattle.window_model.specs.Resolve.{next_of};
-ghost use Rattle.window_model.specs.Retire.{addr_of, lines_in, stored_of, width_of};
+ghost use Rattle.window_model.specs.Retire.{addr_of, lines_in, stored_of, byte_count};
 ghost use Rattle.window_model.specs.inner.Row.{HasRoom, with_events};
 ghost use Rattle.window_model.specs.Shape.{SameShape};
 ghost use Rattle.retire.specs.Parts.{IsLeft, PrintsHead, TellsHead, head_retires, head_told, line_told, lines_moved, with_touched};
@@ -35,7 +35,7 @@ pub(crate) fn commit(
 ) -> Option<End>
     requires empty { piece.old ≡ [] }
     requires inside { head.now.item.kind ≡ Store
-        → store_fault ram.old (addr_of head.now.outcome) (width_of head.now) ≡ None }
+        → store_fault ram.old (addr_of head.now.outcome) (byte_count head.now) ≡ None }
     ensures state { (d : Desc) (tags : Cache) → IsLeft (head_retires d head.now tags ram.old regs.old pc.old)
         (lines_moved head.now.item.kind d head.now tags) ram.new regs.new pc.new result }
     ensures told { (d : Desc) (tags : Cache) → TellsHead (head_retires d head.now tags ram.old regs.old pc.old)
@@ -43,7 +43,7 @@ pub(crate) fn commit(
     ensures piece { (d : Desc) (tags : Cache)
         → PrintsHead (head_retires d head.now tags ram.old regs.old pc.old) piece.new }
     ensures shape { SameShape ram.old ram.new }
-    ensures within { head.now.item.kind ≡ Store → addr_of head.now.outcome + width_of head.now ≤ 2 ^ 32 }
+    ensures within { head.now.item.kind ≡ Store → addr_of head.now.outcome + byte_count head.now ≤ 2 ^ 32 }
 {
     match head.item.kind {
         Kind::Call => end_of(call(pc, regs, ram, piece)),
@@ -70,10 +70,10 @@ fn commit_value(head: &Entry, regs: &mut [u32; REGISTERS], pc: &mut u32)
 
 // A store's bytes are written. They all lie in memory, which ends at 2^32 at the latest.
 fn write_store(ram: &mut Ram, store: &Entry)
-    requires inside { store_fault ram.old (addr_of store.now.outcome) (width_of store.now) ≡ None }
+    requires inside { store_fault ram.old (addr_of store.now.outcome) (byte_count store.now) ≡ None }
     ensures written { ram.new
-        ≡ with_bytes ram.old (addr_of store.now.outcome) (to_le (width_of store.now) (stored_of store.now.outcome)) }
-    ensures within { addr_of store.now.outcome + width_of store.now ≤ 2 ^ 32 }
+        ≡ with_bytes ram.old (addr_of store.now.outcome) (to_le (byte_count store.now) (stored_of store.now.outcome)) }
+    ensures within { addr_of store.now.outcome + byte_count store.now ≤ 2 ^ 32 }
 {
     // Asked for its clauses alone: memory's end bounds the sum in the last one above.
     let _end = ram.size();
@@ -98,7 +98,7 @@ pub(crate) fn tell(head: &Entry, piece: &Piece, desc: &Desc, tags: &mut Tags, ro
         (length (head_told head.now.item.kind desc.now tags.old head.now (length piece.now))) row.old }
     requires sets { tags.old.desc.cache_sets ≡ desc.now.cache_sets }
     requires line { tags.old.desc.cache_line ≡ desc.now.cache_line }
-    requires within { head.now.item.kind ≡ Store → addr_of head.now.outcome + width_of head.now ≤ 2 ^ 32 }
+    requires within { head.now.item.kind ≡ Store → addr_of head.now.outcome + byte_count head.now ≤ 2 ^ 32 }
     ensures tags { tags.new ≡ lines_moved head.now.item.kind desc.now head.now tags.old }
     ensures row { row.new ≡ with_events row.old
         (head_told head.now.item.kind desc.now tags.old head.now (length piece.now)) }
@@ -117,7 +117,7 @@ fn tell_store(store: &Entry, desc: &Desc, tags: &mut Tags, row: &mut Row)
     requires room { HasRoom (length (lines_in desc.now store.now)) row.old }
     requires sets { tags.old.desc.cache_sets ≡ desc.now.cache_sets }
     requires line { tags.old.desc.cache_line ≡ desc.now.cache_line }
-    requires within { addr_of store.now.outcome + width_of store.now ≤ 2 ^ 32 }
+    requires within { addr_of store.now.outcome + byte_count store.now ≤ 2 ^ 32 }
     ensures tags { tags.new ≡ with_touched desc.now (lines_in desc.now store.now) tags.old }
     ensures row { row.new ≡ with_events row.old
         (map (line_told desc.now tags.old.sets store.now) (lines_in desc.now store.now)) }

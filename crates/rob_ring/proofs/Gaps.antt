@@ -1,6 +1,6 @@
 -- A walk that asks for the next entry that passes: what holds at a position goes on to hold at the next one, where
 -- entries that don't pass change nothing.
-use Rattle.std.proofs.Common.{◌≡◌, ℕ, zero, suc, ◌+◌, ◌-◌, ◌<◌, ◌≤◌, Bool, true, false, List, [], ◌∷◌, length, Some, refl, subst, arith, slice_get}
+use Rattle.std.proofs.Common.{◌≡◌, ℕ, zero, suc, ◌+◌, ◌-◌, ◌<◌, ◌≤◌, Bool, false, List, [], ◌∷◌, length, Some, refl, subst, arith, slice_get}
 use Rattle.std.specs.Slice.Scan.{HoldsNowhere, holds_at}
 use Rattle.window_model.specs.declared.Entry.{Entry}
 use Rattle.rob_ring.specs.Ring.{IsNext}
@@ -28,7 +28,3 @@ module _ (p : Entry → Bool) (es : List Entry) (P : ℕ → Type 0) (step : (k 
   -- what holds at a position holds at the end, where no entry from there on passes the test
   pub to_end : (i : ℕ) → i ≤ length es → HoldsNowhere (holds_at p es) i (length es) → P i → P (length es)
   to_end i le none h = over i (length es - i) (length es) (omega (arith, le)) (omega arith) none h
-
--- the entry that is found
-pub found : (p : Entry → Bool) (es : List Entry) (i j : ℕ) → IsNext p es i j → (e : Entry) × (slice_get es j ≡ Some e) × (p e ≡ true)
-found p es i j next = told_at p true es j next.within next.here

@@ -1,5 +1,5 @@
 pub mod AtPositions
 pub mod Gaps
-mod Marked
+mod Flagged
 mod Words
 mod ByEnd

@@ -1,4 +1,4 @@
--- The bits of a word, one by one, as a bit is set, cleared, cut off or moved; and the marks of three words.
+-- The bits of a word, one by one, as a bit is set, cleared, cut off or moved; and the flags of three words.
 use Rattle.std.proofs.Common.{◌≡◌, ◌≢◌, ℕ, zero, suc, ◌+◌, ◌*◌, ◌/◌, ◌%◌, ◌^◌, ◌-◌, ◌<◌, ◌≤◌, Bool, true, false, nat_lt, nat_eq, List, [], ◌∷◌, length, get_or, add-one, refl, ap, ap₂, sym, subst, ◌∙◌, arith, bit_and, ⊎_elim}
 use Rattle.std.specs.Prelude.{min, if◌then◌else◌, slice_set}
 use Rattle.std.specs.Int.{bit_at}
@@ -8,7 +8,7 @@ use Rattle.std.proofs.lemmas.List.{get_or_past}
 use Rattle.std.proofs.lemmas.Nat.{one_shl, pow_pos, mod_below}
 use Rattle.std.proofs.lemmas.Nat.Bits.{bit_at_and, bit_at_ones, bit_at_above, bit_at_lowest, bit_at-suc, bit_at-lt, bit_at-zero}
 use Rattle.word_bits.specs.Bits.{one_if}
-use Rattle.rob_ring.specs.Marks.{mark_at}
+use Rattle.rob_ring.specs.Flags.{flag_at}
 
 -- the lowest k bits alone
 pub low_is : (n k b : ℕ) → k < 64 → b < 64 → bit_at (bit_and n (1 * 2 ^ k % 2 ^ 64 - 1)) b ≡ (if nat_lt b k then bit_at n b else 0)
@@ -42,16 +42,16 @@ down_is n m r b top others l =
 
 -- the flag of a position is a bit of one of the three words
 
-pub at_low : (words : List ℕ) (k : ℕ) → k < 64 → mark_at words k ≡ bit_at (get_or words 0 0) k
+pub at_low : (words : List ℕ) (k : ℕ) → k < 64 → flag_at words k ≡ bit_at (get_or words 0 0) k
 at_low words k lt = let j : k / 64 ≡ 0 = omega (arith, lt) in let b : k % 64 ≡ k = omega (arith, lt) in ap₂ (λ j b. bit_at (get_or words j 0) b) j b
 
-pub at_middle : (words : List ℕ) (k : ℕ) → 64 ≤ k → k < 128 → mark_at words k ≡ bit_at (get_or words 1 0) (k - 64)
+pub at_middle : (words : List ℕ) (k : ℕ) → 64 ≤ k → k < 128 → flag_at words k ≡ bit_at (get_or words 1 0) (k - 64)
 at_middle words k le lt = let j : k / 64 ≡ 1 = omega (arith, le, lt) in let b : k % 64 ≡ k - 64 = omega (arith, le, lt) in ap₂ (λ j b. bit_at (get_or words j 0) b) j b
 
-pub at_high : (words : List ℕ) (k : ℕ) → 128 ≤ k → k < 192 → mark_at words k ≡ bit_at (get_or words 2 0) (k - 128)
+pub at_high : (words : List ℕ) (k : ℕ) → 128 ≤ k → k < 192 → flag_at words k ≡ bit_at (get_or words 2 0) (k - 128)
 at_high words k le lt = let j : k / 64 ≡ 2 = omega (arith, le, lt) in let b : k % 64 ≡ k - 128 = omega (arith, le, lt) in ap₂ (λ j b. bit_at (get_or words j 0) b) j b
 
-pub at_past : (words : List ℕ) (k : ℕ) → length words ≡ 3 → 192 ≤ k → mark_at words k ≡ 0
+pub at_past : (words : List ℕ) (k : ℕ) → length words ≡ 3 → 192 ≤ k → flag_at words k ≡ 0
 at_past words k three le = let past : length words ≤ k / 64 = omega (arith, three, le) in ap (λ w. bit_at w (k % 64)) (get_or_past words (k / 64) 0 past) ∙ bit_at-zero (k % 64)
 
 -- a place lies in one of the three words, or past them
@@ -77,14 +77,14 @@ abbrev Low : ℕ → ℕ → ℕ → Type 0
 Low word bits r = (b : ℕ) → b < 64 → bit_at r b ≡ (if nat_lt b bits then bit_at word b else 0)
 
 pub kept : (words : List ℕ) (len x y z n m : ℕ) → length words ≡ 3 → n ≡ len - 64 → m ≡ len - 128 → Low (get_or words 0 0) len x → Low (get_or words 1 0) n y → Low (get_or words 2 0) m z →
-    (k : ℕ) → mark_at (x ∷ y ∷ z ∷ []) k ≡ (if nat_lt k len then mark_at words k else 0)
+    (k : ℕ) → flag_at (x ∷ y ∷ z ∷ []) k ≡ (if nat_lt k len then flag_at words k else 0)
 kept words len x y z n m three en em hx hy hz k =
     let all = x ∷ y ∷ z ∷ [] in
     by_words k
     (λ lt. at_low all k lt ∙ hx k lt ∙ ap (λ r. if nat_lt k len then r else 0) (sym (at_low words k lt)))
     (λ le lt. at_middle all k le lt ∙ hy (k - 64) (omega (arith, le, lt)) ∙ ap₂ (λ b r. if b then r else 0) (below k len n 64 en le) (sym (at_middle words k le lt)))
     (λ le lt. at_high all k le lt ∙ hz (k - 128) (omega (arith, le, lt)) ∙ ap₂ (λ b r. if b then r else 0) (below k len m 128 em le) (sym (at_high words k le lt)))
-    (λ le. at_past all k refl le ∙ none_either (nat_lt k len) (mark_at words k) (at_past words k three le))
+    (λ le. at_past all k refl le ∙ none_either (nat_lt k len) (flag_at words k) (at_past words k three le))
 
 abbrev Down : ℕ → ℕ → ℕ → Type 0
 Down word next r = (b : ℕ) → b < 64 → bit_at r b ≡ (if nat_lt b 63 then bit_at word (b + 1) else bit_at next 0)
@@ -96,7 +96,7 @@ on_top : (b word next r : ℕ) → Down word next r → b ≡ 63 → bit_at r b 
 on_top b word next r h e = ap (bit_at r) e ∙ h 63 (omega arith)
 
 pub dropped : (words : List ℕ) (x y z : ℕ) → length words ≡ 3 → Down (get_or words 0 0) (get_or words 1 0) x → Down (get_or words 1 0) (get_or words 2 0) y → Down (get_or words 2 0) 0 z →
-    (k : ℕ) → mark_at (x ∷ y ∷ z ∷ []) k ≡ mark_at words (k + 1)
+    (k : ℕ) → flag_at (x ∷ y ∷ z ∷ []) k ≡ flag_at words (k + 1)
 dropped words x y z three hx hy hz k =
     let all = x ∷ y ∷ z ∷ [] in
     by_words k
@@ -114,9 +114,9 @@ dropped words x y z three hx hy hz k =
     (cases_lt k 191))
     (λ le. at_past all k refl le ∙ sym (at_past words (k + 1) three (omega (arith, le))))
 
--- where the upper words have no mark they have none afterwards
+-- where the upper words have no flag they have none afterwards
 pub dropped_low : (words : List ℕ) (x : ℕ) → length words ≡ 3 → get_or words 1 0 ≡ 0 → get_or words 2 0 ≡ 0 → Down (get_or words 0 0) 0 x →
-    (k : ℕ) → mark_at (x ∷ 0 ∷ 0 ∷ []) k ≡ mark_at words (k + 1)
+    (k : ℕ) → flag_at (x ∷ 0 ∷ 0 ∷ []) k ≡ flag_at words (k + 1)
 dropped_low words x three middle high h =
     dropped words x 0 0 three (subst (λ n. Down (get_or words 0 0) n x) (sym middle) h)
     (subst (λ n. Down n (get_or words 2 0) 0) (sym middle) (subst (λ n. Down 0 n 0) (sym high) none)) (subst (λ n. Down n 0 0) (sym high) none)
@@ -131,7 +131,7 @@ dropped_low words x three middle high h =
 -- the bits move down by one place also where the words are written one after the other
 pub dropped_in_place : (words : List ℕ) (x y z : ℕ) → length words ≡ 3 → Down (get_or words 0 0) (get_or words 1 0) x →
     Down (get_or (slice_set words 0 x) 1 0) (get_or (slice_set words 0 x) 2 0) y → Down (get_or (slice_set (slice_set words 0 x) 1 y) 2 0) 0 z →
-    (k : ℕ) → mark_at (slice_set (slice_set (slice_set words 0 x) 1 y) 2 z) k ≡ mark_at words (k + 1)
+    (k : ℕ) → flag_at (slice_set (slice_set (slice_set words 0 x) 1 y) 2 z) k ≡ flag_at words (k + 1)
 dropped_in_place [] x y z three hx hy hz = absurd (omega (arith, three))
 dropped_in_place (a ∷ []) x y z three hx hy hz = absurd (omega (arith, three))
 dropped_in_place (a ∷ b ∷ []) x y z three hx hy hz = absurd (omega (arith, three))
@@ -140,10 +140,10 @@ dropped_in_place (a ∷ b ∷ c ∷ d ∷ rest) x y z three hx hy hz = absurd (o
 
 -- the bits move down by one place also where the first word alone is written, since the others have none
 pub dropped_low_in_place : (words : List ℕ) (x : ℕ) → length words ≡ 3 → get_or words 1 0 ≡ 0 → get_or words 2 0 ≡ 0 → Down (get_or words 0 0) 0 x →
-    (k : ℕ) → mark_at (slice_set words 0 x) k ≡ mark_at words (k + 1)
+    (k : ℕ) → flag_at (slice_set words 0 x) k ≡ flag_at words (k + 1)
 dropped_low_in_place [] x three middle high h = absurd (omega (arith, three))
 dropped_low_in_place (a ∷ []) x three middle high h = absurd (omega (arith, three))
 dropped_low_in_place (a ∷ b ∷ []) x three middle high h = absurd (omega (arith, three))
 dropped_low_in_place (a ∷ b ∷ c ∷ []) x three middle high h =
-    λ k. ap₂ (λ m n. mark_at (x ∷ m ∷ n ∷ []) k) middle high ∙ dropped_low (a ∷ b ∷ c ∷ []) x three middle high h k
+    λ k. ap₂ (λ m n. flag_at (x ∷ m ∷ n ∷ []) k) middle high ∙ dropped_low (a ∷ b ∷ c ∷ []) x three middle high h k
 dropped_low_in_place (a ∷ b ∷ c ∷ d ∷ rest) x three middle high h = absurd (omega (arith, three))

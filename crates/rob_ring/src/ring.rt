@@ -9,8 +9,8 @@ ghost use Rattle.window_model.specs.Clear.{cleared_one};
 ghost use Rattle.rob_ring.specs.Issued.{as_resolved, with_issued};
 ghost use Rattle.rob_ring.specs.Ring.{Next, Ring, in_execution, is_busy, is_open, is_unsafe};
 
+use crate::flags::{WORDS, add_flag, drop_flag, keep_flags, next_flag, put_flag};
 use crate::issued::Issued;
-use crate::marks::{WORDS, add_mark, drop_mark, keep_marks, next_mark, put_mark};
 use circular_buffer::HeapCircularBuffer;
 use machine_desc::Desc;
 use rv_types::NoMemory;
@@ -44,13 +44,13 @@ pub struct Found<'a> {
 
 impl Model for RobRing {
     ghost use Rattle.rob_ring.specs.Ring.{Ring};
-    ghost use Rattle.rob_ring.specs.Marks.{Marked};
+    ghost use Rattle.rob_ring.specs.Flags.{Flagged};
 
     ghost Value = { Ring };
 
     ghost view = { λ r. record { entries = r.items.items; room = r.items.capacity } };
 
-    ghost invariant = { λ r. Marked r.items.items r.items.capacity r.busy r.unsettled r.unsafes };
+    ghost invariant = { λ r. Flagged r.items.items r.items.capacity r.busy r.unsettled r.unsafes };
 }
 
 impl RobRing {
@@ -82,9 +82,9 @@ impl RobRing {
         ensures { self.new ≡ record self.old { entries = self.old.entries ++ entry ∷ [] } }
     {
         let len = self.len();
-        add_mark(&mut self.busy, len, in_execution(entry.state));
-        add_mark(&mut self.unsettled, len, !entry.is_settled());
-        add_mark(&mut self.unsafes, len, !entry.is_safe());
+        add_flag(&mut self.busy, len, in_execution(entry.state));
+        add_flag(&mut self.unsettled, len, !entry.is_settled());
+        add_flag(&mut self.unsafes, len, !entry.is_safe());
         self.counted_from = entry.serial.wrapping_sub(len as u64);
         let _ = self.items.try_push_back(entry);
     }
@@ -117,9 +117,9 @@ impl RobRing {
         requires { i < length self.old.entries }
         ensures { self.new ≡ record self.old { entries = slice_set self.old.entries i entry } }
     {
-        put_mark(&mut self.busy, i, in_execution(entry.state));
-        put_mark(&mut self.unsettled, i, !entry.is_settled());
-        put_mark(&mut self.unsafes, i, !entry.is_safe());
+        put_flag(&mut self.busy, i, in_execution(entry.state));
+        put_flag(&mut self.unsettled, i, !entry.is_settled());
+        put_flag(&mut self.unsafes, i, !entry.is_safe());
         put_entry(&mut self.items, i, &entry);
     }
 
@@ -132,30 +132,30 @@ impl RobRing {
         ensures { (e : Entry) → slice_get self.old.entries i ≡ Some e
             → self.new ≡ record self.old { entries = slice_set self.old.entries i (with_issued issued.now e) } }
     {
-        put_mark(&mut self.busy, i, in_execution(issued.state));
+        put_flag(&mut self.busy, i, in_execution(issued.state));
         issue_entry(&mut self.items, i, issued);
     }
 
-    /// The entry at a position is marked as resolved.
+    /// The entry at a position is set down as resolved.
     pub fn resolve(&mut self, i: u32)
         requires { i < length self.old.entries }
         ensures { (e : Entry) → slice_get self.old.entries i ≡ Some e
             → self.new ≡ record self.old { entries = slice_set self.old.entries i (as_resolved e) } }
     {
         let (stays_open, stays_unsafe) = resolve_entry(&mut self.items, i);
-        put_mark(&mut self.unsettled, i, stays_open);
-        put_mark(&mut self.unsafes, i, stays_unsafe);
+        put_flag(&mut self.unsettled, i, stays_open);
+        put_flag(&mut self.unsafes, i, stays_unsafe);
     }
 
-    /// The entry at a position is marked as cleared.
+    /// The entry at a position is set down as cleared.
     pub fn clear(&mut self, i: u32)
         requires { i < length self.old.entries }
         ensures { (e : Entry) → slice_get self.old.entries i ≡ Some e
             → self.new ≡ record self.old { entries = slice_set self.old.entries i (cleared_one e) } }
     {
         let (is_open, is_unsafe) = clear_entry(&mut self.items, i);
-        put_mark(&mut self.unsettled, i, is_open);
-        put_mark(&mut self.unsafes, i, is_unsafe);
+        put_flag(&mut self.unsettled, i, is_open);
+        put_flag(&mut self.unsafes, i, is_unsafe);
     }
 
     /// The entry at a position becomes Done.
@@ -164,18 +164,18 @@ impl RobRing {
         ensures { (e : Entry) → slice_get self.old.entries i ≡ Some e
             → self.new ≡ record self.old { entries = slice_set self.old.entries i (record e { state = Done }) } }
     {
-        put_mark(&mut self.busy, i, false);
+        put_flag(&mut self.busy, i, false);
         let is_unsafe = finish_entry(&mut self.items, i);
-        put_mark(&mut self.unsafes, i, is_unsafe);
+        put_flag(&mut self.unsafes, i, is_unsafe);
     }
 
     /// Keeps the oldest `len` entries and drops the younger ones.
     pub fn cut(&mut self, len: u32)
         ensures { self.new ≡ record self.old { entries = take len self.old.entries } }
     {
-        self.busy = keep_marks(self.busy, len);
-        self.unsettled = keep_marks(self.unsettled, len);
-        self.unsafes = keep_marks(self.unsafes, len);
+        self.busy = keep_flags(self.busy, len);
+        self.unsettled = keep_flags(self.unsettled, len);
+        self.unsafes = keep_flags(self.unsafes, len);
         self.items.truncate_back(len as usize);
     }
 
@@ -184,9 +184,9 @@ impl RobRing {
         requires { 0 < length self.old.entries }
         ensures { self.new ≡ record self.old { entries = drop 1 self.old.entries } }
     {
-        drop_mark(&mut self.busy);
-        drop_mark(&mut self.unsettled);
-        drop_mark(&mut self.unsafes);
+        drop_flag(&mut self.busy);
+        drop_flag(&mut self.unsettled);
+        drop_flag(&mut self.unsafes);
         self.counted_from = self.counted_from.wrapping_add(1);
         let _ = self.items.pop_front();
     }
@@ -197,7 +197,7 @@ impl RobRing {
         ensures within { IfSome result (λ i. i < self.now.room) }
         ensures few { self.now.room < 2 ^ 32 }
     {
-        next_mark(self.busy, from)
+        next_flag(self.busy, from)
     }
 
     /// The first position from one on whose entry isn't settled: a branch or JALR that isn't resolved, or a store that
@@ -207,7 +207,7 @@ impl RobRing {
         ensures within { IfSome result (λ i. i < self.now.room) }
         ensures few { self.now.room < 2 ^ 32 }
     {
-        next_mark(self.unsettled, from)
+        next_flag(self.unsettled, from)
     }
 
     /// The first position from one on whose entry may yet squash what comes after it.
@@ -216,7 +216,7 @@ impl RobRing {
         ensures within { IfSome result (λ i. i < self.now.room) }
         ensures few { self.now.room < 2 ^ 32 }
     {
-        next_mark(self.unsafes, from)
+        next_flag(self.unsafes, from)
     }
 
     /// The position of the entry with this serial, or the one at which it would stand: how many entries have a serial
@@ -311,7 +311,7 @@ fn issue_entry(items: &mut HeapCircularBuffer<Entry>, i: u32, issued: &Issued)
     }
 }
 
-// The entry at a position is marked as resolved. Whether it isn't settled, and whether it may yet squash what comes
+// The entry at a position is set down as resolved. Whether it isn't settled, and whether it may yet squash what comes
 // after it.
 fn resolve_entry(items: &mut HeapCircularBuffer<Entry>, i: u32) -> (bool, bool)
     requires { i < length items.old.items }
@@ -327,7 +327,7 @@ fn resolve_entry(items: &mut HeapCircularBuffer<Entry>, i: u32) -> (bool, bool)
     (false, false)
 }
 
-// The entry at a position is marked as cleared. Whether it isn't settled, and whether it may yet squash what comes
+// The entry at a position is set down as cleared. Whether it isn't settled, and whether it may yet squash what comes
 // after it.
 fn clear_entry(items: &mut HeapCircularBuffer<Entry>, i: u32) -> (bool, bool)
     requires { i < length items.old.items }

@@ -10,14 +10,14 @@ use thiserror::Error;
 use tool_io::{Content, Files, Got, ReadFail};
 
 /// The most bytes of a description.
-pub const DESCRIPTION_MAX: usize = 65536;
+pub(crate) const DESCRIPTION_MAX: usize = 65536;
 
 /// The most bytes of an image.
-pub const IMAGE_MAX: usize = 33554432;
+pub(crate) const IMAGE_MAX: usize = 33554432;
 
 /// Why a file isn't read.
 #[derive(Clone, Copy, Debug, PartialEq, Eq, Error)]
-pub enum Unread {
+pub(crate) enum Unread {
     /// The read failed.
     #[error("the read failed")]
     Failed,
@@ -30,7 +30,7 @@ pub enum Unread {
 }
 
 /// The bytes of the file with this name, of which there are to be at most `max`.
-pub fn read_file<F: Files>(
+pub(crate) fn read_file<F: Files>(
     alloc: Global,
     name: &str,
     max: usize,

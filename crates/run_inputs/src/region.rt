@@ -4,14 +4,14 @@ ghost use Rattle.std.specs.Prelude.{◌≡◌, ◌<◌, ◌≤◌, ◌+◌, ◌%
 use machine_desc::Desc;
 
 /// The first address of memory where no description is named.
-pub const RAM_BASE: u32 = 65536;
+pub(crate) const RAM_BASE: u32 = 65536;
 
 /// The size of memory in bytes where no description is named.
-pub const RAM_SIZE: u32 = 1048576;
+pub(crate) const RAM_SIZE: u32 = 1048576;
 
 /// The first address of a run's memory, its size in bytes, and whether an access there may have any address.
 #[derive(Clone, Copy, Debug)]
-pub struct Region {
+pub(crate) struct Region {
     pub base: u32,
     pub size: u32,
     pub misaligned: bool,

@@ -12,7 +12,7 @@ const LEAST: u32 = 0x8000_0000;
 const MINUS_ONE: u32 = 0xffff_ffff;
 
 /// DIV: the quotient of signed numbers, rounded towards zero; by 0 it is -1, and -2^31 by -1 is -2^31.
-pub fn quotient_signed(a: u32, b: u32) -> u32
+pub(crate) fn quotient_signed(a: u32, b: u32) -> u32
     ensures { result ≡ (if b == 0 then 2 ^ 32 - 1 else word (int_div (signed a) (signed b))) }
 {
     if b == 0 {
@@ -26,7 +26,7 @@ pub fn quotient_signed(a: u32, b: u32) -> u32
 
 /// REM: what the quotient of signed numbers leaves, of the dividend's sign; by 0 it is the dividend, and -2^31 by -1
 /// leaves 0.
-pub fn remainder_signed(a: u32, b: u32) -> u32
+pub(crate) fn remainder_signed(a: u32, b: u32) -> u32
     ensures { result ≡ (if b == 0 then a else word (int_rem (signed a) (signed b))) }
 {
     if b == 0 {
@@ -39,14 +39,14 @@ pub fn remainder_signed(a: u32, b: u32) -> u32
 }
 
 /// DIVU: the quotient, rounded down; by 0 it is 2^32 - 1.
-pub fn quotient_unsigned(a: u32, b: u32) -> u32
+pub(crate) fn quotient_unsigned(a: u32, b: u32) -> u32
     ensures { result ≡ (if b == 0 then 2 ^ 32 - 1 else a / b) }
 {
     if b == 0 { u32::MAX } else { a / b }
 }
 
 /// REMU: what the quotient leaves; by 0 it is the dividend.
-pub fn remainder_unsigned(a: u32, b: u32) -> u32
+pub(crate) fn remainder_unsigned(a: u32, b: u32) -> u32
     ensures { result ≡ (if b == 0 then a else a % b) }
 {
     if b == 0 { a } else { a % b }

@@ -18,21 +18,21 @@ fn product_signed(a: i32, b: i32) -> i64
 }
 
 /// MULH: the high half of the product of signed numbers.
-pub fn high_signed(a: u32, b: u32) -> u32
+pub(crate) fn high_signed(a: u32, b: u32) -> u32
     ensures { result ≡ word (shr_z (signed a *ℤ signed b) (2 ^ 32)) }
 {
     high(product_signed(a.cast_signed(), b.cast_signed()))
 }
 
 /// MULHSU: the high half of the product of a signed number by an unsigned one.
-pub fn high_signed_unsigned(a: u32, b: u32) -> u32
+pub(crate) fn high_signed_unsigned(a: u32, b: u32) -> u32
     ensures { result ≡ word (shr_z (signed a *ℤ pos b) (2 ^ 32)) }
 {
     high(a.cast_signed() as i64 * b as i64)
 }
 
 /// MULHU: the high half of the product of unsigned numbers.
-pub fn high_unsigned(a: u32, b: u32) -> u32
+pub(crate) fn high_unsigned(a: u32, b: u32) -> u32
     ensures { result ≡ a * b / 2 ^ 32 }
 {
     (a as u64 * b as u64 >> 32) as u32

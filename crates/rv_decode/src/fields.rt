@@ -7,7 +7,7 @@ use rv_types::Reg;
 
 /// `count` bits of the word from bit `low` on.
 #[inline(always)]
-pub fn field(word: u32, low: u32, count: u32) -> u32
+pub(crate) fn field(word: u32, low: u32, count: u32) -> u32
     requires low { low < 32 }
     requires count { count < 32 }
     ensures { result ≡ field word low count }
@@ -17,7 +17,7 @@ pub fn field(word: u32, low: u32, count: u32) -> u32
 
 /// The destination register, bits 11..7.
 #[inline]
-pub fn rd(word: u32) -> Reg
+pub(crate) fn rd(word: u32) -> Reg
     ensures { result ≡ rd word }
 {
     Reg {
@@ -27,7 +27,7 @@ pub fn rd(word: u32) -> Reg
 
 /// The first source register, bits 19..15.
 #[inline]
-pub fn rs1(word: u32) -> Reg
+pub(crate) fn rs1(word: u32) -> Reg
     ensures { result ≡ rs1 word }
 {
     Reg {
@@ -37,7 +37,7 @@ pub fn rs1(word: u32) -> Reg
 
 /// The second source register, bits 24..20.
 #[inline]
-pub fn rs2(word: u32) -> Reg
+pub(crate) fn rs2(word: u32) -> Reg
     ensures { result ≡ rs2 word }
 {
     Reg {
@@ -61,7 +61,7 @@ fn sign_extend(number: u32, half: u32) -> i32
 
 /// The immediate of the form I: bits 11..0 from bits 31..20.
 #[inline]
-pub fn imm_i(word: u32) -> i32
+pub(crate) fn imm_i(word: u32) -> i32
     ensures { result ≡ imm_i word }
 {
     sign_extend(field(word, 20, 12), 0x800)
@@ -69,7 +69,7 @@ pub fn imm_i(word: u32) -> i32
 
 /// The immediate of the form S: bits 11..5 from bits 31..25, 4..0 from 11..7.
 #[inline]
-pub fn imm_s(word: u32) -> i32
+pub(crate) fn imm_s(word: u32) -> i32
     ensures { result ≡ imm_s word }
 {
     let bits = (field(word, 25, 7) << 5) + field(word, 7, 5);
@@ -78,7 +78,7 @@ pub fn imm_s(word: u32) -> i32
 
 /// The immediate of the form B: bit 12 from bit 31, 11 from 7, 10..5 from 30..25, 4..1 from 11..8, and 0 is zero.
 #[inline]
-pub fn imm_b(word: u32) -> i32
+pub(crate) fn imm_b(word: u32) -> i32
     ensures { result ≡ imm_b word }
 {
     let bits = (field(word, 31, 1) << 12)
@@ -90,7 +90,7 @@ pub fn imm_b(word: u32) -> i32
 
 /// The immediate of the form U: bits 31..12 from bits 31..12, the others zero.
 #[inline]
-pub fn imm_u(word: u32) -> i32
+pub(crate) fn imm_u(word: u32) -> i32
     ensures { result ≡ imm_u word }
 {
     (field(word, 12, 20) << 12).cast_signed()
@@ -98,7 +98,7 @@ pub fn imm_u(word: u32) -> i32
 
 /// The immediate of the form J: bit 20 from bit 31, 19..12 from 19..12, 11 from 20, 10..1 from 30..21, and 0 is zero.
 #[inline]
-pub fn imm_j(word: u32) -> i32
+pub(crate) fn imm_j(word: u32) -> i32
     ensures { result ≡ imm_j word }
 {
     let bits = (field(word, 31, 1) << 20)

@@ -1,7 +1,7 @@
 //! An instruction as one level of operations: a variant for each form with each operation that it may have.
 //!
-//! `Instr` asks two questions of who executes it, which form and which operation of that form; an `Operation` asks one. What
-//! each stands for is said in `specs/Operations.antt`.
+//! `Instr` asks two questions of who executes it, which form and which operation of that form; an `Operation` asks one.
+//! What each stands for is said in `specs/Operations.antt`.
 ghost use Rattle.std.specs.Prelude.{◌≡◌};
 ghost use Rattle.rv_types.specs.Decode.{decode};
 ghost use Rattle.rv_decode.specs.Operations.{instr_of};

@@ -117,13 +117,6 @@ range_without_bytes t a b addr l ea eb ha hb =
 abbrev pub GoOn : List Text → List SecretRange → List Text → Type 0
 GoOn all got rest = ranges_of all ≡ option_map (λ ranges. got ++ ranges) (ranges_of rest)
 
-pub go_on-start : (all : List Text) → GoOn all [] all
-go_on-start all = by (ranges_of all)
-  where
-    by : (o : Option (List SecretRange)) → o ≡ option_map (λ ranges. [] ++ ranges) o
-    by None = refl
-    by (Some ranges) = refl
-
 pub go_on-more : (all rest : List Text) (got : List SecretRange) (t : Text) (range : SecretRange) → GoOn all got (t ∷ rest) → Some range ≡ range_of t → GoOn all (got ++ range ∷ []) rest
 unfolding ranges_of
 go_on-more all rest got t range h e = h ∙ rw (← e) (by (ranges_of rest))

@@ -61,7 +61,7 @@ fn judge(
 
 /// Tells what a run shows. Errors: `Memory`, before anything is written; `Write`, only where the sink's count of faults
 /// rose, with a part of the text written.
-pub fn perform<O: Sink>(
+pub(crate) fn perform<O: Sink>(
     alloc: Global,
     read: Described,
     secret: &[SecretRange],

@@ -12,7 +12,7 @@ use thiserror::Error;
 
 /// What is wrong with a range of secret bytes.
 #[derive(Clone, Copy, Debug, PartialEq, Eq)]
-pub enum RangeFault {
+pub(crate) enum RangeFault {
     /// The range doesn't lie within memory.
     Outside,
     /// One of the range's bytes is one of a word that may be fetched.
@@ -22,7 +22,7 @@ pub enum RangeFault {
 /// The first range of secret bytes with a fault.
 #[derive(Clone, Copy, Debug, PartialEq, Eq, Error)]
 #[error("a range of secret bytes isn't within memory, or touches code")]
-pub struct FaultyRange {
+pub(crate) struct FaultyRange {
     /// The number of the range among the ranges, counted from 0.
     pub number: u64,
     /// What is wrong with the range.
@@ -74,7 +74,7 @@ fn range_fault(image: &Image, range: &SecretRange) -> Option<RangeFault>
 }
 
 /// Whether each range lies within an image's memory and touches no code. Error: the first that doesn't.
-pub fn check_ranges(image: &Image, secret: &[SecretRange]) -> Result<(), FaultyRange>
+pub(crate) fn check_ranges(image: &Image, secret: &[SecretRange]) -> Result<(), FaultyRange>
     ensures { MatchResult result
         (λ _. first_faulty (loaded image.now) 0 secret.now ≡ None)
         (λ faulty. first_faulty (loaded image.now) 0 secret.now ≡ Some faulty) }

@@ -16,7 +16,7 @@ use tool_words::Refused;
 
 /// Why no verdict is told, or not all of it.
 #[derive(Debug, Drop, Error)]
-pub enum Unjudged {
+pub(crate) enum Unjudged {
     /// A range of secret bytes isn't within memory, or touches code.
     #[error("a range of secret bytes isn't accepted")]
     Range(FaultyRange),
@@ -66,7 +66,7 @@ impl From<Failed> for Unjudged {
 }
 
 /// The status of an outcome (`docs/formats.md`, "Statuses").
-pub fn status_of(outcome: &Result<Verdict, Unjudged>) -> u8
+pub(crate) fn status_of(outcome: &Result<Verdict, Unjudged>) -> u8
     ensures { result ≡ status_of outcome.now }
 {
     match outcome {
@@ -97,7 +97,7 @@ fn range_line(faulty: &FaultyRange) -> Line
 }
 
 /// The line that tells a cause (`docs/formats.md`, "Notes").
-pub fn note_line(cause: &Unjudged) -> Line
+pub(crate) fn note_line(cause: &Unjudged) -> Line
     ensures { result ≡ note_line cause.now }
 {
     match cause {

@@ -13,7 +13,7 @@ use tool_io::{Failed, Sink};
 
 /// What is told of a run.
 #[derive(Clone, Copy, Debug, PartialEq, Eq)]
-pub enum Verdict {
+pub(crate) enum Verdict {
     /// Nothing shows in the run, which ended so, or not within its budget.
     Hidden(Ending),
     /// Something shows in the run: what does first, and in which cycle.
@@ -59,7 +59,7 @@ fn write_hidden<S: Sink>(ending: &Ending, out: &mut S) -> Result<(), Failed>
 
 /// Writes what is told of a run, one put a line. Error: `Failed`, only where the sink's count of faults rose; then a
 /// prefix of the text was appended, maybe none of it.
-pub fn write_verdict<S: Sink>(verdict: &Verdict, out: &mut S) -> Result<(), Failed>
+pub(crate) fn write_verdict<S: Sink>(verdict: &Verdict, out: &mut S) -> Result<(), Failed>
     ensures { Writes (verdict_text verdict.now) (S.told out.old) (S.told out.new) result }
 {
     match verdict {
@@ -69,7 +69,7 @@ pub fn write_verdict<S: Sink>(verdict: &Verdict, out: &mut S) -> Result<(), Fail
 }
 
 /// The status of what is told (`docs/formats.md`, "Statuses").
-pub fn verdict_status(verdict: &Verdict) -> u8
+pub(crate) fn verdict_status(verdict: &Verdict) -> u8
     ensures { result ≡ verdict_status verdict.now }
 {
     match verdict {

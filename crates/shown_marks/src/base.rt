@@ -35,7 +35,7 @@ impl<'a> Seen<'a> {
         if self.desc.version == 1 {
             return true;
         }
-        self.stations.ready_part(place.station, Part::Base)
+        self.stations.ready_part(place.station, Part::Address)
     }
 
     // Whether the first operand tells an address or the time of a division.

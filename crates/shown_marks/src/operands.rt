@@ -41,15 +41,15 @@ impl<'a> Seen<'a> {
         ensures { result ≡ operands_shown self.now.desc.now (marks_in self.now) [] [] (window_of self.now)
             (each_marks self.now) }
     {
-        let mut marks = self.stations.able_marks();
+        let mut able = self.stations.able_places();
         for station in 0..self.stations.len() {
-            if marks == 0 {
+            if able == 0 {
                 return None;
             }
-            if !self.stations.is_marked(marks, station) {
+            if !self.stations.is_among(able, station) {
                 continue;
             }
-            marks = self.stations.passed(marks, station);
+            able = self.stations.without(able, station);
             let place = self.place_at(station);
             if self.operand_shows(&place) {
                 return Some(shown_by(place.entry));

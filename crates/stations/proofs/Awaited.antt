@@ -10,7 +10,7 @@ use Rattle.std.proofs.lemmas.List.{get_or_default, get_or_past, get_or-set_same,
 use Rattle.word_bits.specs.Bits.{IsFirstBit, one_if}
 use Rattle.stations.specs.declared.occupant.Occupant.{Occupant}
 use Rattle.stations.specs.Stations.{able_as, is_able, strike}
-use Rattle.stations.specs.Places.{MarkWaiters, MarkWaiting, awaited, awaits_in, held_of, is_in, nobody, waits, woken}
+use Rattle.stations.specs.Places.{NotesWaiters, NotesWaiting, awaited, awaits_in, held_of, is_in, nobody, waits, woken}
 use Rattle.stations.proofs.Reading.{entry_at}
 
 pub neither : (a b : Bool) → (a || b) ≡ false → (a ≡ false) × (b ≡ false)
@@ -38,11 +38,11 @@ in_place group p places h = elim (cases_lt p (length places)) [
   | inr past ↦ absurd (let none = ap (awaits_in group) (get_or_past places p nobody past) in cc)
 ]
 
--- an entry that comes into a place is marked there
-pub marked_push : (places : List Occupant) (waiters waiters2 : List ℕ) (place : ℕ) (o : Occupant) → place < length places → length places ≤ 128 → MarkWaiters places waiters →
+-- an entry that comes into a place is noted there
+pub noted_push : (places : List Occupant) (waiters waiters2 : List ℕ) (place : ℕ) (o : Occupant) → place < length places → length places ≤ 128 → NotesWaiters places waiters →
     ((group : ℕ) → awaits_in group o ≡ true → bit_at (get_or waiters2 group 0) place ≡ 1) →
-    ((group p : ℕ) → p < 128 → bit_at (get_or waiters group 0) p ≡ 1 → bit_at (get_or waiters2 group 0) p ≡ 1) → MarkWaiters (set places place o) waiters2
-marked_push places waiters waiters2 place o lt few m here others group p h = elim (cases_eq p place) [
+    ((group p : ℕ) → p < 128 → bit_at (get_or waiters group 0) p ≡ 1 → bit_at (get_or waiters2 group 0) p ≡ 1) → NotesWaiters (set places place o) waiters2
+noted_push places waiters waiters2 place o lt few m here others group p h = elim (cases_eq p place) [
   | inl q ↦ ap (bit_at (get_or waiters2 group 0)) q
       ∙ here group (sym (ap (awaits_in group) (ap (λ k. get_or (set places place o) k nobody) q ∙ get_or-set_same places place o nobody lt)) ∙ h)
   | inr ne ↦
@@ -51,8 +51,8 @@ marked_push places waiters waiters2 place o lt few m here others group p h = eli
       others group p (omega (arith, low, few)) (m group p was)
 ]
 
-pub waiting_push : (places : List Occupant) (waiting waiting2 : ℕ) (place : ℕ) (o : Occupant) → place < length places → MarkWaiting places waiting →
-    bit_at waiting2 place ≡ one_if (waits o) → ((p : ℕ) → p < 128 → p ≢ place → bit_at waiting2 p ≡ bit_at waiting p) → MarkWaiting (set places place o) waiting2
+pub waiting_push : (places : List Occupant) (waiting waiting2 : ℕ) (place : ℕ) (o : Occupant) → place < length places → NotesWaiting places waiting →
+    bit_at waiting2 place ≡ one_if (waits o) → ((p : ℕ) → p < 128 → p ≢ place → bit_at waiting2 p ≡ bit_at waiting p) → NotesWaiting (set places place o) waiting2
 waiting_push places waiting waiting2 place o lt m here others p few = elim (cases_eq p place) [
   | inl q ↦ ap (bit_at waiting2) q ∙ here ∙ ap (λ o. one_if (waits o)) (sym (ap (λ k. get_or (set places place o) k nobody) q ∙ get_or-set_same places place o nobody lt))
   | inr ne ↦ others p few ne ∙ m p few ∙ ap (λ o. one_if (waits o)) (sym (get_or-set_other places place p o nobody ne))
@@ -78,8 +78,8 @@ woken_less group serial o h = or_less _ _ _ _ (struck_less group serial o.first)
 -- an entry in its place awaits a serial no longer
 module _ (serial : ℕ) (places : List Occupant) (place : ℕ) (o : Occupant) (lt : place < length places) (woke : o ≡ woken serial (get_or places place nobody)) where
   -- the words that have a bit for each place that awaits their group still do, once an entry awaits a serial less
-  pub marked_woken : (waiters : List ℕ) → MarkWaiters places waiters → MarkWaiters (set places place o) waiters
-  marked_woken waiters m group p h = elim (cases_eq p place) [
+  pub noted_woken : (waiters : List ℕ) → NotesWaiters places waiters → NotesWaiters (set places place o) waiters
+  noted_woken waiters m group p h = elim (cases_eq p place) [
     | inl q ↦
         let now : awaits_in group o ≡ true =
         sym (ap (awaits_in group) (ap (λ k. get_or (set places place o) k nobody) q ∙ get_or-set_same places place o nobody lt)) ∙ h in
@@ -90,10 +90,10 @@ module _ (serial : ℕ) (places : List Occupant) (place : ℕ) (o : Occupant) (l
 
   -- a word still has a bit for each place that awaits its group, where the bit of a place that awaits none of the group
   -- goes
-  pub marked_out : (waiters : List ℕ) (group word : ℕ) → group < length waiters → length places ≤ 128 → awaits_in group o ≡ false →
-      ((p : ℕ) → p < 128 → p ≢ place → bit_at word p ≡ bit_at (get_or waiters group 0) p) → MarkWaiters places waiters →
-      MarkWaiters (set places place o) (set waiters group word)
-  marked_out waiters group word low few none others m g p h = elim (cases_eq g group) [
+  pub noted_out : (waiters : List ℕ) (group word : ℕ) → group < length waiters → length places ≤ 128 → awaits_in group o ≡ false →
+      ((p : ℕ) → p < 128 → p ≢ place → bit_at word p ≡ bit_at (get_or waiters group 0) p) → NotesWaiters places waiters →
+      NotesWaiters (set places place o) (set waiters group word)
+  noted_out waiters group word low few none others m g p h = elim (cases_eq g group) [
     | inl same ↦
         let there : awaits_in group (get_or (set places place o) p nobody) ≡ true = ap (λ k. awaits_in k (get_or (set places place o) p nobody)) (sym same) ∙ h in
         let ne : p ≡ place → ⊥ = λ q.
@@ -102,15 +102,15 @@ module _ (serial : ℕ) (places : List Occupant) (place : ℕ) (o : Occupant) (l
         true≢false (sym there ∙ here ∙ none) in
         let p_low = in_place group p places (sym (ap (awaits_in group) (get_or-set_other places place p o nobody ne)) ∙ there) in
         ap (λ w. bit_at w p) (ap (λ k. get_or (set waiters group word) k 0) same ∙ get_or-set_same waiters group word 0 low)
-        ∙ others p (omega (arith, p_low, few)) ne ∙ ap (λ k. bit_at (get_or waiters k 0) p) (sym same) ∙ marked_woken waiters m g p h
-    | inr other ↦ ap (λ w. bit_at w p) (get_or-set_other waiters group g word 0 other) ∙ marked_woken waiters m g p h
+        ∙ others p (omega (arith, p_low, few)) ne ∙ ap (λ k. bit_at (get_or waiters k 0) p) (sym same) ∙ noted_woken waiters m g p h
+    | inr other ↦ ap (λ w. bit_at w p) (get_or-set_other waiters group g word 0 other) ∙ noted_woken waiters m g p h
   ]
 
 -- the places are woken up to one from which on they are as they were
-module _ (serial : ℕ) (old places : List Occupant) (waiters : List ℕ) (from room : ℕ) (long : room ≡ length places) (m : MarkWaiters places waiters)
+module _ (serial : ℕ) (old places : List Occupant) (waiters : List ℕ) (from room : ℕ) (long : room ≡ length places) (m : NotesWaiters places waiters)
     (woken_so_far : (p : ℕ) → p < from → get_or places p nobody ≡ woken serial (get_or old p nobody)) (rest : (p : ℕ) → from ≤ p → get_or places p nobody ≡ get_or old p nobody) where
-  unmarked : (p : ℕ) → (p < room → bit_at (get_or waiters (serial % 64) 0) p ≡ 0) → awaits_in (serial % 64) (get_or places p nobody) ≡ false
-  unmarked p none =
+  unnoted : (p : ℕ) → (p < room → bit_at (get_or waiters (serial % 64) 0) p ≡ 0) → awaits_in (serial % 64) (get_or places p nobody) ≡ false
+  unnoted p none =
       ⊎_elim
       (λ (h : awaits_in (serial % 64) (get_or places p nobody) ≡ true).
       absurd (let lt = in_place (serial % 64) p places h in let one = m (serial % 64) p h in let zero = none (omega (arith, lt, long)) in omega (arith, one, zero)))
@@ -118,7 +118,7 @@ module _ (serial : ℕ) (old places : List Occupant) (waiters : List ℕ) (from 
       (cases_Bool (awaits_in (serial % 64) (get_or places p nobody)))
 
   as_it_was : (p : ℕ) → from ≤ p → (p < room → bit_at (get_or waiters (serial % 64) 0) p ≡ 0) → get_or places p nobody ≡ woken serial (get_or old p nobody)
-  as_it_was p low none = rest p low ∙ sym (woken_other serial (get_or old p nobody) (sym (ap (awaits_in (serial % 64)) (rest p low)) ∙ unmarked p none))
+  as_it_was p low none = rest p low ∙ sym (woken_other serial (get_or old p nobody) (sym (ap (awaits_in (serial % 64)) (rest p low)) ∙ unnoted p none))
 
   pub woken_one : (places2 : List Occupant) (place : ℕ) → IsFirstBit (bit_at (get_or waiters (serial % 64) 0)) from room place →
       get_or places2 place nobody ≡ woken serial (get_or places place nobody) → ((p : ℕ) → p ≢ place → get_or places2 p nobody ≡ get_or places p nobody) →
@@ -150,8 +150,8 @@ not_not : (b : Bool) → not (not b) ≡ b
 not_not true = refl
 not_not false = refl
 
--- an entry whose place isn't marked may issue, or a part of it
-pub able_at : (places : List Occupant) (ages : List ℕ) (waiting i p : ℕ) (b : Bool) → i < length ages → p ≡ get_or ages i p → p < length places → length places ≤ 128 → MarkWaiting places waiting →
+-- an entry whose place isn't noted may issue, or a part of it
+pub able_at : (places : List Occupant) (ages : List ℕ) (waiting i p : ℕ) (b : Bool) → i < length ages → p ≡ get_or ages i p → p < length places → length places ≤ 128 → NotesWaiting places waiting →
     bit_at waiting p ≡ one_if b → option_map is_able (slice_get (held_of places ages) i) ≡ Some (not b)
 able_at places ages waiting i p b lt at below few m is =
     let o = get_or places p nobody in

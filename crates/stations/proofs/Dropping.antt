@@ -8,7 +8,7 @@ use Rattle.std.proofs.lemmas.List.{append-nil, take_more, take_all, drop_all}
 use Rattle.std.proofs.lemmas.List.Elements.{All-head, All-tail, filter-append}
 use Rattle.std.proofs.lemmas.Option.{slice_get-get_or}
 use Rattle.stations.specs.Stations.{Rise, Station}
-use Rattle.stations.specs.Places.{passes, is_youngest}
+use Rattle.stations.specs.Places.{meets, is_youngest}
 
 filter_all : (p : Station → Bool) (xs : List Station) → All (λ x. p x ≡ true) xs → filter p xs ≡ xs
 filter_all p [] a = refl
@@ -16,7 +16,7 @@ filter_all p (x ∷ xs) a =
     ap (λ b. cond b (x ∷ filter p xs) (filter p xs)) (All-head (λ x. p x ≡ true) x xs a) ∙ ap (λ xs. x ∷ xs) (filter_all p xs (All-tail (λ x. p x ≡ true) x xs a))
 
 youngest_is : (p : Station → Bool) (s : Station) (hs : List Station) → 0 < length hs → is_youngest p hs ≡ p (get_or hs (length hs - 1) s)
-youngest_is p s hs lt = ap (passes p) (slice_get-get_or hs (length hs - 1) s (omega arith))
+youngest_is p s hs lt = ap (meets p) (slice_get-get_or hs (length hs - 1) s (omega arith))
 
 pub drop_end : (serial : ℕ) (hs : List Station) → Rise hs → is_youngest (λ s. nat_le serial s.serial) hs ≡ false → filter (λ s. nat_lt s.serial serial) hs ≡ hs
 drop_end serial hs rise h = filter_all (λ s. nat_lt s.serial serial) hs older

@@ -1,14 +1,13 @@
 -- An entry needs something else from now on: the one in its place alone is another.
-use Rattle.std.proofs.Common.{◌≡◌, ◌≢◌, ℕ, zero, suc, ◌<◌, List, [], ◌∷◌, ◌++◌, length, get_or, slice_get, refl, ap, ap₂, sym, subst, ◌∙◌, arith, inl, inr}
-use Rattle.std.specs.Prelude.{IsPermutation, map}
+use Rattle.std.proofs.Common.{◌≡◌, ◌≢◌, ℕ, zero, suc, ◌<◌, List, [], ◌∷◌, ◌++◌, length, get_or, refl, ap, ap₂, sym, subst, ◌∙◌, arith, inl, inr}
+use Rattle.std.specs.Prelude.{IsPermutation}
 use Rattle.std.specs.List.{AllPairs, range_with_len}
-use Rattle.std.specs.Option.{option_map}
 use Rattle.std.proofs.lemmas.Bool.{cases_eq}
 use Rattle.std.proofs.lemmas.List.{get_or_append_left, length-append}
 use Rattle.stations.specs.declared.occupant.Occupant.{Occupant}
 use Rattle.stations.specs.declared.wants.Wants.{Wants}
-use Rattle.stations.specs.Stations.{Rise, Station, left_wanting, now_wants}
-use Rattle.stations.specs.Places.{MarkWaiters, Placed, awaits_in, held_of, nobody, station, wanting}
+use Rattle.stations.specs.Stations.{Rise, Station, left_wanting}
+use Rattle.stations.specs.Places.{NotesWaiters, Placed, awaits_in, held_of, nobody, station, wanting}
 use Rattle.stations.proofs.Numbers.{all_differ}
 
 -- ---- what is left as it was
@@ -35,26 +34,6 @@ rise_left i next held r j k d lt l =
     let c = r j k d lt (omega arith) in
     omega (arith, a, b, c)
 
--- a function of a station that doesn't look at what it wants gives the same as before
-pub map_left : {X : Type 0} (f : Station → X) → ((s : Station) (next : Wants) → f (now_wants next s) ≡ f s) → (i : ℕ) (next : Wants) (held : List Station) → map f (left_wanting i next held) ≡ map f held
-map_left f same i next [] = refl
-map_left f same zero next (s ∷ held) = ap (λ x. x ∷ map f held) (same s next)
-map_left f same (suc i) next (s ∷ held) = ap (λ xs. f s ∷ xs) (map_left f same i next held)
-
--- the station at the position wants the other thing
-pub at_left : (i : ℕ) (next : Wants) (held : List Station) → slice_get (left_wanting i next held) i ≡ option_map (now_wants next) (slice_get held i)
-at_left i next [] = refl
-at_left zero next (s ∷ held) = refl
-at_left (suc i) next (s ∷ held) = at_left i next held
-
--- a station in another place isn't touched
-pub others_left : (i : ℕ) (next : Wants) (held : List Station) (k : ℕ) → k ≢ i → slice_get (left_wanting i next held) k ≡ slice_get held k
-others_left i next [] k ne = refl
-others_left zero next (s ∷ held) zero ne = absurd (ne refl)
-others_left zero next (s ∷ held) (suc k) ne = refl
-others_left (suc i) next (s ∷ held) zero ne = refl
-others_left (suc i) next (s ∷ held) (suc k) ne = others_left i next held k (λ same. ne (ap suc same))
-
 -- ---- the place that is left
 
 module _ (places places2 : List Occupant) (p : ℕ) (next : Wants) (here : get_or places2 p nobody ≡ wanting next (get_or places p nobody)) (others : (q : ℕ) → q ≢ p → get_or places2 q nobody ≡ get_or places q nobody) where
@@ -74,8 +53,8 @@ module _ (places places2 : List Occupant) (p : ℕ) (next : Wants) (here : get_o
       (held_left ages i (λ j k d l m. differ (suc j) (suc k) d (omega (arith, l)) (omega (arith, m))) (omega (arith, lt)) at)
 
   -- the words that tell who awaits a serial do so still, once a station wants something else
-  pub marked_left : (waiters : List ℕ) → MarkWaiters places waiters → MarkWaiters places2 waiters
-  marked_left waiters m group q h = elim (cases_eq q p) [
+  pub noted_left : (waiters : List ℕ) → NotesWaiters places waiters → NotesWaiters places2 waiters
+  noted_left waiters m group q h = elim (cases_eq q p) [
     | inl same ↦ m group q (sym (ap (awaits_in group) (ap (λ k. get_or places2 k nobody) same ∙ here ∙ ap (λ k. wanting next (get_or places k nobody)) (sym same))) ∙ h)
     | inr ne ↦ m group q (sym (ap (awaits_in group) (others q ne)) ∙ h)
   ]

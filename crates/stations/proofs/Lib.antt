@@ -1,9 +1,8 @@
 pub mod Numbers
 pub mod Placing
 pub mod Reading
-mod Marking
+mod Among
 pub mod Dropping
 pub mod Leaving
-pub mod Wanting
 mod Awaited
 mod Taken

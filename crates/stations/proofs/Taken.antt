@@ -12,7 +12,7 @@ use Rattle.std.proofs.lemmas.Nat.Bits.{bit_at_and, bit_at_xor}
 use Rattle.word_bits.specs.Bits.{NextBit, one_if}
 use Rattle.stations.specs.declared.occupant.Occupant.{Occupant}
 use Rattle.stations.specs.Stations.{able_as, is_able}
-use Rattle.stations.specs.Places.{MarkTaken, MarkWaiting, awaited, held_of, nobody}
+use Rattle.stations.specs.Places.{NotesTaken, NotesWaiting, awaited, held_of, nobody}
 use Rattle.stations.proofs.Numbers.{all_below, all_differ, taken_below}
 use Rattle.stations.proofs.Awaited.{neither}
 
@@ -27,9 +27,9 @@ apart_bits a b room (Some i) h = record { low = h.low; high = h.high; before = �
 
 -- ---- one comes, one goes
 
-module _ (room : ℕ) (ages rest : List ℕ) (p taken taken2 : ℕ) (once : IsPermutation (range_with_len 0 room) (ages ++ (rest ++ p ∷ []))) (few : room ≤ 128) (m : MarkTaken ages (rest ++ p ∷ []) taken)
+module _ (room : ℕ) (ages rest : List ℕ) (p taken taken2 : ℕ) (once : IsPermutation (range_with_len 0 room) (ages ++ (rest ++ p ∷ []))) (few : room ≤ 128) (m : NotesTaken ages (rest ++ p ∷ []) taken)
     (here : bit_at taken2 p ≡ 1) (others : (b : ℕ) → b < 128 → b ≢ p → bit_at taken2 b ≡ bit_at taken b) where
-  pub taken_push : MarkTaken (ages ++ p ∷ []) rest taken2
+  pub taken_push : NotesTaken (ages ++ p ∷ []) rest taken2
   taken_push = record {
     set = All-push (λ q. bit_at taken2 q ≡ 1) ages p set_on here;
     clear = clear_on;
@@ -54,7 +54,7 @@ module _ (room : ℕ) (ages rest : List ℕ) (p taken taken2 : ℕ) (once : IsPe
           let ne : get_or rest k d ≢ p = λ same. differ (at ∙ same ∙ sym last) in
           others (get_or rest k d) (omega (arith, low, at, few)) ne ∙ sym (ap (bit_at taken) (get_or_append_left rest (p ∷ []) d k lt)) ∙ m.clear k d (omega (arith, more, lt))
 
-module _ (room : ℕ) (ages free : List ℕ) (i p taken taken2 : ℕ) (once : IsPermutation (range_with_len 0 room) (ages ++ free)) (few : room ≤ 128) (m : MarkTaken ages free taken) (lt : i < length ages) (is : p ≡ get_or ages i p)
+module _ (room : ℕ) (ages free : List ℕ) (i p taken taken2 : ℕ) (once : IsPermutation (range_with_len 0 room) (ages ++ free)) (few : room ≤ 128) (m : NotesTaken ages free taken) (lt : i < length ages) (is : p ≡ get_or ages i p)
     (here : bit_at taken2 p ≡ 0) (others : (b : ℕ) → b < 128 → b ≢ p → bit_at taken2 b ≡ bit_at taken b) where
   first : IsPermutation (range_with_len 0 room) (p ∷ (remove ages i ++ free))
   first = IsPermutation-trans _ _ _ once (IsPermutation-append_left free _ _ (IsPermutation-remove ages i p lt is))
@@ -62,7 +62,7 @@ module _ (room : ℕ) (ages free : List ℕ) (i p taken taken2 : ℕ) (once : Is
   set_first : All (λ q. bit_at taken q ≡ 1) (p ∷ remove ages i)
   set_first = All-permutation (λ q. bit_at taken q ≡ 1) ages (p ∷ remove ages i) (IsPermutation-remove ages i p lt is) m.set
 
-  pub taken_remove : MarkTaken (remove ages i) (free ++ p ∷ []) taken2
+  pub taken_remove : NotesTaken (remove ages i) (free ++ p ∷ []) taken2
   taken_remove = record {
     set = set_on;
     clear = All-push (λ q. bit_at taken2 q ≡ 0) free p clear_on here;
@@ -104,7 +104,7 @@ free_not_idle t w e = omega (arith, e)
 abbrev able_in : Occupant → Bool
 able_in o = able_as o.wants (awaited o)
 
-module _ (places : List Occupant) (waiting taken : ℕ) (few : length places ≤ 128) (w : MarkWaiting places waiting) where
+module _ (places : List Occupant) (waiting taken : ℕ) (few : length places ≤ 128) (w : NotesWaiting places waiting) where
   abbrev Idle : ℕ → ℕ
   Idle p = (bit_at taken p + min (bit_at taken p) (bit_at waiting p)) % 2
 
@@ -125,7 +125,7 @@ module _ (places : List Occupant) (waiting taken : ℕ) (few : length places ≤
       All-cons (λ p. Idle p ≡ 0) q ages (not_idle (bit_at taken q) (bit_at waiting q) (able_in (get_or places q nobody)) one (w q (omega (arith, lt, few))) both.0)
       (none_idle ages (All-tail (λ p. p < length places) q ages below) (All-tail (λ p. bit_at taken p ≡ 1) q ages set) both.1)
 
-  pub any_is : (ages free : List ℕ) (room : ℕ) → room ≡ length places → IsPermutation (range_with_len 0 (length places)) (ages ++ free) → MarkTaken ages free taken → (o : Option ℕ) → NextBit Idle 0 room o → is_some o ≡ list_any is_able (held_of places ages)
+  pub any_is : (ages free : List ℕ) (room : ℕ) → room ≡ length places → IsPermutation (range_with_len 0 (length places)) (ages ++ free) → NotesTaken ages free taken → (o : Option ℕ) → NextBit Idle 0 room o → is_some o ≡ list_any is_able (held_of places ages)
   any_is ages free room as_many once m None h = sym (none_able ages (taken_below (length places) ages free once) m.set (λ k low lt. h k low (omega (arith, lt, as_many))))
   any_is ages free room as_many once m (Some p) h = elim (cases_Bool (list_any is_able (held_of places ages))) [
     | inl t ↦ sym t

@@ -37,14 +37,14 @@ pub record Placed (places : List Occupant) (ages free : List ℕ) : Type 0 where
   pub once : IsPermutation (range_with_len 0 (length places)) (ages ++ free)
   pub rise : Rise (held_of places ages)
 
--- there is a station, and it passes the test
-abbrev pub passes : (Station → Bool) → Option Station → Bool
-passes test None = false
-passes test (Some s) = test s
+-- there is a station, and it meets the test
+abbrev pub meets : (Station → Bool) → Option Station → Bool
+meets test None = false
+meets test (Some s) = test s
 
--- the youngest entry passes the test
+-- the youngest entry meets the test
 abbrev pub is_youngest : (Station → Bool) → List Station → Bool
-is_youngest test held = passes test (slice_get held (length held - 1))
+is_youngest test held = meets test (slice_get held (length held - 1))
 
 -- a source awaits a serial of this group: those with one remainder by 64
 abbrev pub is_in : ℕ → Option ℕ → Bool
@@ -57,8 +57,8 @@ awaits_in group o = is_in group o.first || is_in group o.second
 
 -- for each group there is a word, whose bits are set for the places where a serial of the group is awaited, and maybe
 -- for others
-abbrev pub MarkWaiters : List Occupant → List ℕ → Type 0
-MarkWaiters places waiters = (group place : ℕ) → awaits_in group (slice_index_or places place nobody) ≡ true → bit_at (slice_index waiters group) place ≡ 1
+abbrev pub NotesWaiters : List Occupant → List ℕ → Type 0
+NotesWaiters places waiters = (group place : ℕ) → awaits_in group (slice_index_or places place nobody) ≡ true → bit_at (slice_index waiters group) place ≡ 1
 
 -- an entry that needs something else from now on
 abbrev pub wanting : Wants → Occupant → Occupant
@@ -69,10 +69,10 @@ abbrev pub waits : Occupant → Bool
 waits o = not (able_as o.wants (awaited o))
 
 -- a word's bits are set for the places whose entries can't issue yet, nor a part of them
-abbrev pub MarkWaiting : List Occupant → ℕ → Type 0
-MarkWaiting places waiting = (place : ℕ) → place < 128 → bit_at waiting place ≡ one_if (waits (slice_index_or places place nobody))
+abbrev pub NotesWaiting : List Occupant → ℕ → Type 0
+NotesWaiting places waiting = (place : ℕ) → place < 128 → bit_at waiting place ≡ one_if (waits (slice_index_or places place nobody))
 
 -- a word's bits are set for the places that are taken, and for no free one
-pub record MarkTaken (ages free : List ℕ) (taken : ℕ) : Type 0 where
+pub record NotesTaken (ages free : List ℕ) (taken : ℕ) : Type 0 where
   pub set : All (λ place. bit_at taken place ≡ 1) ages
   pub clear : All (λ place. bit_at taken place ≡ 0) free

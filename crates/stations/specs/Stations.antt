@@ -46,21 +46,21 @@ nothing_at source awaits = is_none (slice_index_or awaits source None)
 abbrev pub able_as : Wants → List (Option ℕ) → Bool
 able_as wants.Whole awaits = list_all is_none awaits
 able_as wants.Either awaits = list_any is_none awaits
-able_as wants.Base awaits = nothing_at 0 awaits
-able_as wants.Other awaits = nothing_at 1 awaits
+able_as wants.Address awaits = nothing_at 0 awaits
+able_as wants.Data awaits = nothing_at 1 awaits
 
 -- the entry, or a part of it, may issue
 abbrev pub is_able : Station → Bool
 is_able s = able_as s.wants s.awaits
 
--- a word marks, at their places, which of the entries from a position on may issue, or a part of them
-abbrev pub MarksAble : List Station → ℕ → ℕ → Type 0
-MarksAble held from word = (i : ℕ) (s : Station) → from ≤ i → slice_get held i ≡ Some s → bit_at word s.place ≡ one_if (is_able s)
+-- a word tells, at their places, which of the entries from a position on may issue, or a part of them
+abbrev pub PlacesAble : List Station → ℕ → ℕ → Type 0
+PlacesAble held from word = (i : ℕ) (s : Station) → from ≤ i → slice_get held i ≡ Some s → bit_at word s.place ≡ one_if (is_able s)
 
 -- which of an entry's sources a part needs
 abbrev pub source_of : Part → ℕ
-source_of part.Base = 0
-source_of part.Other = 1
+source_of part.Address = 0
+source_of part.Data = 1
 
 -- the source that a part of the entry needs is there
 abbrev pub ready_part : Part → Station → Bool

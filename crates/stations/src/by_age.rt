@@ -3,12 +3,12 @@ ghost use Rattle.std.specs.Prelude.{◌≡◌, ◌≢◌, ◌+◌, ◌-◌, ◌<
 ghost use Rattle.std.specs.List.{filter, list_any, remove, All, AllPairs};
 ghost use Rattle.std.specs.Option.{option_map};
 ghost use Rattle.std.specs.Int.{bit_at};
-ghost use Rattle.stations.specs.Stations.{MarksAble, Rise, Station, Stations, awaits_none, is_able, left_wanting, ready_part, struck};
+ghost use Rattle.stations.specs.Stations.{PlacesAble, Rise, Station, Stations, awaits_none, is_able, left_wanting, ready_part, struck};
 ghost use Rattle.stations.specs.Places.{station, is_youngest};
 
 use crate::occupant::Occupant;
 use crate::places::{all_places, empty_places, push_within, take_free};
-use crate::waking::{GROUPS, first_apart, leave_at, mark_waiter, wake_all};
+use crate::waking::{GROUPS, first_apart, leave_at, note_waiter, wake_all};
 use crate::wants::{Part, Wants};
 use machine_desc::Desc;
 use rv_types::NoMemory;
@@ -35,7 +35,7 @@ pub struct Stations {
 impl Model for Stations {
     ghost use Rattle.std.specs.Prelude.{◌≡◌, ◌+◌, ◌<◌, ◌≤◌, ◌^◌, vec_len, vec_capacity};
     ghost use Rattle.stations.specs.Stations.{Stations};
-    ghost use Rattle.stations.specs.Places.{held_of, MarkTaken, MarkWaiters, MarkWaiting, Placed};
+    ghost use Rattle.stations.specs.Places.{held_of, NotesTaken, NotesWaiters, NotesWaiting, Placed};
 
     ghost Value = { Stations };
 
@@ -44,8 +44,8 @@ impl Model for Stations {
     ghost invariant = { λ s. Placed s.places.items s.ages.items s.free.items
         × (vec_len s.ages + vec_len s.free ≡ vec_len s.places)
         × (vec_len s.places ≤ vec_capacity s.ages) × (vec_len s.places ≤ vec_capacity s.free)
-        × (vec_len s.places ≤ 96) × MarkWaiters s.places.items s.waiters
-        × MarkWaiting s.places.items s.waiting × MarkTaken s.ages.items s.free.items s.taken };
+        × (vec_len s.places ≤ 96) × NotesWaiters s.places.items s.waiters
+        × NotesWaiting s.places.items s.waiting × NotesTaken s.ages.items s.free.items s.taken };
 }
 
 impl Stations {
@@ -92,7 +92,7 @@ impl Stations {
     {
         let place = take_free(&mut self.free);
         let occupant = Occupant::new(serial, wants, awaits);
-        mark_waiter(&mut self.waiters, &mut self.waiting, place, &occupant);
+        note_waiter(&mut self.waiters, &mut self.waiting, place, &occupant);
         self.places[place as usize] = occupant;
         self.taken = with_wide_bit(self.taken, place, true);
         push_within(&mut self.ages, place);
@@ -136,30 +136,30 @@ impl Stations {
     }
 
     /// A word with a bit set for the place of each entry that may issue, or of which a part may.
-    pub fn able_marks(&self) -> u128
-        ensures { MarksAble self.now.held 0 result }
+    pub fn able_places(&self) -> u128
+        ensures { PlacesAble self.now.held 0 result }
     {
         // The taken places that don't wait, by the two operations of whose bits the proof speaks.
         self.taken ^ (self.taken & self.waiting)
     }
 
-    /// Whether the entry at a position is marked by a word that tells it of the entries from there on.
-    pub fn is_marked(&self, marks: u128, i: u32) -> bool
+    /// Whether the entry at a position is among those that a word tells of the entries from there on.
+    pub fn is_among(&self, able: u128, i: u32) -> bool
         requires within { i < length self.now.held }
-        requires marks { MarksAble self.now.held i marks }
+        requires able { PlacesAble self.now.held i able }
         ensures { option_map is_able (slice_get self.now.held i) ≡ Some result }
     {
-        has_wide_bit(marks, self.place(i))
+        has_wide_bit(able, self.place(i))
     }
 
-    /// The word without the mark of the entry at a position.
-    pub fn passed(&self, marks: u128, i: u32) -> u128
+    /// The word without the place of the entry at a position.
+    pub fn without(&self, able: u128, i: u32) -> u128
         requires within { i < length self.now.held }
-        requires marks { MarksAble self.now.held i marks }
+        requires able { PlacesAble self.now.held i able }
         ensures here { option_map (λ s. bit_at result s.place) (slice_get self.now.held i) ≡ Some 0 }
-        ensures later { MarksAble self.now.held (i + 1) result }
+        ensures later { PlacesAble self.now.held (i + 1) result }
     {
-        with_wide_bit(marks, self.place(i), false)
+        with_wide_bit(able, self.place(i), false)
     }
 
     /// Whether there is an entry that may issue, or a part of it.

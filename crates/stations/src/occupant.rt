@@ -7,7 +7,7 @@ use crate::wants::{Part, Wants};
 
 /// An entry that waits, and the serials that it awaits.
 #[derive(Clone, Copy, Debug, PartialEq, Eq)]
-pub struct Occupant {
+pub(crate) struct Occupant {
     /// The serial of the entry.
     pub serial: u64,
     /// What the entry, or a part of it, needs before it may issue.
@@ -90,8 +90,8 @@ impl Occupant {
         ensures { result ≡ nothing_at (source_of part) (awaited self.now) }
     {
         match part {
-            Part::Base => self.first.is_none(),
-            Part::Other => self.second.is_none(),
+            Part::Address => self.first.is_none(),
+            Part::Data => self.second.is_none(),
         }
     }
 
@@ -102,8 +102,8 @@ impl Occupant {
         match self.wants {
             Wants::Whole => self.is_ready(),
             Wants::Either => self.first.is_none() || self.second.is_none(),
-            Wants::Base => self.first.is_none(),
-            Wants::Other => self.second.is_none(),
+            Wants::Address => self.first.is_none(),
+            Wants::Data => self.second.is_none(),
         }
     }
 

@@ -8,7 +8,7 @@ use rv_types::NoMemory;
 use std::alloc::Global;
 
 /// A row of so many places, which no entry has had. The one error is want of memory.
-pub fn empty_places(alloc: Global, room: u32) -> Result<Vec<Occupant>, NoMemory>
+pub(crate) fn empty_places(alloc: Global, room: u32) -> Result<Vec<Occupant>, NoMemory>
     ensures items { IfOk result (λ v. v.items ≡ replicate room nobody) }
     ensures len { IfOk result (λ v. vec_len v ≡ room) }
 {
@@ -20,7 +20,7 @@ pub fn empty_places(alloc: Global, room: u32) -> Result<Vec<Occupant>, NoMemory>
 }
 
 /// The numbers of so many places, which are all free. The one error is want of memory.
-pub fn all_places(alloc: Global, room: u32) -> Result<Vec<u32>, NoMemory>
+pub(crate) fn all_places(alloc: Global, room: u32) -> Result<Vec<u32>, NoMemory>
     ensures items { IfOk result (λ v. v.items ≡ range_with_len 0 room) }
     ensures len { IfOk result (λ v. vec_len v ≡ room) }
     ensures capacity { IfOk result (λ v. room ≤ vec_capacity v) }
@@ -33,7 +33,7 @@ pub fn all_places(alloc: Global, room: u32) -> Result<Vec<u32>, NoMemory>
 }
 
 /// Takes the free place that is on top.
-pub fn take_free(free: &mut Vec<u32>) -> u32
+pub(crate) fn take_free(free: &mut Vec<u32>) -> u32
     requires { 0 < vec_len free.old }
     ensures items { free.old.items ≡ free.new.items ++ result ∷ [] }
     ensures len { vec_len free.new + 1 ≡ vec_len free.old }
@@ -46,7 +46,7 @@ pub fn take_free(free: &mut Vec<u32>) -> u32
 }
 
 /// Appends where there is room.
-pub fn push_within<T: Drop>(items: &mut Vec<T>, item: T)
+pub(crate) fn push_within<T: Drop>(items: &mut Vec<T>, item: T)
     requires { vec_len items.old < vec_capacity items.old }
     ensures items { items.new.items ≡ items.old.items ++ item ∷ [] }
     ensures len { vec_len items.new ≡ vec_len items.old + 1 }

@@ -2,17 +2,17 @@
 ghost use Rattle.std.specs.Prelude.{◌≡◌, ◌≢◌, ◌+◌, ◌%◌, ◌<◌, ◌≤◌, ℕ, true, min, slice_index, slice_index_or, vec_len};
 ghost use Rattle.std.specs.Int.{bit_at};
 ghost use Rattle.word_bits.specs.Bits.{NextBit, one_if};
-ghost use Rattle.stations.specs.Places.{MarkWaiters, MarkWaiting, awaits_in, is_in, nobody, waits, wanting, woken};
+ghost use Rattle.stations.specs.Places.{NotesWaiters, NotesWaiting, awaits_in, is_in, nobody, waits, wanting, woken};
 
 use crate::occupant::Occupant;
 use crate::wants::Wants;
 use word_bits::{next_wide_bit, with_wide_bit};
 
 /// How many groups of serials there are: a serial's group is its remainder by this number.
-pub const GROUPS: usize = 64;
+pub(crate) const GROUPS: usize = 64;
 
-// A place is marked for what one source of its entry awaits.
-fn mark_awaited(waiters: &mut [u128; GROUPS], place: u32, awaited: Option<u64>)
+// A place is noted for what one source of its entry awaits.
+fn note_awaited(waiters: &mut [u128; GROUPS], place: u32, awaited: Option<u64>)
     requires { place < 128 }
     ensures here { (group : ℕ) → is_in group awaited ≡ true → bit_at (slice_index waiters.new group) place ≡ 1 }
     ensures others { (group p : ℕ) → p < 128 → bit_at (slice_index waiters.old group) p ≡ 1
@@ -25,8 +25,8 @@ fn mark_awaited(waiters: &mut [u128; GROUPS], place: u32, awaited: Option<u64>)
     }
 }
 
-/// A place is marked for what its entry awaits, and as one whose entry can't issue, if neither it nor a part of it can.
-pub fn mark_waiter(
+/// A place is noted for what its entry awaits, and as one whose entry can't issue, if neither it nor a part of it can.
+pub(crate) fn note_waiter(
     waiters: &mut [u128; GROUPS],
     waiting: &mut u128,
     place: u32,
@@ -40,12 +40,12 @@ pub fn mark_waiter(
     ensures waits_here { bit_at waiting.new place ≡ one_if (waits occupant.now) }
     ensures wait_others { (p : ℕ) → p < 128 → p ≢ place → bit_at waiting.new p ≡ bit_at waiting.old p }
 {
-    mark_awaited(waiters, place, occupant.first);
-    mark_awaited(waiters, place, occupant.second);
+    note_awaited(waiters, place, occupant.first);
+    note_awaited(waiters, place, occupant.second);
     *waiting = with_wide_bit(*waiting, place, !occupant.is_able());
 }
 
-// The first place from this one on, among so many, that a word marks.
+// The first place from this one on, among so many, that a word has.
 fn next_place(word: u128, from: u32, room: u32) -> Option<u32>
     requires { room ≤ 128 }
     ensures { NextBit (bit_at word) from room result }
@@ -59,15 +59,15 @@ fn next_place(word: u128, from: u32, room: u32) -> Option<u32>
     }
 }
 
-/// The first place, among so many, that the first word marks and the second doesn't.
-pub fn first_apart(taken: u128, waiting: u128, room: u32) -> Option<u32>
+/// The first place, among so many, that the first word has and the second hasn't.
+pub(crate) fn first_apart(taken: u128, waiting: u128, room: u32) -> Option<u32>
     requires { room ≤ 128 }
     ensures { NextBit (λ p. (bit_at taken p + min (bit_at taken p) (bit_at waiting p)) % 2) 0 room result }
 {
     next_place(taken ^ (taken & waiting), 0, room)
 }
 
-// The entry in a place awaits a serial no longer, and maybe it or a part of it can issue then. Its mark goes, if it
+// The entry in a place awaits a serial no longer, and maybe it or a part of it can issue then. Its note goes, if it
 // awaits none of the serial's group any more.
 fn wake_at(
     places: &mut Vec<Occupant>,
@@ -78,15 +78,15 @@ fn wake_at(
 )
     requires within { place < vec_len places.old }
     requires few { vec_len places.old ≤ 128 }
-    requires marked { MarkWaiters places.old.items waiters.old }
-    requires waiting { MarkWaiting places.old.items waiting.old }
+    requires noted { NotesWaiters places.old.items waiters.old }
+    requires waiting { NotesWaiting places.old.items waiting.old }
     ensures here { slice_index_or places.new.items place nobody
         ≡ woken serial (slice_index_or places.old.items place nobody) }
     ensures others { (p : ℕ) → p ≢ place
         → slice_index_or places.new.items p nobody ≡ slice_index_or places.old.items p nobody }
     ensures len { vec_len places.new ≡ vec_len places.old }
-    ensures marked { MarkWaiters places.new.items waiters.new }
-    ensures waiting { MarkWaiting places.new.items waiting.new }
+    ensures noted { NotesWaiters places.new.items waiters.new }
+    ensures waiting { NotesWaiting places.new.items waiting.new }
 {
     places[place as usize].wake(serial);
     *waiting = with_wide_bit(*waiting, place, !places[place as usize].is_able());
@@ -98,36 +98,36 @@ fn wake_at(
 }
 
 /// The entry in a place needs something else from now on.
-pub fn leave_at(places: &mut Vec<Occupant>, waiting: &mut u128, place: u32, wants: Wants)
+pub(crate) fn leave_at(places: &mut Vec<Occupant>, waiting: &mut u128, place: u32, wants: Wants)
     requires within { place < vec_len places.old }
     requires few { vec_len places.old ≤ 128 }
-    requires waiting { MarkWaiting places.old.items waiting.old }
+    requires waiting { NotesWaiting places.old.items waiting.old }
     ensures here { slice_index_or places.new.items place nobody
         ≡ wanting wants (slice_index_or places.old.items place nobody) }
     ensures others { (p : ℕ) → p ≢ place
         → slice_index_or places.new.items p nobody ≡ slice_index_or places.old.items p nobody }
     ensures len { vec_len places.new ≡ vec_len places.old }
-    ensures waiting { MarkWaiting places.new.items waiting.new }
+    ensures waiting { NotesWaiting places.new.items waiting.new }
 {
     places[place as usize].wants = wants;
     *waiting = with_wide_bit(*waiting, place, !places[place as usize].is_able());
 }
 
-/// No entry awaits a serial any longer. Only those are looked at that are marked.
-pub fn wake_all(
+/// No entry awaits a serial any longer. Only those are looked at that are noted.
+pub(crate) fn wake_all(
     places: &mut Vec<Occupant>,
     waiters: &mut [u128; GROUPS],
     waiting: &mut u128,
     serial: u64,
 )
     requires few { vec_len places.old ≤ 128 }
-    requires marked { MarkWaiters places.old.items waiters.old }
-    requires waiting { MarkWaiting places.old.items waiting.old }
+    requires noted { NotesWaiters places.old.items waiters.old }
+    requires waiting { NotesWaiting places.old.items waiting.old }
     ensures woken { (p : ℕ) → slice_index_or places.new.items p nobody
         ≡ woken serial (slice_index_or places.old.items p nobody) }
     ensures len { vec_len places.new ≡ vec_len places.old }
-    ensures marked { MarkWaiters places.new.items waiters.new }
-    ensures waiting { MarkWaiting places.new.items waiting.new }
+    ensures noted { NotesWaiters places.new.items waiters.new }
+    ensures waiting { NotesWaiting places.new.items waiting.new }
 {
     let room = places.len() as u32;
     let group = (serial % 64) as usize;

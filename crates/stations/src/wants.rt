@@ -7,17 +7,17 @@ pub enum Wants {
     Whole,
     /// One of the sources, whichever: the entry issues in two parts, and neither has issued.
     Either,
-    /// The first source: the other part of the entry has issued.
-    Base,
-    /// The second source: the part of the base has issued.
-    Other,
+    /// The first source: the data part has issued.
+    Address,
+    /// The second source: the address part has issued.
+    Data,
 }
 
 /// A part of an entry that issues in two.
 #[derive(Clone, Copy, Debug, PartialEq, Eq)]
 pub enum Part {
-    /// The part that needs the first source.
-    Base,
-    /// The part that needs the second source.
-    Other,
+    /// The address part, which needs the first source.
+    Address,
+    /// The data part, which needs the second source.
+    Data,
 }

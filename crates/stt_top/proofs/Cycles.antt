@@ -1,5 +1,5 @@
 -- A run of a core cycle by cycle: what of its text is written.
-use Rattle.std.proofs.Common.{◌≡◌, ◌<◌, ◌≤◌, ℕ, zero, suc, ◌+◌, ◌-◌, List, [], ◌++◌, true, None, refl, ap, ap₂, sym, ◌∙◌, subst, arith}
+use Rattle.std.proofs.Common.{◌≡◌, ◌<◌, ◌≤◌, ℕ, zero, suc, ◌+◌, ◌-◌, List, [], ◌++◌, true, None, refl, ap, ap₂, sym, ◌∙◌, subst}
 use Rattle.std.specs.Option.{is_some}
 use Rattle.rv_types.specs.Memory.{Code}
 use Rattle.rv_types.specs.Isa.{with_piece}
@@ -7,13 +7,13 @@ use Rattle.machine_desc.specs.declared.Desc.{Desc}
 use Rattle.window_model.specs.State.{Machine}
 use Rattle.window_model.specs.Row.{Row}
 use Rattle.window_model.specs.Cycle.{Cycled, cycle, rows, pieces, after_cycles}
-use Rattle.pair_run.proofs.Cycles.{Left, left_start, left_next, left_ended, left_done, goes_on, stops, one_more, none_left, row_goes, no_rows}
+use Rattle.pair_run.proofs.Cycles.{Left, left_next, left_ended, left_done, goes_on, stops, one_more, none_left, row_goes, no_rows}
 use Rattle.report_text.specs.Report.{piece_text, piece_lines}
 use Rattle.report_text.proofs.Pieces.{piece_lines_more, piece_lines_none}
 use Rattle.trace_text.specs.TraceText.{row_text, rows_text}
 use Rattle.trace_text.proofs.Growing.{rows_text_more, rows_text_none}
 use Rattle.tool_io.specs.Outside.{Told, Wrote, WrotePart}
-use Rattle.tool_io.proofs.Writing.{WroteUpTo, up_to_start, up_to_more, up_to_part, up_to_end}
+use Rattle.tool_io.proofs.Writing.{WroteUpTo, up_to_more, up_to_part, up_to_end}
 use Rattle.stt_top.specs.inner.Clocking.{CameTo}
 
 -- ---- Any text of a run
@@ -25,11 +25,6 @@ pub record LinesLeft (text : ℕ → Machine → List ℕ) (d : Desc) (code : Co
   pub lines : WroteUpTo (text n x) (text (n - i) y) old new
 
 module _ (text : ℕ → Machine → List ℕ) (d : Desc) (code : Code) (n : ℕ) (x : Machine) where
-  lines_start : (t : Told) → LinesLeft text d code n 0 x x t t
-  lines_start t =
-      let e : n - 0 ≡ n = omega arith in
-      record { left = left_start d code n x; lines = rw e (up_to_start _ t) }
-
   lines_next : (i : ℕ) (y y' : Machine) (line : List ℕ) (told t u : Told) → Left d code n (i + 1) x y' → text (n - i) y ≡ line ++ text (n - (i + 1)) y'
       → LinesLeft text d code n i x y told t → Wrote line t u → LinesLeft text d code n (i + 1) x y' told u
   lines_next i y y' line told t u k e l w = record { left = k; lines = up_to_more _ line _ _ _ _ (rw e at l.lines) w }

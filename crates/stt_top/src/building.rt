@@ -13,10 +13,10 @@ use rv_types::NoMemory;
 use std::alloc::Global;
 
 /// The core that the program runs: the written machine by its parts, whose registers are renamed by a table.
-pub type Core = core_cycle::Core<ByTable>;
+pub(crate) type Core = core_cycle::Core<ByTable>;
 
 /// The core where the image begins. All memory that it takes is taken here. Error: there was no memory.
-pub fn build(alloc: Global, desc: &Desc, image: Image) -> Result<Core, NoMemory>
+pub(crate) fn build(alloc: Global, desc: &Desc, image: Image) -> Result<Core, NoMemory>
     requires { Fits desc.now image.ram }
     ensures { IfOk result (λ c. Starts (loaded image) desc.now c.desc (word_at c.code) c.machine) }
 {
@@ -24,7 +24,7 @@ pub fn build(alloc: Global, desc: &Desc, image: Image) -> Result<Core, NoMemory>
 }
 
 /// The cores where two images begin. All memory that they take is taken here. Error: there was no memory.
-pub fn build_pair(
+pub(crate) fn build_pair(
     alloc: Global,
     desc: &Desc,
     one: Image,

@@ -62,7 +62,11 @@ fn ending_at<C: Clocked>(core: &C) -> Ending
 
 /// Runs a core for at most so many cycles and writes the trace, one put a line. Error: `Failed`, only where the sink's
 /// count of faults rose; then a part of the trace was written.
-pub fn trace<C: Clocked, S: Sink>(core: &mut C, cycles: u32, out: &mut S) -> Result<Ended, Failed>
+pub(crate) fn trace<C: Clocked, S: Sink>(
+    core: &mut C,
+    cycles: u32,
+    out: &mut S,
+) -> Result<Ended, Failed>
     requires few { (C.machine core.old).cycle + cycles < 2 ^ 32 }
     ensures { TellsTrace (C.desc core.old) (C.code core.old) cycles (C.machine core.old)
         (S.told out.old) (S.told out.new) result }
@@ -79,7 +83,7 @@ pub fn trace<C: Clocked, S: Sink>(core: &mut C, cycles: u32, out: &mut S) -> Res
 
 /// Runs a core for at most so many cycles and writes the report, one put a line; `before` is memory as it was when the
 /// run began. Error: `Failed`, only where the sink's count of faults rose; then a part of the report was written.
-pub fn report<C: Clocked, S: Sink>(
+pub(crate) fn report<C: Clocked, S: Sink>(
     core: &mut C,
     before: &Ram,
     cycles: u32,

@@ -11,18 +11,18 @@ use std::alloc::Global;
 
 /// The instruction set's state, and memory as it was when the run began.
 #[derive(Drop)]
-pub struct Machine {
+pub(crate) struct IsaRun {
     pub isa: Isa,
     pub before: Ram,
 }
 
-impl Machine {
+impl IsaRun {
     /// The state in which an image begins. All memory that a run takes is taken here. Error: there was no memory.
-    pub fn of(alloc: Global, image: Image) -> Result<Machine, NoMemory>
+    pub fn of(alloc: Global, image: Image) -> Result<IsaRun, NoMemory>
         ensures { IfOk result (λ m. Begins (loaded image) m.isa m.before) }
     {
         let before = image.ram.copy(alloc)?;
-        Ok(Machine {
+        Ok(IsaRun {
             isa: Isa::new(image),
             before,
         })

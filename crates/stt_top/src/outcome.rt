@@ -8,7 +8,7 @@ use rv_types::End;
 
 /// How a command ended whose text is written whole.
 #[derive(Clone, Copy, Debug, PartialEq, Eq)]
-pub enum Ended {
+pub(crate) enum Ended {
     /// The run ended by an exit call, whatever its value.
     Exit,
     /// The run ended by a trap.
@@ -22,7 +22,7 @@ pub enum Ended {
 }
 
 /// How a run that ended so, or not at all, counts.
-pub fn ended_of(end: Option<End>) -> Ended
+pub(crate) fn ended_of(end: Option<End>) -> Ended
     ensures { result ≡ ended_of end }
 {
     match end {
@@ -33,7 +33,7 @@ pub fn ended_of(end: Option<End>) -> Ended
 }
 
 /// How two runs that differ so count.
-pub fn compared_of(differ: Differ) -> Ended
+pub(crate) fn compared_of(differ: Differ) -> Ended
     ensures { result ≡ compared_of differ }
 {
     match differ {
@@ -43,7 +43,7 @@ pub fn compared_of(differ: Differ) -> Ended
 }
 
 /// The status of an outcome (`docs/formats.md`, "Statuses").
-pub fn status_of(outcome: &Result<Ended, Refusal>) -> u8
+pub(crate) fn status_of(outcome: &Result<Ended, Refusal>) -> u8
     ensures { result ≡ status_of outcome.now }
 {
     match outcome {

@@ -6,7 +6,7 @@ ghost use Rattle.stt_top.specs.Work.{isa_task, report_task, trace_task, pair_tas
 ghost use Rattle.stt_top.specs.inner.Work.{task_text, InMemory, Performs};
 
 use crate::building::{build, build_pair};
-use crate::loading::Machine;
+use crate::loading::IsaRun;
 use crate::outcome::{Ended, compared_of};
 use crate::task::Task;
 use crate::{clocking, running};
@@ -21,8 +21,8 @@ use tool_io::Sink;
 fn isa<O: Sink>(alloc: Global, image: Image, steps: u64, out: &mut O) -> Result<Ended, Refusal>
     ensures { Performs (isa_task (loaded image) steps) (O.told out.old) (O.told out.new) result }
 {
-    let mut machine = Machine::of(alloc, image)?;
-    let ended = running::report(&mut machine, steps, out)?;
+    let mut run = IsaRun::of(alloc, image)?;
+    let ended = running::report(&mut run, steps, out)?;
     Ok(ended)
 }
 
@@ -79,7 +79,7 @@ fn pair<O: Sink>(
 
 /// Does what a task asks for. Errors: `Memory`, before anything is written; `Write`, only where the sink's count of
 /// faults rose, with a part of the text written.
-pub fn perform<O: Sink>(alloc: Global, task: Task, out: &mut O) -> Result<Ended, Refusal>
+pub(crate) fn perform<O: Sink>(alloc: Global, task: Task, out: &mut O) -> Result<Ended, Refusal>
     requires { InMemory (task_text task) }
     ensures { Performs (task_text task) (O.told out.old) (O.told out.new) result }
 {

@@ -4,7 +4,7 @@ ghost use Rattle.rv_types.specs.Isa.{isa};
 ghost use Rattle.elf_loader.specs.inner.Code.{word_at};
 ghost use Rattle.stt_top.specs.inner.Running.{WritesOutput, TellsRun};
 
-use crate::loading::Machine;
+use crate::loading::IsaRun;
 use crate::outcome::{Ended, ended_of};
 use isa_step::{Isa, Ran, Stepped};
 use report_text::{write_piece, write_report};
@@ -42,13 +42,17 @@ fn run<S: Sink>(state: &mut Isa, steps: u64, out: &mut S) -> Result<Ran, Failed>
 
 /// Runs the instruction set for at most so many steps and writes the report, one put a line. It takes no memory. Error:
 /// `Failed`, only where the sink's count of faults rose; then a part of the report was written.
-pub fn report<S: Sink>(machine: &mut Machine, steps: u64, out: &mut S) -> Result<Ended, Failed>
-    requires base { machine.old.before.base ≡ machine.old.isa.hart.ram.base }
-    requires size { length machine.old.before.bytes ≡ length machine.old.isa.hart.ram.bytes }
-    ensures { TellsRun machine.old.before (isa (word_at machine.old.isa.code) machine.old.isa.hart steps)
+pub(crate) fn report<S: Sink>(
+    started: &mut IsaRun,
+    steps: u64,
+    out: &mut S,
+) -> Result<Ended, Failed>
+    requires base { started.old.before.base ≡ started.old.isa.hart.ram.base }
+    requires size { length started.old.before.bytes ≡ length started.old.isa.hart.ram.bytes }
+    ensures { TellsRun started.old.before (isa (word_at started.old.isa.code) started.old.isa.hart steps)
         (S.told out.old) (S.told out.new) result }
 {
-    let ran = match run(&mut machine.isa, steps, out) {
+    let ran = match run(&mut started.isa, steps, out) {
         Ok(ran) => ran,
         Err(failed) => return Err(failed),
     };
@@ -57,11 +61,11 @@ pub fn report<S: Sink>(machine: &mut Machine, steps: u64, out: &mut S) -> Result
         retired: ran.taken,
         cycles: None,
     };
-    let isa = &machine.isa;
+    let isa = &started.isa;
     match write_report(
         isa.regs(),
         isa.pc(),
-        &machine.before,
+        &started.before,
         isa.ram(),
         &ending,
         out,

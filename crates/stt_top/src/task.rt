@@ -18,7 +18,7 @@ use tool_words::Command;
 
 /// What a command asks for.
 #[derive(Drop)]
-pub enum Task {
+pub(crate) enum Task {
     /// The instruction set's run, as a report.
     Isa {
         image: Image,
@@ -91,7 +91,7 @@ fn read_isa<F: Files>(
 
 /// Reads all that a command needs: its description, if one is named, and then its images in their order. Nothing is
 /// read behind what is refused.
-pub fn read_task<F: Files>(
+pub(crate) fn read_task<F: Files>(
     alloc: Global,
     command: Command<'_>,
     files: &mut F,

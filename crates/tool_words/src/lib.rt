@@ -27,8 +27,8 @@ pub const STEPS_MAX: u64 = 4294967295;
 /// A command with its values.
 #[derive(Clone, Copy, Debug, PartialEq, Eq)]
 pub enum Command<'a> {
-    /// `isa IMAGE --steps N [--desc D]`: runs the instruction set on an image for at most so many steps, in the memory of a
-    /// description where one is named.
+    /// `isa IMAGE --steps N [--desc D]`: runs the instruction set on an image for at most so many steps, in the memory
+    /// of a description where one is named.
     Isa {
         image: &'a str,
         steps: u64,
@@ -46,7 +46,8 @@ pub enum Command<'a> {
         image: &'a str,
         cycles: u32,
     },
-    /// `bench D --seed S --blocks B --cycles N`: the run of `run`, on the image that a seed and a number of blocks generate.
+    /// `bench D --seed S --blocks B --cycles N`: the run of `run`, on the image that a seed and a number of blocks
+    /// generate.
     Bench {
         description: &'a str,
         seed: u64,

@@ -228,7 +228,7 @@ fn add_of_at_text<const N: usize>(
 
 /// Writes a blank and the text of an event.
 #[tactic(auto, unfolding(crate::specs::TraceText::event_text))]
-pub fn add_event(draft: &mut Draft, at: usize, event: &Event) -> usize
+pub(crate) fn add_event(draft: &mut Draft, at: usize, event: &Event) -> usize
     requires { at + EVENT_MAX ≤ LINE_MAX }
     ensures text { take result draft.new ≡ take at draft.old ++ (codes " " ++ event_text event.now) }
     ensures short { result ≤ at + EVENT_MAX }

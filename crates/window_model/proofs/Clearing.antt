@@ -6,7 +6,7 @@ use Rattle.window_model.specs.declared.Entry.{Entry}
 use Rattle.window_model.specs.State.{Machine, nothing}
 use Rattle.window_model.specs.Order.{Place, first, has_address, is_store}
 use Rattle.window_model.specs.Taint.{address_tainted}
-use Rattle.window_model.specs.Dependence.{passing}
+use Rattle.machine_desc.specs.Questions.{loads_pass}
 use Rattle.window_model.specs.Clear.{clear, clear_at, clear_with, cleared_one, clears, is_violated, may_clear, violated_by, violates}
 use Rattle.window_model.proofs.Booleans.{both, not_true}
 use Rattle.window_model.proofs.Counts.{Goes}
@@ -35,7 +35,7 @@ cleared_goes e = record { item = refl; serial = refl; waits = λ h. h }
 
 -- what Clear knows of the store that it takes, and of the window
 pub record Cleared (d : Desc) (x : Machine) (p : Place) : Type 0 where
-  pub passing : passing d ≡ true
+  pub loads_pass : loads_pass d ≡ true
   pub window : x.window ≡ reverse p.before ++ p.entry ∷ p.younger
   pub parts : MayClear d p.before p.entry
 
@@ -56,14 +56,14 @@ module _ (d : Desc) (P : Machine → Type 0)
       by_place (λ between e. is_violated p.entry e) p.younger (λ o. P (clear_with d p o x).machine) (stays x p t h)
       (λ q f. cuts x p q t (record { younger = stands_at (λ between e. is_violated p.entry e) p.younger q f; has = f.has }) h)
 
-  by_store : passing d ≡ true → (x : Machine) → P x → P (clear_at d (first (may_clear d) x.window) x).machine
+  by_store : loads_pass d ≡ true → (x : Machine) → P x → P (clear_at d (first (may_clear d) x.window) x).machine
   by_store a x h =
       by_place (may_clear d) x.window (λ o. P (clear_at d o x).machine) h
-      (λ p f. by_violated x p (record { passing = a; window = stands_at (may_clear d) x.window p f; parts = clear_parts d p.before p.entry f.has }) h)
+      (λ p f. by_violated x p (record { loads_pass = a; window = stands_at (may_clear d) x.window p f; parts = clear_parts d p.before p.entry f.has }) h)
 
   pub clear_keep : (x : Machine) → P x → P (clear d x).machine
-  clear_keep x h = by_passing (passing d) refl
+  clear_keep x h = by_passing (loads_pass d) refl
     where
-      by_passing : (b : Bool) → passing d ≡ b → P (if b then clear_at d (first (may_clear d) x.window) x else nothing x).machine
+      by_passing : (b : Bool) → loads_pass d ≡ b → P (if b then clear_at d (first (may_clear d) x.window) x else nothing x).machine
       by_passing true a = by_store a x h
       by_passing false a = h

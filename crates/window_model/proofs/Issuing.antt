@@ -20,7 +20,7 @@ use Rattle.window_model.specs.declared.Progress.{Progress}
 use Rattle.window_model.specs.declared.Outcome.{Outcome}
 use Rattle.window_model.specs.declared.Miss.{Miss}
 use Rattle.window_model.specs.Around.{Around}
-use Rattle.window_model.specs.Retire.{has_line, op_of, width_of}
+use Rattle.window_model.specs.Retire.{has_line, op_of, byte_count}
 use Rattle.window_model.specs.Order.{Place, each_from, is_waiting, is_load, is_store, has_address, has_data, sources, base_of, others_of}
 use Rattle.window_model.specs.State.{Machine, line_of, lines_of}
 use Rattle.window_model.specs.Taint.{any_tainted, address_tainted}
@@ -323,7 +323,7 @@ module _ (d : Desc) (now : Around) (P : Access → Type 0) (forwards : P Forward
     pub by_load : (b : List Entry) (e : Entry) → P (access_of d now b e)
     by_load b e =
         let a = (effect_of now.regs b e).addr in
-        by_fault b a (width_of e) (load_fault now.ram a (width_of e)) (some_bytes (op_of e.item.instr))
+        by_fault b a (byte_count e) (load_fault now.ram a (byte_count e)) (some_bytes (op_of e.item.instr))
 
 -- ---- what a load leaves
 

@@ -106,22 +106,6 @@ passes_leaving Spectre e l t c w = left_settled e.item.kind e.resolved e.cleared
 passes_leaving Futuristic e l t c w = let b = both (is_done e.state) _ l in left_safe e.item.kind e b.0 b.1 t c w
 passes_leaving Off e l t c w = refl
 
-unsettled_as : (k : Kind) (r c : Bool) → is_control k ≡ true → r ≡ false → settled_as k r c ≡ false
-unsettled_as Branch r c i u = u
-unsettled_as Jalr r c i u = u
-unsettled_as _ r c i u = absurd (cc)
-
-unsafe_as : (k : Kind) (e : Entry) → is_control k ≡ true → e.resolved ≡ false → safe_as k e ≡ false
-unsafe_as Branch e c u = ap (λ b. b && not (is_faulty e)) u
-unsafe_as Jalr e c u = ap (λ b. b && not (is_faulty e)) u
-unsafe_as _ e c u = absurd (cc)
-
--- a branch or JALR that is not resolved doesn't pass, under each model that protects
-pub unresolved_fails : (m : SttModel) (e : Entry) → protects m ≡ true → is_control e.item.kind ≡ true → e.resolved ≡ false → passes m e ≡ false
-unresolved_fails Spectre e p c u = unsettled_as e.item.kind e.resolved e.cleared c u
-unresolved_fails Futuristic e p c u = unsafe_as e.item.kind e c u
-unresolved_fails Off e p c u = absurd (cc)
-
 uncleared_as : (k : Kind) (r c : Bool) → is_store k ≡ true → c ≡ false → settled_as k r c ≡ false
 uncleared_as Store r c s u = u
 uncleared_as _ r c s u = absurd (cc)

@@ -12,7 +12,7 @@ use Rattle.window_model.specs.declared.Event.{Event}
 use Rattle.window_model.specs.declared.Event.TheVariants as event
 use Rattle.window_model.specs.State.{Machine, line_of, lines_of}
 use Rattle.window_model.specs.Order.{is_store}
-use Rattle.window_model.specs.Retire.{Retired, retire, turns, head_leaves, call_leaves, hart_of, has_line, lines_in, addr_of, width_of}
+use Rattle.window_model.specs.Retire.{Retired, retire, turns, head_leaves, call_leaves, hart_of, has_line, lines_in, addr_of, byte_count}
 use Rattle.window_model.specs.Rename.{CallAlone, calls, is_call}
 use Rattle.window_model.proofs.Calls.{CallDoes, call_does}
 use Rattle.window_model.proofs.Counts.{count, count_is}
@@ -54,7 +54,7 @@ head_tells Store d e rest x = record {
   events =
       let lines = lines_in d e in
       let m = length-map lines (λ line. event.St e.serial line (has_line d x.cache line)) in
-      let n = lines_few d (addr_of e.outcome) (width_of e) in
+      let n = lines_few d (addr_of e.outcome) (byte_count e) in
       omega (arith, m, n);
   window = refl;
 }

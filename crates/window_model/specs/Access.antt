@@ -18,7 +18,7 @@ use Rattle.window_model.specs.Around.{Around}
 use Rattle.window_model.specs.Order.{is_store, has_address}
 use Rattle.window_model.specs.Taint.{address_tainted}
 use Rattle.window_model.specs.SecondLevel.{second_has, second_touched}
-use Rattle.window_model.specs.Retire.{has_line, touched, addr_of, stored_of, width_of}
+use Rattle.window_model.specs.Retire.{has_line, touched, addr_of, stored_of, byte_count}
 
 -- an access of n bytes with this outcome reaches the byte at an address: it has no fault, and the byte is one of its
 -- own
@@ -28,11 +28,11 @@ reaches a n (Some o) = not (is_some o.fault) && nat_le o.addr a && nat_lt a (o.a
 
 -- the entry is a store that writes the byte at this address: none where its address isn't known yet
 abbrev pub covers : ℕ → Entry → Bool
-covers a e = is_store e.item.kind && has_address e && reaches a (width_of e) e.outcome
+covers a e = is_store e.item.kind && has_address e && reaches a (byte_count e) e.outcome
 
 -- the byte that a store writes at an address that it covers
 abbrev pub byte_from : ℕ → Entry → ℕ
-byte_from a e = slice_index (to_le (width_of e) (stored_of e.outcome)) (a - addr_of e.outcome)
+byte_from a e = slice_index (to_le (byte_count e) (stored_of e.outcome)) (a - addr_of e.outcome)
 
 -- the byte at an address: that of the store found, else memory's
 abbrev pub byte_of : Ram → ℕ → Option Entry → ℕ

@@ -6,10 +6,6 @@ use Rattle.machine_desc.specs.Questions.{loads_pass}
 use Rattle.window_model.specs.Order.{is_store}
 use Rattle.window_model.specs.Resolve.{index}
 
--- there are bits of dependence: loads may pass stores of unknown address, unless a bit tells them to wait
-abbrev pub passing : Desc → Bool
-passing d = loads_pass d
-
 -- where the bit of a load at this address stands
 abbrev pub bit_index : Desc → ℕ → ℕ
 bit_index d pc = index pc d.predictor_depend
@@ -22,7 +18,7 @@ waits_for_stores d dependence pc = slice_index_or dependence (bit_index d pc) fa
 abbrev pub bit_set : Desc → ℕ → List Bool → List Bool
 bit_set d pc dependence = slice_set dependence (bit_index d pc) true
 
--- an entry of this kind has to be cleared before it counts as cleared: a store, where there are bits of dependence and so
--- loads may pass it. Any other entry is cleared from its renaming on
+-- an entry of this kind has to be cleared before it counts as cleared: a store, where there are bits of dependence and
+-- so loads may pass it. Any other entry is cleared from its renaming on
 abbrev pub needs_clearing : Desc → Kind → Bool
-needs_clearing d k = passing d && is_store k
+needs_clearing d k = loads_pass d && is_store k

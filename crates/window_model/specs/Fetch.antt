@@ -15,8 +15,8 @@ use Rattle.window_model.specs.declared.Event.TheVariants as event
 use Rattle.window_model.specs.declared.Item.{Item}
 use Rattle.window_model.specs.State.{Machine, After, then_does, nothing, Target}
 use Rattle.window_model.specs.Resolve.{index}
-use Rattle.window_model.specs.History.{counter_index, mark_after, returns_to}
-use Rattle.window_model.specs.declared.Mark.{Mark}
+use Rattle.window_model.specs.History.{counter_index, checkpoint_after, returns_to}
+use Rattle.window_model.specs.declared.Checkpoint.{Checkpoint}
 
 -- the instruction of a word; outside code an illegal one
 abbrev pub instr_at : Option ℕ → Instr
@@ -40,7 +40,7 @@ stored_target pc None = word_add pc 4
 stored_target pc (Some t) = if t.pc == pc then t.target else word_add pc 4
 
 -- the direction that is predicted: taken only of a branch, where the counter that its history gives it is 2 or 3
-abbrev pub guess : Kind → Desc → List ℕ → Mark → ℕ → Bool
+abbrev pub guess : Kind → Desc → List ℕ → Checkpoint → ℕ → Bool
 guess Branch d counters m pc = nat_le 2 (slice_index counters (counter_index d m pc))
 guess _ d counters m pc = false
 
@@ -50,7 +50,7 @@ unless_returns None target = target
 unless_returns (Some back) target = back
 
 -- the next pc that is predicted, none after a stop, of a branch that is predicted to go this way
-abbrev pub predicted : Kind → Desc → List (Option Target) → Mark → Bool → ℕ → Instr → Option ℕ
+abbrev pub predicted : Kind → Desc → List (Option Target) → Checkpoint → Bool → ℕ → Instr → Option ℕ
 predicted (Stop cause) d targets m way pc i = None
 predicted Jal d targets m way pc i = Some (target_of pc i)
 predicted Branch d targets m way pc i = Some (if way then target_of pc i else word_add pc 4)
@@ -62,20 +62,20 @@ predicted _ d targets m way pc i = Some (word_add pc 4)
 abbrev pub item_at : Desc → Code → Machine → ℕ → Item
 item_at d code x pc =
     let w = code pc in
-    let way = guess (kind_at w) d x.counters x.mark pc in
-    let next = predicted (kind_at w) d x.targets x.mark way pc (instr_at w) in
-    record { pc = pc; instr = instr_at w; kind = kind_at w; predicted = next; mark = x.mark }
+    let way = guess (kind_at w) d x.counters x.checkpoint pc in
+    let next = predicted (kind_at w) d x.targets x.checkpoint way pc (instr_at w) in
+    record { pc = pc; instr = instr_at w; kind = kind_at w; predicted = next; checkpoint = x.checkpoint }
 
 -- history and stack after an item, by the predicted direction where it is a branch
-abbrev pub guessed_mark : Desc → List ℕ → Item → Mark
-guessed_mark d counters item =
-    mark_after item.kind d item.pc item.instr (guess item.kind d counters item.mark item.pc) item.mark
+abbrev pub guessed_checkpoint : Desc → List ℕ → Item → Checkpoint
+guessed_checkpoint d counters item =
+    checkpoint_after item.kind d item.pc item.instr (guess item.kind d counters item.checkpoint item.pc) item.checkpoint
 
 -- the item goes to the end of the queue, and fetching goes on at its predicted next, with history and stack as they are
 -- after it
 abbrev pub fetch_one : Desc → Item → Machine → After
 fetch_one d item x = record {
-  machine = record x { queue = x.queue ++ item ∷ []; fetch_pc = item.predicted; mark = guessed_mark d x.counters item };
+  machine = record x { queue = x.queue ++ item ∷ []; fetch_pc = item.predicted; checkpoint = guessed_checkpoint d x.counters item };
   events = event.Fet item.pc ∷ [];
 }
 

@@ -23,7 +23,7 @@ use Rattle.window_model.specs.Around.{Around, around}
 use Rattle.window_model.specs.Order.{Place, first, each, is_store, sources}
 use Rattle.window_model.specs.MayIssue.{effect_of, first_operand}
 use Rattle.window_model.specs.Ports.{Port, AddressPort, DataPort, DivPort, LoadPort, is_granted, may_at, port_of}
-use Rattle.window_model.specs.Retire.{op_of, width_of}
+use Rattle.window_model.specs.Retire.{op_of, byte_count}
 use Rattle.window_model.specs.Access.{Access, Faults, Forwards, Looks, Waits, access, cache_after, due_by, load_bytes, look_events, misses_after, second_after}
 
 -- ---- what an entry does that is no store
@@ -55,7 +55,7 @@ waits e = record { entry = e; events = [] }
 
 -- a load's value without fault
 abbrev pub value_loaded : Ram → List Entry → Entry → ℕ → ℕ
-value_loaded ram before e a = extend (op_of e.item.instr) (from_le (load_bytes ram before a (width_of e)))
+value_loaded ram before e a = extend (op_of e.item.instr) (from_le (load_bytes ram before a (byte_count e)))
 
 -- a load by what its access comes to: when it is done, and its events
 abbrev pub load_as : Access → Desc → Around → Entry → Effect → ℕ → Begun
@@ -66,7 +66,7 @@ load_as Waits d now e f v = waits e
 
 -- the access of a load
 abbrev pub access_of : Desc → Around → List Entry → Entry → Access
-access_of d now before e = access d now before (effect_of now.regs before e).addr (width_of e)
+access_of d now before e = access d now before (effect_of now.regs before e).addr (byte_count e)
 
 -- the time of a division
 abbrev pub time_of : List ℕ → List Entry → Entry → ℕ
@@ -111,7 +111,7 @@ if_both e = record e { state = busy_until_both e.addr_due e.data_due e.state }
 -- the address part has issued: address and fault are known in the next cycle
 abbrev pub with_address : Around → Effect → Entry → Entry
 with_address now f e = if_both (record e {
-  outcome = Some (record (so_far e.outcome f.next) { addr = f.addr; fault = store_fault now.ram f.addr (width_of e) });
+  outcome = Some (record (so_far e.outcome f.next) { addr = f.addr; fault = store_fault now.ram f.addr (byte_count e) });
   addr_due = Some (now.cycle + 1);
 })
 

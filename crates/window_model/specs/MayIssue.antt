@@ -8,15 +8,15 @@ use Rattle.rv_types.specs.Path.{unless_fault}
 use Rattle.rv_types.specs.declared.Kind.{Kind}
 use Rattle.rv_types.specs.declared.Kind.TheVariants.{Div, Load}
 use Rattle.machine_desc.specs.declared.Desc.{Desc}
-use Rattle.machine_desc.specs.Questions.{stores_in_one}
+use Rattle.machine_desc.specs.Questions.{loads_pass, stores_in_one}
 use Rattle.machine_desc.specs.declared.SttModel.{SttModel}
 use Rattle.window_model.specs.declared.Entry.{Entry}
 use Rattle.window_model.specs.Around.{Around, is_free}
 use Rattle.window_model.specs.Order.{is_waiting, is_done, is_store, has_address, has_data, operand, sources, base_of, others_of}
 use Rattle.window_model.specs.Taint.{any_tainted, address_tainted}
 use Rattle.window_model.specs.Ready.{all_known, ready}
-use Rattle.window_model.specs.Dependence.{passing, waits_for_stores}
-use Rattle.window_model.specs.Retire.{width_of}
+use Rattle.window_model.specs.Dependence.{waits_for_stores}
+use Rattle.window_model.specs.Retire.{byte_count}
 use Rattle.window_model.specs.Access.{covers}
 
 -- ---- the operands of an entry
@@ -49,11 +49,11 @@ address_of regs before e = (effect e.item.pc e.item.instr (first_operand regs be
 -- the bytes of a load, none where it faults
 abbrev pub bytes_of : Around → List Entry → Entry → List ℕ
 bytes_of now before e =
-    let a = address_of now.regs before e in unless_fault (load_fault now.ram a (width_of e)) (range a (width_of e))
+    let a = address_of now.regs before e in unless_fault (load_fault now.ram a (byte_count e)) (range a (byte_count e))
 
 -- the load passes stores of unknown address
 abbrev pub passes_stores : Desc → Around → Entry → Bool
-passes_stores d now e = passing d && not (waits_for_stores d now.dependence e.item.pc)
+passes_stores d now e = loads_pass d && not (waits_for_stores d now.dependence e.item.pc)
 
 -- a store lets a younger load of these bytes go: its address is known, or the load passes it; and its data is known, or
 -- its address is untainted and it covers none of them

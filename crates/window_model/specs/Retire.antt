@@ -76,8 +76,8 @@ abbrev pub width_in : Instr → ℕ
 width_in i = size_of (op_of i)
 
 -- the bytes that an entry moves as a load or store
-abbrev pub width_of : Entry → ℕ
-width_of e = width_in e.item.instr
+abbrev pub byte_count : Entry → ℕ
+byte_count e = width_in e.item.instr
 
 -- ---- lines in the cache
 
@@ -102,11 +102,11 @@ leaves e rest x = record x {
 
 -- the lines of what an entry accesses
 abbrev pub lines_in : Desc → Entry → List ℕ
-lines_in d e = lines_of d (addr_of e.outcome) (width_of e)
+lines_in d e = lines_of d (addr_of e.outcome) (byte_count e)
 
 -- memory once a store has written its bytes
 abbrev pub stored_in : Ram → Entry → Ram
-stored_in ram e = with_bytes ram (addr_of e.outcome) (to_le (width_of e) (stored_of e.outcome))
+stored_in ram e = with_bytes ram (addr_of e.outcome) (to_le (byte_count e) (stored_of e.outcome))
 
 -- a store's events: that it retires, and whether the cache has each of its lines
 abbrev pub store_events : Desc → Entry → List (List ℕ) → List Event
@@ -151,8 +151,8 @@ then_retires r more = let s = more r.machine in record { machine = s.machine; ev
 abbrev pub ends_with : Cause → Entry → Machine → Retired
 ends_with cause e x = stays (record x { end = Some (Trap cause e.item.pc) })
 
--- a store waits behind another one of the cycle, and until it is cleared. This asks `cleared` alone: a store that needs no
--- clearing is cleared from its renaming on (`needs_clearing` of `Dependence.antt`)
+-- a store waits behind another one of the cycle, and until it is cleared. This asks `cleared` alone: a store that needs
+-- no clearing is cleared from its renaming on (`needs_clearing` of `Dependence.antt`)
 abbrev pub store_waits : Bool → Entry → Bool
 store_waits stored e = is_store e.item.kind && (stored || not e.cleared)
 

@@ -8,8 +8,8 @@ use Rattle.window_model.specs.declared.Entry.{Entry}
 use Rattle.window_model.specs.declared.Item.{Item}
 use Rattle.window_model.specs.declared.Event.{Event}
 use Rattle.window_model.specs.Sets.{set_in}
-use Rattle.window_model.specs.History.{no_mark}
-use Rattle.window_model.specs.declared.Mark.{Mark}
+use Rattle.window_model.specs.History.{no_checkpoint}
+use Rattle.window_model.specs.declared.Checkpoint.{Checkpoint}
 pub use Rattle.window_model.specs.declared.Miss.{Miss}
 pub use Rattle.window_model.specs.declared.Target.{Target}
 pub use Rattle.window_model.specs.declared.Divider.{Divider}
@@ -31,7 +31,7 @@ pub record Machine : Type 0 where
   -- the bits of dependence: a set one tells loads to wait for the addresses of older stores
   pub dependence : List Bool
   -- history and return stack, as the next item comes to be fetched
-  pub mark : Mark
+  pub checkpoint : Checkpoint
   -- the two levels of the cache: for each set a list of lines, most recently used first
   pub cache : List (List ℕ)
   pub second : List (List ℕ)
@@ -70,7 +70,7 @@ opening d entry ram =
       counters = replicate d.predictor_counters 1;
       targets = replicate d.predictor_btb None;
       dependence = replicate d.predictor_depend false;
-      mark = no_mark;
+      checkpoint = no_checkpoint;
       cache = replicate d.cache_sets [];
       second = replicate d.cache_second_sets [];
       misses = [];

@@ -4,17 +4,17 @@ ghost use Rattle.rv_types.specs.Causes.{illegal};
 ghost use Rattle.rv_types.specs.declared.Instr.TheVariants as instr;
 ghost use Rattle.rv_types.specs.declared.Kind.TheVariants as kind;
 ghost use Rattle.window_model.specs.declared.Progress.TheVariants as state;
-ghost use Rattle.window_model.specs.History.{no_mark};
+ghost use Rattle.window_model.specs.History.{no_checkpoint};
 
-use crate::{Entry, Item, Mark, Miss, Progress, RETURNS_MAX};
+use crate::{Checkpoint, Entry, Item, Miss, Progress, RETURNS_MAX};
 use rv_types::{Cause, Instr, Kind};
 
-impl Default for Mark {
+impl Default for Checkpoint {
     /// No branch yet, and an empty stack.
     fn default() -> Self
-        ensures { result ≡ no_mark }
+        ensures { result ≡ no_checkpoint }
     {
-        Mark {
+        Checkpoint {
             history: 0,
             depth: 0,
             addresses: [0; RETURNS_MAX],
@@ -30,7 +30,7 @@ impl Default for Item {
           instr = instr.Illegal 0;
           kind = kind.Stop illegal;
           predicted = None;
-          mark = no_mark;
+          checkpoint = no_checkpoint;
         } }
     {
         Item {
@@ -38,7 +38,7 @@ impl Default for Item {
             instr: Instr::Illegal(0),
             kind: Kind::Stop(Cause::illegal()),
             predicted: None,
-            mark: Mark::default(),
+            checkpoint: Checkpoint::default(),
         }
     }
 }
@@ -48,7 +48,7 @@ impl Default for Entry {
     fn default() -> Self
         ensures { result ≡ record {
           serial = 0;
-          item = record { pc = 0; instr = instr.Illegal 0; kind = kind.Stop illegal; predicted = None; mark = no_mark };
+          item = record { pc = 0; instr = instr.Illegal 0; kind = kind.Stop illegal; predicted = None; checkpoint = no_checkpoint };
           state = state.Done;
           outcome = None;
           resolved = false;

@@ -8,7 +8,7 @@ impl Entry {
     ghost use Rattle.window_model.specs.Order.{is_done, is_load, is_store, is_control, is_faulty, fault_of, value_of};
     ghost use Rattle.window_model.specs.Taint.{safe, settled};
     ghost use Rattle.window_model.specs.Resolve.{is_taken, next_of};
-    ghost use Rattle.window_model.specs.Retire.{may_leave, trap_of, addr_of, stored_of, op_of, width_of};
+    ghost use Rattle.window_model.specs.Retire.{may_leave, trap_of, addr_of, stored_of, op_of, byte_count};
 
     /// Whether the entry is Done.
     pub fn is_done(&self) -> bool
@@ -164,14 +164,14 @@ impl Entry {
 
     /// How much the entry moves as a load or store.
     pub fn width(&self) -> Width
-        ensures { bytes_in result ≡ width_of self.now }
+        ensures { bytes_in result ≡ byte_count self.now }
     {
         width_of(self.op())
     }
 
     /// How many bytes that is: 1, 2 or 4.
     pub fn bytes(&self) -> u32
-        ensures value { result ≡ width_of self.now }
+        ensures value { result ≡ byte_count self.now }
         ensures some { 0 < result }
         ensures few { result ≤ 4 }
     {

@@ -29,7 +29,7 @@ pub const RETURNS_MAX: usize = 16;
 /// Global history and return stack (`docs/machine.md`, "History and return stack"). The stack is the first `depth` of
 /// the addresses, youngest first; the others are 0.
 #[derive(Clone, Copy, Debug, PartialEq, Eq)]
-pub struct Mark {
+pub struct Checkpoint {
     /// The directions of the last branches, of the youngest in the lowest bit.
     pub history: u32,
     /// How many addresses are on the stack.
@@ -50,7 +50,7 @@ pub struct Item {
     /// The address from which fetching went on. Only a stop has none.
     pub predicted: Option<u32>,
     /// History and stack before it.
-    pub mark: Mark,
+    pub checkpoint: Checkpoint,
 }
 
 /// How far an instruction in flight is.

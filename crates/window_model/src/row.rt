@@ -7,8 +7,8 @@ use std::marker::Model;
 /// The most events of one cycle.
 pub const ROW_MAX: usize = 256;
 
-/// What happened in a cycle, at most 256 events. It takes no memory. The events are the first of as many places as a row
-/// has room for; what stands in the places behind them means nothing.
+/// What happened in a cycle, at most 256 events. It takes no memory. The events are the first of as many places as a
+/// row has room for; what stands in the places behind them means nothing.
 #[derive(Drop)]
 pub struct Row {
     cycle: u32,

@@ -17,7 +17,7 @@ use Rattle.window_model.specs.declared.Item.{Item}
 use Rattle.window_model.specs.declared.Progress.TheVariants.{Waiting, Done}
 use Rattle.window_model.specs.declared.Way.TheVariants.{Taken, Jump}
 use Rattle.window_model.specs.Sets.{is_in, moved_up, entered}
-use Rattle.window_model.specs.History.{no_mark}
+use Rattle.window_model.specs.History.{no_checkpoint}
 use Rattle.window_model.specs.State.{Machine, opening}
 use Rattle.window_model.specs.Access.{covers, load_bytes, any_store_hidden}
 use Rattle.window_model.specs.Rename.{fits}
@@ -32,7 +32,7 @@ use Rattle.window_model.proofs.Worked.{memory}
 
 -- the item of a word at 0x10000, predicted to go on behind it
 abbrev item_of : ℕ → Item
-item_of w = record { pc = 0x10000; instr = decode w; kind = kind_of (decode w); predicted = Some 0x10004; mark = no_mark }
+item_of w = record { pc = 0x10000; instr = decode w; kind = kind_of (decode w); predicted = Some 0x10004; checkpoint = no_checkpoint }
 
 -- an entry that waits, by its serial and its word
 abbrev waiting : ℕ → ℕ → Entry

@@ -3,7 +3,7 @@ pub mod Shadows
 pub mod Accesses
 pub mod Flow
 pub mod Corners
-pub mod Marks
+pub mod Checkpoints
 pub mod Version2
 pub mod PassedStores
 pub mod Violated

@@ -18,7 +18,7 @@ use Rattle.window_model.specs.Access.{Access, Looks, access}
 use Rattle.window_model.specs.Dependence.{bit_index}
 use Rattle.window_model.specs.Fetch.{fetch}
 use Rattle.window_model.specs.Fill.{with_line}
-use Rattle.window_model.specs.History.{no_mark, counter_index, shifted, pushed, stack}
+use Rattle.window_model.specs.History.{no_checkpoint, counter_index, shifted, pushed, stack}
 use Rattle.window_model.specs.Ports.{ports, AluPort}
 use Rattle.window_model.specs.Rename.{fits}
 use Rattle.window_model.specs.Resolve.{index}
@@ -125,7 +125,7 @@ largest = record {
 
 -- the item of a word at 0x10000
 abbrev item_of : ℕ → Item
-item_of w = record { pc = 0x10000; instr = decode w; kind = kind_of (decode w); predicted = Some 0x10004; mark = no_mark }
+item_of w = record { pc = 0x10000; instr = decode w; kind = kind_of (decode w); predicted = Some 0x10004; checkpoint = no_checkpoint }
 
 -- an entry of a word, that waits or is done
 abbrev entry_of : Progress → ℕ → Entry
@@ -221,7 +221,7 @@ second_sets = refl
 -- ---- what is predicted, and the units
 
 -- 4,096 counters, 256 targets, 1,024 bits of dependence
-counters : map (counter_index largest no_mark) (4 ∷ 16380 ∷ 16384 ∷ []) ≡ 1 ∷ 4095 ∷ 0 ∷ []
+counters : map (counter_index largest no_checkpoint) (4 ∷ 16380 ∷ 16384 ∷ []) ≡ 1 ∷ 4095 ∷ 0 ∷ []
 counters = refl
 
 targets : map (λ pc. index pc largest.predictor_btb) (4 ∷ 1020 ∷ 1024 ∷ []) ≡ 1 ∷ 255 ∷ 0 ∷ []
@@ -231,10 +231,10 @@ bits : map (bit_index largest) (4 ∷ 4092 ∷ 4096 ∷ []) ≡ 1 ∷ 1023 ∷ 0
 bits = refl
 
 -- thirteen branches are taken, of which twelve count; of seventeen addresses sixteen stay
-history : (fold (λ m way. shifted largest way m) no_mark (replicate 13 true)).history ≡ 4095
+history : (fold (λ m way. shifted largest way m) no_checkpoint (replicate 13 true)).history ≡ 4095
 history = refl
 
-addresses : stack (fold (λ m a. pushed largest a m) no_mark (1 ∷ 2 ∷ 3 ∷ 4 ∷ 5 ∷ 6 ∷ 7 ∷ 8 ∷ 9 ∷ 10 ∷ 11 ∷ 12 ∷ 13 ∷ 14 ∷ 15 ∷ 16 ∷ 17 ∷ []))
+addresses : stack (fold (λ m a. pushed largest a m) no_checkpoint (1 ∷ 2 ∷ 3 ∷ 4 ∷ 5 ∷ 6 ∷ 7 ∷ 8 ∷ 9 ∷ 10 ∷ 11 ∷ 12 ∷ 13 ∷ 14 ∷ 15 ∷ 16 ∷ 17 ∷ []))
     ≡ 17 ∷ 16 ∷ 15 ∷ 14 ∷ 13 ∷ 12 ∷ 11 ∷ 10 ∷ 9 ∷ 8 ∷ 7 ∷ 6 ∷ 5 ∷ 4 ∷ 3 ∷ 2 ∷ []
 addresses = refl
 

@@ -150,7 +150,7 @@ WRONG = [
     ("a branch is resolved in the cycle after it is Done", ABLE,
      ABLE.replace("not entry.resolved", "not entry.resolved and entry.due < self.now"),
      ["misaligned_jump", "return_by_stack"]),
-    ("counters go up to 4", COUNTS, COUNTS.replace("3)", "4)"), ["faulting_branch_squashes", "mark_of_the_load"]),
+    ("counters go up to 4", COUNTS, COUNTS.replace("3)", "4)"), ["faulting_branch_squashes", "checkpoint_of_the_load"]),
     ("counters go up to 2", COUNTS, COUNTS.replace("3)", "2)"), ["short_history", "run_05"]),
     ("counters go down to 1", COUNTS, COUNTS.replace(", 0)", ", 1)"), ["fault_held", "off_forwards"]),
     ("counters move by two", COUNTS, COUNTS.replace("+ 1, 3", "+ 2, 3").replace("- 1, 0", "- 2, 0"),

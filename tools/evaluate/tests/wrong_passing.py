@@ -19,7 +19,7 @@ SHARED = "any(map(self.covers, range(load.address, load.address + load.size)))"
 VIOLATED = f"return passed and load.fault is None and {SHARED}"
 GOES = "        dropped = self.drop_from(self.window.index(load))\n        self.fetch_pc = load.item.pc\n"
 BIT = "        place = self.bit_of(load)\n        self.waits_for_stores[place] = True\n"
-MARK = "self.history, self.stack = load.item.mark"
+CHECKPOINT = "self.history, self.stack = load.item.checkpoint"
 TRAPS = "head.kind == STOP or head.fault is not None"
 PASSES = "passes = self.d.depend and not self.waits_for_stores[self.bit_of(load)]"
 ASKED = "if store.data_due is None and (tainted[store.serial][0] or"
@@ -76,11 +76,11 @@ WRONG = [
     ("the bit of the store is set", BIT, BIT.replace("bit_of(load)", "bit_of(store)"), ["wrong_pass", "waits_the_second_time"]),
     ("a bit stands by the address as it is", "load.item.pc // 4 % self.d.depend", "load.item.pc % self.d.depend",
      ["wrong_pass", "stack_after_violation"]),
-    ("history and stack aren't mended at a violation", f"        {MARK}\n", "", ["stack_after_violation"]),
-    ("the stack isn't mended at a violation", MARK, "self.history, _ = load.item.mark", ["stack_after_violation"]),
-    ("the stack is empty behind a violation", MARK, "self.history, self.stack = load.item.mark[0], ()", ["stack_after_violation"]),
-    ("history isn't mended at a violation", MARK, "_, self.stack = load.item.mark", ["history_after_violation"]),
-    ("history is empty behind a violation", MARK, "self.history, self.stack = 0, load.item.mark[1]", ["history_after_violation"]),
+    ("history and stack aren't mended at a violation", f"        {CHECKPOINT}\n", "", ["stack_after_violation"]),
+    ("the stack isn't mended at a violation", CHECKPOINT, "self.history, _ = load.item.checkpoint", ["stack_after_violation"]),
+    ("the stack is empty behind a violation", CHECKPOINT, "self.history, self.stack = load.item.checkpoint[0], ()", ["stack_after_violation"]),
+    ("history isn't mended at a violation", CHECKPOINT, "_, self.stack = load.item.checkpoint", ["history_after_violation"]),
+    ("history is empty behind a violation", CHECKPOINT, "self.history, self.stack = 0, load.item.checkpoint[1]", ["history_after_violation"]),
 
     # what is visible meanwhile
     ("under `spectre` a store that isn't cleared hides nothing", SETTLED, "self.kind not in CONTROL or self.resolved", ["clearing_hides"]),

@@ -3,7 +3,7 @@ traces it changes."""
 
 SHIFT = "history = (2 * history + taken) % 2 ** self.d.history"
 BRANCHES = "        if item.kind == BRANCH:\n            " + SHIFT
-AFTER = "self.history, self.stack = self.mark_behind(entry.item, taken=entry.value == 1)"
+AFTER = "self.history, self.stack = self.checkpoint_behind(entry.item, taken=entry.value == 1)"
 PUSHES = "        if item.links and self.d.returns:\n"
 PUSHED = "(*stack, item.pc + 4 & WORD)[-self.d.returns:]"
 LINKS = "self.kind in (JAL, JALR) and self.operation.code.destination == LINK"
@@ -11,7 +11,7 @@ POPS = "self.kind == JALR and self.operation.code.destination == 0 and self.oper
 POPPED = "        if item.returns:\n            stack = stack[:-1]\n"
 PLACE = "(branch.pc // 4 ^ history) % self.d.counters"
 RESOLVED = "            place = self.counter_of(item)\n"
-FETCHED = "self.history, self.stack = self.mark_behind(item, self.is_taken(item))"
+FETCHED = "self.history, self.stack = self.checkpoint_behind(item, self.is_taken(item))"
 
 WRONG = [
     # global history
@@ -26,18 +26,18 @@ WRONG = [
     ("a taken branch counts as not taken", SHIFT, "history = 2 * history % 2 ** self.d.history", ["loop_by_history", "squash_by_history"]),
     ("each jump enters history too", BRANCHES, BRANCHES.replace("== BRANCH", "in (BRANCH, JAL, JALR)").replace("+ taken", "+ (taken or item.kind != BRANCH)"),
      ["jumps_leave_history"]),
-    ("history isn't mended at a squash", AFTER, "_, self.stack = self.mark_behind(entry.item, taken=entry.value == 1)",
+    ("history isn't mended at a squash", AFTER, "_, self.stack = self.checkpoint_behind(entry.item, taken=entry.value == 1)",
      ["squash_by_history", "history_as_fetched"]),
     ("at a squash history is that before the branch", AFTER,
-     "self.history, (_, self.stack) = entry.item.mark[0], self.mark_behind(entry.item, taken=entry.value == 1)",
+     "self.history, (_, self.stack) = entry.item.checkpoint[0], self.checkpoint_behind(entry.item, taken=entry.value == 1)",
      ["loop_by_history", "squash_by_history"]),
     ("at a squash history has the direction that was predicted", AFTER, AFTER.replace("entry.value == 1", "entry.value != 1"),
      ["loop_by_history", "squash_by_history"]),
     ("history has the true direction where nothing is squashed too", RESOLVED,
-     RESOLVED + "            self.history, _ = self.mark_behind(item, entry.value == 1)\n", ["branch_to_the_next"]),
-    ("history is empty behind a squash", AFTER, "self.history, self.stack = 0, self.mark_behind(entry.item, taken=entry.value == 1)[1]",
+     RESOLVED + "            self.history, _ = self.checkpoint_behind(item, entry.value == 1)\n", ["branch_to_the_next"]),
+    ("history is empty behind a squash", AFTER, "self.history, self.stack = 0, self.checkpoint_behind(entry.item, taken=entry.value == 1)[1]",
      ["loop_by_history", "squash_by_history"]),
-    ("history takes no direction as a branch is fetched", FETCHED, "self.stack = self.mark_behind(item, self.is_taken(item))[1]",
+    ("history takes no direction as a branch is fetched", FETCHED, "self.stack = self.checkpoint_behind(item, self.is_taken(item))[1]",
      ["history_as_fetched"]),
 
     # the return stack
@@ -61,14 +61,14 @@ WRONG = [
      ["return_that_links", "link_through_x1"]),
     ("a JALR with an offset doesn't pop", POPS, POPS + " and self.operation.imm == 0", ["wrong_return_pops"]),
     ("a return that was predicted by the stack teaches no target", "        elif entry.fault is None:\n",
-     "        elif entry.fault is None and not (item.returns and item.mark[1]):\n", ["return_by_stack"]),
+     "        elif entry.fault is None and not (item.returns and item.checkpoint[1]):\n", ["return_by_stack"]),
     ("a return never teaches a target", "        elif entry.fault is None:\n", "        elif entry.fault is None and not item.returns:\n",
      ["return_from_no_call"]),
-    ("the stack isn't mended at a squash", AFTER, "self.history, _ = self.mark_behind(entry.item, taken=entry.value == 1)",
+    ("the stack isn't mended at a squash", AFTER, "self.history, _ = self.checkpoint_behind(entry.item, taken=entry.value == 1)",
      ["stack_behind_a_squash"]),
     ("at a squash the stack is that before the jump", AFTER,
-     "self.history, self.stack = self.mark_behind(entry.item, taken=entry.value == 1)[0], entry.item.mark[1]",
+     "self.history, self.stack = self.checkpoint_behind(entry.item, taken=entry.value == 1)[0], entry.item.checkpoint[1]",
      ["linking_jump", "wrong_return_pops"]),
-    ("the stack is empty behind a squash", AFTER, "self.history, self.stack = self.mark_behind(entry.item, taken=entry.value == 1)[0], ()",
+    ("the stack is empty behind a squash", AFTER, "self.history, self.stack = self.checkpoint_behind(entry.item, taken=entry.value == 1)[0], ()",
      ["stack_behind_a_squash", "linking_jump", "wrong_return_pops"]),
 ]

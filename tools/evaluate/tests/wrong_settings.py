@@ -20,7 +20,7 @@ SOURCES = "sources = [next((e for e in reversed(before) if e.covers(byte)), None
 SHARED = "return passed and load.fault is None and any(map(self.covers, range(load.address, load.address + load.size)))"
 ISSUED = "passed = load.kind == LOAD and load.issued is not None and load.issued < self.address_due"
 SETTLED = "return self.resolved if self.kind in CONTROL else self.cleared"
-MARK = "self.history, self.stack = load.item.mark"
+CHECKPOINT = "self.history, self.stack = load.item.checkpoint"
 DIVIDES = "if entry.kind == DIVISION and (any(tainted[entry.serial]) or"
 LOADS = "if entry.kind == LOAD and (tainted[entry.serial][0] or not"
 LEAVES = "if head.kind == STORE and (stored or not head.cleared):"
@@ -157,10 +157,10 @@ WRONG = [
      ["violated_behind_a_younger_store"]),
     ("a store without data violates no load", SHARED, SHARED + " and self.data_due is not None", ["violated_without_data"]),
     ("a load that is Done isn't violated", SHARED, SHARED + " and load.state != DONE",
-     ["violated_behind_a_younger_store", "mark_of_the_load"]),
+     ["violated_behind_a_younger_store", "checkpoint_of_the_load"]),
     ("a load is violated only as a word", SHARED, SHARED + " and load.size == 4", ["violated_without_data", "off_violates"]),
     ("a violation squashes what is behind the store", DROPS, "        dropped = self.drop_from(self.window.index(store) + 1)\n",
-     ["violated_behind_a_younger_store", "bits_stay_set", "mark_of_the_load"]),
+     ["violated_behind_a_younger_store", "bits_stay_set", "checkpoint_of_the_load"]),
     ("a violation frees the divider always", DROPS, DROPS + "        self.free_from, self.user = 0, None\n",
      ["divider_kept_at_a_violation"]),
     ("a violation sets the next bit too", BIT, BIT + "        self.waits_for_stores[(place + 1) % self.d.depend] = True\n",
@@ -177,12 +177,12 @@ WRONG = [
      ["sixteen_bits"]),
     ("there is one bit for all loads", BIT_OF, "return 0", ["wrong_pass", "violated_behind_a_younger_store"]),
     ("a violation leads to the store's next instruction", AGAIN, "self.fetch_pc = store.item.pc + 4",
-     ["violated_behind_a_younger_store", "bits_stay_set", "mark_of_the_load"]),
+     ["violated_behind_a_younger_store", "bits_stay_set", "checkpoint_of_the_load"]),
 
     # which load passes
     ("a load passes a store only behind resolved branches and JALRs", PASSING,
      PASSING + " and all(e.resolved for e in before if e.kind in CONTROL)",
-     ["bit_asks_for_no_clearing", "mark_of_the_load", "mixed_settings"]),
+     ["bit_asks_for_no_clearing", "checkpoint_of_the_load", "mixed_settings"]),
     ("a load passes a store only where it is visible", PASSING, PASSING + " and self.is_visible(load)",
      ["faulting_load_not_violated", "faulting_store_cleared"]),
     ("a load with its bit set waits until stores are Done", UNKNOWN,

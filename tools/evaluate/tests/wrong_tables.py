@@ -8,14 +8,14 @@ POPPED = "        if item.returns:\n            stack = stack[:-1]\n"
 RETURNS = "        if item.returns and stack:\n"
 BTB_PLACE = "place = item.pc // 4 % self.d.btb"
 BTB_LOOK = "self.targets[pc // 4 % self.d.btb]"
-AFTER = "self.history, self.stack = self.mark_behind(entry.item, taken=entry.value == 1)"
-VIOLATED = "self.history, self.stack = load.item.mark"
+AFTER = "self.history, self.stack = self.checkpoint_behind(entry.item, taken=entry.value == 1)"
+VIOLATED = "self.history, self.stack = load.item.checkpoint"
 
 WRONG = [
     ("history has at most six digits", SHIFT, SHIFT.replace("2 ** self.d.history", "2 ** min(self.d.history, 6)"),
      ["seven_digits_of_history"]),
     ("history has one digit less", SHIFT, SHIFT.replace("2 ** self.d.history", "2 ** max(self.d.history - 1, 0)"),
-     ["history_behind_a_jalr", "seven_digits_of_history", "mark_of_the_load"]),
+     ["history_behind_a_jalr", "seven_digits_of_history", "checkpoint_of_the_load"]),
     ("history has one digit more", SHIFT, SHIFT.replace("2 ** self.d.history", "2 ** (self.d.history + 1)"),
      ["stack_behind_a_squash", "loop"]),
     ("digits of history above the counters are folded", PLACE, PLACE.replace("history)", "history ^ history // self.d.counters)"),
@@ -33,7 +33,7 @@ WRONG = [
      ("[None] * numbers.counters", BTB_PLACE.replace("btb", "counters"), BTB_LOOK.replace("btb", "counters")),
      ["jump_that_links_elsewhere", "return_by_another_register"]),
     ("targets stand by address and history", (BTB_PLACE, BTB_LOOK),
-     (BTB_PLACE.replace("item.pc // 4", "(item.pc // 4 ^ item.mark[0])"), BTB_LOOK.replace("pc // 4", "(pc // 4 ^ item.mark[0])")),
+     (BTB_PLACE.replace("item.pc // 4", "(item.pc // 4 ^ item.checkpoint[0])"), BTB_LOOK.replace("pc // 4", "(pc // 4 ^ item.checkpoint[0])")),
      ["history_behind_a_jalr"]),
     ("a stack has at most four places", PUSHED, PUSHED.replace("-self.d.returns", "-min(self.d.returns, 4)"), ["five_returns"]),
     ("a stack has one place less", PUSHED,
@@ -47,12 +47,12 @@ WRONG = [
      ["full_stack", "return_from_no_call"]),
     ("a return empties the stack", POPPED, POPPED.replace("stack[:-1]", "()"), ["five_returns", "link_through_x1", "full_stack"]),
     ("each JALR pops", POPPED, POPPED.replace("item.returns", "item.kind == JALR"), ["linking_jump", "link_through_x1"]),
-    ("a violation gives back the store's mark", VIOLATED, "self.history, self.stack = store.item.mark", ["mark_of_the_load"]),
-    ("a violation gives back the mark behind the load's oldest older branch", VIOLATED,
-     "self.history, self.stack = next((e.item.mark for e in self.window if e.kind in CONTROL), load.item.mark)",
-     ["mark_of_the_load"]),
+    ("a violation gives back the store's checkpoint", VIOLATED, "self.history, self.stack = store.item.checkpoint", ["checkpoint_of_the_load"]),
+    ("a violation gives back the checkpoint behind the load's oldest older branch", VIOLATED,
+     "self.history, self.stack = next((e.item.checkpoint for e in self.window if e.kind in CONTROL), load.item.checkpoint)",
+     ["checkpoint_of_the_load"]),
     ("a JALR's squash doesn't mend history", AFTER,
-     AFTER + "\n        if entry.kind == JALR:\n            self.history = entry.item.mark[0] * 2 % 2 ** self.d.history if "
+     AFTER + "\n        if entry.kind == JALR:\n            self.history = entry.item.checkpoint[0] * 2 % 2 ** self.d.history if "
      "self.d.history else 0",
      ["history_behind_a_jalr"]),
     ("a JALR's squash leaves history as it is", AFTER,

@@ -7,23 +7,23 @@ use Rattle.clear.proofs.phase.clear_store.Goals as goal
 
 pub at-load-requires : goal.at-load-requires
 at-load-requires g c =
-    load_inside c.args.parts.now c.args.serial c.requires.passing c.requires.found c.in-Some.violated (sym c.in-Some.is ∙ c.mark.ensures.violated) _ c.mark.new.parts c.parts.view_is c.mark.ensures.machine
-    c.parts.invariant.stands.rise _ c.position_of-position.ensures.count
+    load_inside c.args.parts.now c.args.serial c.requires.loads_pass c.requires.found c.in-Some.violated (sym c.in-Some.is ∙ c.clear_in_place.ensures.violated) _ c.clear_in_place.new.parts c.parts.view_is c.clear_in_place.ensures.machine
+    c.parts.invariant.refines.rise _ c.position_of-position.ensures.count
 
 pub fetch_anew-requires-clause-stops : goal.fetch_anew-requires-clause-stops
 fetch_anew-requires-clause-stops g c =
-    let stops = subst (λ o. IfSome o (λ load. StopsBelow load c.mark.new.parts.point c.mark.new.parts.machine.window)) c.in-Some.is c.mark.ensures.stops in
+    let stops = subst (λ o. IfSome o (λ load. StopsBelow load c.clear_in_place.new.parts.point c.clear_in_place.new.parts.machine.window)) c.in-Some.is c.clear_in_place.ensures.stops in
     let named =
-    load_named c.args.parts.now c.args.serial c.requires.passing c.requires.found c.in-Some.violated (sym c.in-Some.is ∙ c.mark.ensures.violated) _ c.mark.new.parts c.parts.view_is c.mark.ensures.machine
-    c.parts.invariant.stands.rise _ c.position_of-position.ensures.count _ c.at-load.ensures in
-    subst (λ load. StopsBelow load c.mark.new.parts.point c.mark.new.parts.machine.window) (sym named) stops
+    load_named c.args.parts.now c.args.serial c.requires.loads_pass c.requires.found c.in-Some.violated (sym c.in-Some.is ∙ c.clear_in_place.ensures.violated) _ c.clear_in_place.new.parts c.parts.view_is c.clear_in_place.ensures.machine
+    c.parts.invariant.refines.rise _ c.position_of-position.ensures.count _ c.at-load.ensures in
+    subst (λ load. StopsBelow load c.clear_in_place.new.parts.point c.clear_in_place.new.parts.machine.window) (sym named) stops
 
 pub returns-clause-machine : goal.returns-clause-machine
 returns-clause-machine g c =
-    anew_shown c.args.parts.now c.args.serial c.requires.passing c.requires.found c.in-Some.violated (sym c.in-Some.is ∙ c.mark.ensures.violated) _ c.mark.new.parts c.parts.view_is c.mark.ensures.machine
-    c.parts.invariant.stands.rise _ c.position_of-position.ensures.count _ c.at-load.ensures _ c.fetch_anew.ensures.machine
+    anew_shown c.args.parts.now c.args.serial c.requires.loads_pass c.requires.found c.in-Some.violated (sym c.in-Some.is ∙ c.clear_in_place.ensures.violated) _ c.clear_in_place.new.parts c.parts.view_is c.clear_in_place.ensures.machine
+    c.parts.invariant.refines.rise _ c.position_of-position.ensures.count _ c.at-load.ensures _ c.fetch_anew.ensures.machine
 
 pub returns-clause-row : goal.returns-clause-row
 returns-clause-row g c =
-    anew_row c.args.parts.now c.args.serial c.requires.passing c.requires.found c.in-Some.violated (sym c.in-Some.is ∙ c.mark.ensures.violated) _ c.mark.new.parts c.parts.view_is c.mark.ensures.machine
-    c.parts.invariant.stands.rise _ c.position_of-position.ensures.count _ c.at-load.ensures _ _ _ c.push.ensures c.fetch_anew.ensures.row
+    anew_row c.args.parts.now c.args.serial c.requires.loads_pass c.requires.found c.in-Some.violated (sym c.in-Some.is ∙ c.clear_in_place.ensures.violated) _ c.clear_in_place.new.parts c.parts.view_is c.clear_in_place.ensures.machine
+    c.parts.invariant.refines.rise _ c.position_of-position.ensures.count _ c.at-load.ensures _ _ _ c.push.ensures c.fetch_anew.ensures.row

@@ -1,4 +1,4 @@
--- The load's bit is set, and history and stack are its mark, as all from it on goes.
+-- The load's bit is set, and history and stack are its checkpoint, as all from it on goes.
 use Rattle.clear.proofs.Learnt.{anew_is, anew_told}
 use Rattle.clear.proofs.phase.fetch_anew.Goals as goal
 

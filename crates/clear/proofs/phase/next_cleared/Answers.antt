@@ -6,4 +6,4 @@ pub clearable-requires : goal.clearable-requires
 clearable-requires g c = record { few = few_stores _ c.parts.invariant }
 
 pub returns : goal.returns
-returns g c = finds _ _ _ c.parts.invariant c.parts.view_is c.requires.passing c.requires.advanced c.clearable.ensures
+returns g c = finds _ _ _ c.parts.invariant c.parts.view_is c.requires.loads_pass c.requires.advanced c.clearable.ensures

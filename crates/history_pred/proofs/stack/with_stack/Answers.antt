@@ -5,5 +5,5 @@ use Rattle.history_pred.proofs.stack.with_stack.Goals as goal
 
 pub returns : goal.returns
 returns c =
-    ap (λ places. record { history = c.args.mark.now.history; depth = length c.args.addresses.now; addresses = places })
+    ap (λ places. record { history = c.args.checkpoint.now.history; depth = length c.args.addresses.now; addresses = places })
     (ap (λ front. front ++ drop (length c.args.addresses.now) (replicate 16 0)) c.copy_from_slice.ensures.after ∙ placed c.args.addresses.now c.requires)

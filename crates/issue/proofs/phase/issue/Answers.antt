@@ -19,7 +19,7 @@ decide-requires-clause-stands g c =
     record {
       next = _;
       writes = _;
-      refines = w.stands;
+      refines = w.refines;
       store_parts = w.sized.parts;
       together = w.sized.together;
       settled = settled _ _ w c.parts.view_is c.requires.settled;

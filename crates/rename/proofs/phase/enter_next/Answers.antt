@@ -14,13 +14,13 @@ next_fitting-requires-clause-counted g c = counted _ c.parts.invariant
 
 pub awaits_of-awaits-requires-clause-in_flight : goal.awaits_of-awaits-requires-clause-in_flight
 awaits_of-awaits-requires-clause-in_flight g c =
-    subst (All (HasPlace c.parts.inside.rob.entries)) (sym c.sources_of-sources.ensures.writers) (writers_in_flight _ (renamed c.parts.inside.desc c.parts.inside.next_serial c.in-Some.item.now) c.parts.invariant.stands)
+    subst (All (HasPlace c.parts.inside.rob.entries)) (sym c.sources_of-sources.ensures.writers) (writers_in_flight _ (renamed c.parts.inside.desc c.parts.inside.next_serial c.in-Some.item.now) c.parts.invariant.refines)
 
 pub add_write-requires-clause-youngest : goal.add_write-requires-clause-youngest
-add_write-requires-clause-youngest g c = writes_older _ c.parts.invariant.stands
+add_write-requires-clause-youngest g c = writes_older _ c.parts.invariant.refines
 
 pub add_station-requires-clause-youngest : goal.add_station-requires-clause-youngest
-add_station-requires-clause-youngest g c = held_older _ c.parts.invariant.stands
+add_station-requires-clause-youngest g c = held_older _ c.parts.invariant.refines
 
 pub add_write-requires-clause-room : goal.add_write-requires-clause-room
 add_write-requires-clause-room g c = (room_for _ c.in-Some.item.now c.parts.invariant (sym c.next_fitting.ensures ∙ ap option_copied c.in-Some.is)).write

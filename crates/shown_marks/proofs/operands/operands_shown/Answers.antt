@@ -10,7 +10,7 @@ operands_shown-requires g c =
     record {
       stands = record {
         rest = lent_flight _ _ w c.parts.view_is;
-        refines = w.stands;
+        refines = w.refines;
         step = lent_step _ _ w c.parts.view_is c.args.marks.now.window.items c.requires.step;
         store_parts = w.sized.parts;
         together = w.sized.together;

@@ -6,7 +6,7 @@ use Rattle.stations.proofs.waking.wake_all.Goals as goal
 
 pub returns-then-waiters-group-eq0-clause-woken : goal.returns-then-waiters-group-eq0-clause-woken
 returns-then-waiters-group-eq0-clause-woken c =
-    woken_rest c.args.serial c.args.places.now.items c.args.places.now.items c.args.waiters.now 0 c.len-room.result (omega (arith, c.len-room.ensures)) c.requires.marked (λ p lt. absurd (omega (arith, lt))) (λ p low. refl)
+    woken_rest c.args.serial c.args.places.now.items c.args.places.now.items c.args.waiters.now 0 c.len-room.result (omega (arith, c.len-room.ensures)) c.requires.noted (λ p lt. absurd (omega (arith, lt))) (λ p low. refl)
     (λ p low high. ap (λ w. bit_at w p) c.if-waiters-group-eq0.true ∙ bit_at-zero p)
 
 pub loop-place-preserved : goal.loop-place-preserved
@@ -16,10 +16,10 @@ loop-place-preserved c =
     let high = next.high in
     let low = next.low in
     record {
-      woken = woken_one c.args.serial _ _ _ _ _ (omega (arith, c.len-room.ensures, at.len)) at.marked at.woken at.rest _ _ next c.wake_at.ensures.here c.wake_at.ensures.others;
+      woken = woken_one c.args.serial _ _ _ _ _ (omega (arith, c.len-room.ensures, at.len)) at.noted at.woken at.rest _ _ next c.wake_at.ensures.here c.wake_at.ensures.others;
       rest = λ p past. c.wake_at.ensures.others p (λ q. absurd (omega (arith, q, past))) ∙ at.rest p (omega (arith, past, low));
       len = omega (arith, c.wake_at.ensures.len, at.len);
-      marked = c.wake_at.ensures.marked;
+      noted = c.wake_at.ensures.noted;
       waiting = c.wake_at.ensures.waiting;
       within = omega (arith, high, c.wake_at.ensures.len, c.len-room.ensures, at.len);
     }
@@ -27,4 +27,4 @@ loop-place-preserved c =
 pub returns-clause-woken : goal.returns-clause-woken
 returns-clause-woken c =
     let at = c.loop-place.invariant in
-    woken_rest c.args.serial _ _ _ _ _ (omega (arith, c.len-room.ensures, at.len)) at.marked at.woken at.rest c.in_default.ensures
+    woken_rest c.args.serial _ _ _ _ _ (omega (arith, c.len-room.ensures, at.len)) at.noted at.woken at.rest c.in_default.ensures

@@ -1,6 +1,6 @@
 use Rattle.std.proofs.Common.{◌≡◌, ◌<◌, ◌≤◌, ◌-◌, ℕ, get_or}
 use Rattle.std.specs.Prelude.{vec_len}
-use Rattle.stations.specs.Places.{MarkWaiters, MarkWaiting, nobody, woken}
+use Rattle.stations.specs.Places.{NotesWaiters, NotesWaiting, nobody, woken}
 use Rattle.stations.proofs.waking.wake_all.Given as goal
 
 -- the entries in the places so far are woken
@@ -9,8 +9,8 @@ invariant-loop-place l = record {
   woken : (p : ℕ) → p < l.from → get_or l.places.items p nobody ≡ woken l.serial (get_or l.initial.places.items p nobody);
   rest : (p : ℕ) → l.from ≤ p → get_or l.places.items p nobody ≡ get_or l.initial.places.items p nobody;
   len : vec_len l.places ≡ vec_len l.initial.places;
-  marked : MarkWaiters l.places.items l.waiters;
-  waiting : MarkWaiting l.places.items l.waiting;
+  noted : NotesWaiters l.places.items l.waiters;
+  waiting : NotesWaiting l.places.items l.waiting;
   within : l.from ≤ vec_len l.places;
 }
 

@@ -9,10 +9,10 @@ pub returns-in-Err : goal.returns-in-Err
 returns-in-Err g c = output_part _ _ _ _ c.in-Err.ensures
 
 pub write_report-requires-clause-base : goal.write_report-requires-clause-base
-write_report-requires-clause-base g c = same_base (word_at c.args.machine.now.isa.code) c.args.machine.now.isa.hart c.run.new.state.hart c.args.steps c.args.machine.now.before c.ram.result.now c.requires.base c.in-Ok.ensures.hart_is c.ram.ensures
+write_report-requires-clause-base g c = same_base (word_at c.args.started.now.isa.code) c.args.started.now.isa.hart c.run.new.state.hart c.args.steps c.args.started.now.before c.ram.result.now c.requires.base c.in-Ok.ensures.hart_is c.ram.ensures
 
 pub write_report-requires-clause-size : goal.write_report-requires-clause-size
-write_report-requires-clause-size g c = same_size (word_at c.args.machine.now.isa.code) c.args.machine.now.isa.hart c.run.new.state.hart c.args.steps c.args.machine.now.before c.ram.result.now c.requires.size c.in-Ok.ensures.hart_is c.ram.ensures
+write_report-requires-clause-size g c = same_size (word_at c.args.started.now.isa.code) c.args.started.now.isa.hart c.run.new.state.hart c.args.steps c.args.started.now.before c.ram.result.now c.requires.size c.in-Ok.ensures.hart_is c.ram.ensures
 
 pub returns-in-Ok-write_report : goal.returns-in-Ok-write_report
 returns-in-Ok-write_report g c = (

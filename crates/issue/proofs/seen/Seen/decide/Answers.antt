@@ -1,6 +1,6 @@
 use Rattle.std.proofs.Common.{◌≡◌, ◌+◌, ◌≤◌, length, ap, subst, ◌∙◌, arith, refl, Some}
 use Rattle.std.specs.Option.{option_map}
-use Rattle.stations.specs.Stations.{MarksAble}
+use Rattle.stations.specs.Stations.{PlacesAble}
 use Rattle.issue.specs.Accesses.{as_access}
 use Rattle.issue.proofs.Skipping.{one_unable, unable_by}
 use Rattle.issue.proofs.Stepping.{WalksAll, left_here, walks_on, walks_out, walks_past}
@@ -21,29 +21,29 @@ loop-station-init c =
         room = omega (arith, events);
         cycle = refl;
       };
-      marks = c.able_marks-marks.ensures;
+      able = c.able_places-able.ensures;
     }
 
-pub is_marked-requires-clause-marks : goal.is_marked-requires-clause-marks
-is_marked-requires-clause-marks c = c.loop-station.invariant.marks
+pub is_among-requires-clause-able : goal.is_among-requires-clause-able
+is_among-requires-clause-able c = c.loop-station.invariant.able
 
 -- ---- one that may not issue
 
-pub loop-station-preserved-then-not-is_marked : goal.loop-station-preserved-then-not-is_marked
-loop-station-preserved-then-not-is_marked c =
+pub loop-station-preserved-then-not-is_among : goal.loop-station-preserved-then-not-is_among
+loop-station-preserved-then-not-is_among c =
     let k = c.loop-station.station in
     let len : c.len-station-end.result ≡ length c.args.self.now.stations.now.held = c.len-station-end.ensures.len in
     let in_range = c.loop-station-test.true in
     record {
       walks = walks_past c.args.self.now _ _ _ _ _ c.requires.stands k (k + 1) (omega arith) (omega (arith, len, in_range))
-          (one_unable c.args.self.now.stations.now.held k (c.is_marked.ensures ∙ ap Some c.if-not-is_marked.true)) c.loop-station.invariant.walks;
-      marks = λ i s low is. c.loop-station.invariant.marks i s (omega (arith, low)) is;
+          (one_unable c.args.self.now.stations.now.held k (c.is_among.ensures ∙ ap Some c.if-not-is_among.true)) c.loop-station.invariant.walks;
+      able = λ i s low is. c.loop-station.invariant.able i s (omega (arith, low)) is;
     }
 
 -- ---- one that has its turn
 
 pub place_at-place-requires-clause-able : goal.place_at-place-requires-clause-able
-place_at-place-requires-clause-able c = c.is_marked.ensures ∙ ap Some c.if-not-is_marked.false
+place_at-place-requires-clause-able c = c.is_among.ensures ∙ ap Some c.if-not-is_among.false
 
 pub decide_entry-requires-clause-left : goal.decide_entry-requires-clause-left
 decide_entry-requires-clause-left c =
@@ -52,12 +52,12 @@ decide_entry-requires-clause-left c =
 pub loop-station-preserved : goal.loop-station-preserved
 loop-station-preserved c = record {
   walks = walks_on c.args.self.now _ _ _ _ _ c.requires.stands c.loop-station.station c.place_at-place.result _ _ _ c.place_at-place.ensures.turn c.place_at-place.ensures.station c.decide_entry.ensures c.loop-station.invariant.walks;
-  marks = c.passed-marks.ensures.later;
+  able = c.without-able.ensures.later;
 }
 
 -- ---- no further station is able
 
-out : (c : goal.Then-marks-eq0) → WalksAll c.args.self.now c.args.ports.now c.decide_entry.new.ports c.decide_entry.new.decided c.args.row.now c.decide_entry.new.row
+out : (c : goal.Then-able-eq0) → WalksAll c.args.self.now c.args.ports.now c.decide_entry.new.ports c.decide_entry.new.decided c.args.row.now c.decide_entry.new.row
 out c =
     let s = c.args.self.now in
     let k = c.loop-station.station in
@@ -65,19 +65,19 @@ out c =
     let len : c.len-station-end.result ≡ length held = c.len-station-end.ensures.len in
     let in_range = c.loop-station-test.true in
     let stands = c.requires.stands in
-    let none = subst (λ marks. MarksAble held (k + 1) marks) c.if-marks-eq0.true c.passed-marks.ensures.later in
+    let none = subst (λ able. PlacesAble held (k + 1) able) c.if-able-eq0.true c.without-able.ensures.later in
     let on = walks_on s _ _ _ _ _ stands k c.place_at-place.result _ _ _ c.place_at-place.ensures.turn c.place_at-place.ensures.station c.decide_entry.ensures c.loop-station.invariant.walks in
     walks_out s _ _ _ _ _ stands (length held) refl
     (walks_past s _ _ _ _ _ stands (k + 1) (length held) (omega (arith, len, in_range)) (omega arith) (λ j low high. unable_by held (k + 1) j none low high) on)
 
-pub returns-then-marks-eq0-clause-decides : goal.returns-then-marks-eq0-clause-decides
-returns-then-marks-eq0-clause-decides c = (out c).decides
+pub returns-then-able-eq0-clause-decides : goal.returns-then-able-eq0-clause-decides
+returns-then-able-eq0-clause-decides c = (out c).decides
 
-pub returns-then-marks-eq0-clause-puts : goal.returns-then-marks-eq0-clause-puts
-returns-then-marks-eq0-clause-puts c = (out c).puts
+pub returns-then-able-eq0-clause-puts : goal.returns-then-able-eq0-clause-puts
+returns-then-able-eq0-clause-puts c = (out c).puts
 
-pub returns-then-marks-eq0-clause-row : goal.returns-then-marks-eq0-clause-row
-returns-then-marks-eq0-clause-row c = (out c).row
+pub returns-then-able-eq0-clause-row : goal.returns-then-able-eq0-clause-row
+returns-then-able-eq0-clause-row c = (out c).row
 
 -- ---- the walk has passed all stations
 

@@ -3,7 +3,7 @@ use Rattle.std.specs.Prelude.{◌==◌}
 use Rattle.rv_types.specs.Isa.{Effect}
 use Rattle.rv_types.specs.Memory.{load_fault}
 use Rattle.window_model.specs.MayIssue.{address_of}
-use Rattle.window_model.specs.Retire.{width_of}
+use Rattle.window_model.specs.Retire.{byte_count}
 use Rattle.issue.specs.Pending.{lets_by, passes_here}
 use Rattle.issue.specs.State.{before_of}
 use Rattle.issue.proofs.Behind.{address_is, goes_is, goes_known, goes_not}
@@ -30,4 +30,4 @@ returns c =
     let e = c.args.place.now.entry.now in
     let a = address_of s.regs.now (before_of s c.args.place.now) e in
     c.is_let.ensures ∙ ap₂ (λ passes p. lets_by passes s.point.now.serial p) c.passes.ensures c.pending.ensures
-    ∙ sym (goes_is s _ e t.stands t.at ∙ let_is s _ e t.stands t.at (passes_here s c.args.place.now) (load_fault s.ram.now a (width_of e)) a (width_of e))
+    ∙ sym (goes_is s _ e t.stands t.at ∙ let_is s _ e t.stands t.at (passes_here s c.args.place.now) (load_fault s.ram.now a (byte_count e)) a (byte_count e))

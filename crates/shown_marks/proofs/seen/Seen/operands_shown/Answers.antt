@@ -1,5 +1,5 @@
 use Rattle.std.proofs.Common.{◌≡◌, ◌+◌, ◌≤◌, length, ap, refl, subst, sym, ◌∙◌, arith, Some}
-use Rattle.stations.specs.Stations.{MarksAble}
+use Rattle.stations.specs.Stations.{PlacesAble}
 use Rattle.issue.proofs.Skipping.{one_unable, unable_by}
 use Rattle.shown_marks.proofs.Standing.{reached_end, reached_first, reached_next, reached_past, reached_shows}
 use Rattle.shown_marks.proofs.seen.Seen.operands_shown.Goals as goal
@@ -7,43 +7,43 @@ use Rattle.shown_marks.proofs.seen.Seen.operands_shown.Goals as goal
 pub loop-station-init : goal.loop-station-init
 loop-station-init c = record {
   reached = reached_first c.args.self.now c.requires.stands;
-  marks = c.able_marks-marks.ensures;
+  able = c.able_places-able.ensures;
 }
 
 -- ---- no able station is left
 
-pub returns-then-marks-eq0 : goal.returns-then-marks-eq0
-returns-then-marks-eq0 c =
+pub returns-then-able-eq0 : goal.returns-then-able-eq0
+returns-then-able-eq0 c =
     let s = c.args.self.now in
     let k = c.loop-station.station in
     let held = s.stations.now.held in
     let len : c.len-station-end.result ≡ length held = c.len-station-end.ensures.len in
     let in_range = c.loop-station-test.true in
     let stands = c.requires.stands in
-    let none = subst (λ marks. MarksAble held k marks) c.if-marks-eq0.true c.loop-station.invariant.marks in
+    let none = subst (λ able. PlacesAble held k able) c.if-able-eq0.true c.loop-station.invariant.able in
     reached_end s stands (length held) refl
     (reached_past s stands k (length held) (omega (arith, len, in_range)) (omega arith) (λ j low high. unable_by held k j none low high) c.loop-station.invariant.reached)
 
-pub is_marked-requires-clause-marks : goal.is_marked-requires-clause-marks
-is_marked-requires-clause-marks c = c.loop-station.invariant.marks
+pub is_among-requires-clause-able : goal.is_among-requires-clause-able
+is_among-requires-clause-able c = c.loop-station.invariant.able
 
 -- ---- a station that isn't able
 
-pub loop-station-preserved-then-not-is_marked : goal.loop-station-preserved-then-not-is_marked
-loop-station-preserved-then-not-is_marked c =
+pub loop-station-preserved-then-not-is_among : goal.loop-station-preserved-then-not-is_among
+loop-station-preserved-then-not-is_among c =
     let k = c.loop-station.station in
     let len : c.len-station-end.result ≡ length c.args.self.now.stations.now.held = c.len-station-end.ensures.len in
     let in_range = c.loop-station-test.true in
     record {
       reached = reached_past c.args.self.now c.requires.stands k (k + 1) (omega arith) (omega (arith, len, in_range))
-          (one_unable c.args.self.now.stations.now.held k (c.is_marked.ensures ∙ ap Some c.if-not-is_marked.true)) c.loop-station.invariant.reached;
-      marks = λ i s low is. c.loop-station.invariant.marks i s (omega (arith, low)) is;
+          (one_unable c.args.self.now.stations.now.held k (c.is_among.ensures ∙ ap Some c.if-not-is_among.true)) c.loop-station.invariant.reached;
+      able = λ i s low is. c.loop-station.invariant.able i s (omega (arith, low)) is;
     }
 
 -- ---- a station that is able
 
 pub place_at-place-requires-clause-able : goal.place_at-place-requires-clause-able
-place_at-place-requires-clause-able c = c.is_marked.ensures ∙ ap Some c.if-not-is_marked.false
+place_at-place-requires-clause-able c = c.is_among.ensures ∙ ap Some c.if-not-is_among.false
 
 pub returns-then-operand_shows : goal.returns-then-operand_shows
 returns-then-operand_shows c =
@@ -54,7 +54,7 @@ pub loop-station-preserved : goal.loop-station-preserved
 loop-station-preserved c = record {
   reached = reached_next c.args.self.now c.requires.stands c.loop-station.station c.place_at-place.result c.place_at-place.ensures.turn c.place_at-place.ensures.station
       (sym c.operand_shows.ensures ∙ c.if-operand_shows.false) c.loop-station.invariant.reached;
-  marks = c.passed-marks.ensures.later;
+  able = c.without-able.ensures.later;
 }
 
 -- ---- every station is passed

@@ -2,16 +2,16 @@ use Rattle.std.proofs.Common.{◌<◌, ◌++◌, ◌∷◌, [], length, ap, ap�
 use Rattle.std.specs.Prelude.{IsPermutation}
 use Rattle.std.specs.List.{All, range_with_len}
 use Rattle.stations.specs.Stations.{Station, Stations}
-use Rattle.stations.specs.Places.{MarkTaken, held_of}
+use Rattle.stations.specs.Places.{NotesTaken, held_of}
 use Rattle.std.proofs.lemmas.List.{length-set}
-use Rattle.stations.proofs.Awaited.{marked_push, waiting_push}
+use Rattle.stations.proofs.Awaited.{noted_push, waiting_push}
 use Rattle.stations.proofs.Taken.{taken_push}
 use Rattle.stations.proofs.Numbers.{below}
 use Rattle.stations.proofs.Placing.{new_station, held_push, placed_push}
 use Rattle.stations.proofs.by_age.Stations.insert.Goals as goal
 
-pub mark_waiter-requires : goal.mark_waiter-requires
-mark_waiter-requires c =
+pub note_waiter-requires : goal.note_waiter-requires
+note_waiter-requires c =
     let once = subst (λ free. IsPermutation (range_with_len 0 (length c.self.inside.places.items)) (c.self.inside.ages.items ++ free)) c.take_free-place.ensures.items c.self.invariant.0.once in
     let lt = below _ _ _ _ once in
     let few = c.self.invariant.4 in
@@ -42,9 +42,9 @@ invariant_of-self c =
       omega (arith, inside.2, c.push_within.ensures.capacity),
       omega (arith, inside.3, c.take_free-place.ensures.capacity),
       let long = length-set c.self.inside.places.items c.take_free-place.result c.new-occupant.result in omega (arith, inside.4, long),
-      marked_push _ _ _ _ _ lt (omega (arith, inside.4)) inside.5 c.mark_waiter.ensures.here c.mark_waiter.ensures.others,
-      waiting_push _ _ _ _ _ lt inside.6 c.mark_waiter.ensures.waits_here c.mark_waiter.ensures.wait_others,
-      rw c.push_within.ensures.items (taken_push _ _ _ _ _ _ once (omega (arith, inside.4)) (subst (λ free. MarkTaken c.self.inside.ages.items free c.self.inside.taken) c.take_free-place.ensures.items inside.7) c.with_wide_bit-self-inside.ensures.here c.with_wide_bit-self-inside.ensures.others),
+      noted_push _ _ _ _ _ lt (omega (arith, inside.4)) inside.5 c.note_waiter.ensures.here c.note_waiter.ensures.others,
+      waiting_push _ _ _ _ _ lt inside.6 c.note_waiter.ensures.waits_here c.note_waiter.ensures.wait_others,
+      rw c.push_within.ensures.items (taken_push _ _ _ _ _ _ once (omega (arith, inside.4)) (subst (λ free. NotesTaken c.self.inside.ages.items free c.self.inside.taken) c.take_free-place.ensures.items inside.7) c.with_wide_bit-self-inside.ensures.here c.with_wide_bit-self-inside.ensures.others),
     )
 
 pub returns : goal.returns

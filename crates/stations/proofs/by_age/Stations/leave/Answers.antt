@@ -2,7 +2,7 @@ use Rattle.std.proofs.Common.{◌<◌, ◌≡◌, length, ap, ap₂, ◌∙◌, 
 use Rattle.std.proofs.lemmas.List.{length-map}
 use Rattle.stations.specs.Stations.{Stations, left_wanting}
 use Rattle.stations.specs.Places.{station_in}
-use Rattle.stations.proofs.Leaving.{held_left, marked_left, placed_left, taken_differ}
+use Rattle.stations.proofs.Leaving.{held_left, noted_left, placed_left, taken_differ}
 use Rattle.stations.proofs.Numbers.{taken_below}
 use Rattle.stations.proofs.by_age.Stations.leave.Goals as goal
 
@@ -27,7 +27,7 @@ invariant_of-self c =
       omega (arith, inside.2, c.leave_at.ensures.len),
       omega (arith, inside.3, c.leave_at.ensures.len),
       omega (arith, inside.4, c.leave_at.ensures.len),
-      marked_left _ _ _ _ c.leave_at.ensures.here c.leave_at.ensures.others _ inside.5,
+      noted_left _ _ _ _ c.leave_at.ensures.here c.leave_at.ensures.others _ inside.5,
       c.leave_at.ensures.waiting,
       inside.7,
     )

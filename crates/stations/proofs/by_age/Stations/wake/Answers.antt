@@ -7,8 +7,8 @@ use Rattle.stations.proofs.by_age.Stations.wake.Goals as goal
 pub wake_all-requires-clause-few : goal.wake_all-requires-clause-few
 wake_all-requires-clause-few c = let few = c.self.invariant.4 in omega (arith, few)
 
-pub wake_all-requires-clause-marked : goal.wake_all-requires-clause-marked
-wake_all-requires-clause-marked c = c.self.invariant.5
+pub wake_all-requires-clause-noted : goal.wake_all-requires-clause-noted
+wake_all-requires-clause-noted c = c.self.invariant.5
 
 pub wake_all-requires-clause-waiting : goal.wake_all-requires-clause-waiting
 wake_all-requires-clause-waiting c = c.self.invariant.6
@@ -23,7 +23,7 @@ invariant_of-self c =
       omega (arith, inside.2, c.wake_all.ensures.len),
       omega (arith, inside.3, c.wake_all.ensures.len),
       omega (arith, inside.4, c.wake_all.ensures.len),
-      c.wake_all.ensures.marked,
+      c.wake_all.ensures.noted,
       c.wake_all.ensures.waiting,
       inside.7,
     )

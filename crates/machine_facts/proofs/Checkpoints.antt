@@ -13,7 +13,7 @@ use Rattle.machine_desc.specs.declared.Desc.{Desc}
 use Rattle.window_model.specs.declared.Divider.{Divider}
 use Rattle.window_model.specs.declared.Entry.{Entry}
 use Rattle.window_model.specs.declared.Item.{Item}
-use Rattle.window_model.specs.declared.Mark.{Mark}
+use Rattle.window_model.specs.declared.Checkpoint.{Checkpoint}
 use Rattle.window_model.specs.Around.{around}
 use Rattle.window_model.specs.State.{Machine, opening}
 use Rattle.window_model.specs.Order.{Place, each_from, first}
@@ -24,7 +24,7 @@ use Rattle.window_model.specs.Ports.{LoadPort, may_at}
 use Rattle.window_model.specs.Issue.{Begun, issue, issue_entry}
 use Rattle.window_model.specs.Rename.{rename, renamed}
 use Rattle.window_model.specs.Fetch.{fetch, item_at}
-use Rattle.window_model.specs.History.{jumped, links, mark_after, popped, pushed, returns, shifted, stack}
+use Rattle.window_model.specs.History.{jumped, links, checkpoint_after, popped, pushed, returns, shifted, stack}
 use Rattle.window_model.specs.Cycle.{at, cycle}
 use Rattle.window_model.proofs.Counts.{Evolves, map_evolves, completed_goes}
 use Rattle.window_model.proofs.Issuing.{by_after_load, issue_evolves}
@@ -33,33 +33,33 @@ use Rattle.window_model.proofs.Lists.{each_join, each_left, each_right, each_pus
 use Rattle.window_model.proofs.Placing.{Taken, resolve_keep}
 use Rattle.window_model.proofs.Resolving.{resolved_one}
 use Rattle.window_model.proofs.Walks.{cycle_keep, fetch_keep, heads_keep, rename_keep, run_keep}
-use Rattle.machine_facts.proofs.ClearPhases.{marked_clear}
-use Rattle.machine_facts.specs.Marks.{FitsMark, Marked}
+use Rattle.machine_facts.proofs.ClearPhases.{checkpoints_clear}
+use Rattle.machine_facts.specs.Checkpoints.{FitsCheckpoint, FitCheckpoints}
 
 -- ---- what an instruction makes of history and stack
 
 module _ (d : Desc) where
-  shifted_fits : (way : Bool) (m : Mark) → FitsMark d m → FitsMark d (shifted d way m)
+  shifted_fits : (way : Bool) (m : Checkpoint) → FitsCheckpoint d m → FitsCheckpoint d (shifted d way m)
   shifted_fits way m h = record { history = omega arith; stack = h.stack }
 
-  pushed_fits : (a : ℕ) (m : Mark) → FitsMark d m → FitsMark d (pushed d a m)
+  pushed_fits : (a : ℕ) (m : Checkpoint) → FitsCheckpoint d m → FitsCheckpoint d (pushed d a m)
   pushed_fits a m h = let n = length-take d.predictor_returns (a ∷ stack m) in record { history = h.history; stack = omega (arith, n) }
 
-  popped_fits : (m : Mark) → FitsMark d m → FitsMark d (popped m)
+  popped_fits : (m : Checkpoint) → FitsCheckpoint d m → FitsCheckpoint d (popped m)
   popped_fits m h =
       let n = length-take m.depth m.addresses in
       let k = length-drop 1 (stack m) in
       record { history = h.history; stack = omega (arith, n, k, h.stack) }
 
-  jumped_fits : (pc : ℕ) (i : Instr) (m : Mark) → FitsMark d m → FitsMark d (jumped d pc i m)
+  jumped_fits : (pc : ℕ) (i : Instr) (m : Checkpoint) → FitsCheckpoint d m → FitsCheckpoint d (jumped d pc i m)
   jumped_fits pc i m h = by (links i) (returns i)
     where
-      by : (b c : Bool) → FitsMark d (if b then pushed d (word_add pc 4) m else if c then popped m else m)
+      by : (b c : Bool) → FitsCheckpoint d (if b then pushed d (word_add pc 4) m else if c then popped m else m)
       by true c = pushed_fits (word_add pc 4) m h
       by false true = popped_fits m h
       by false false = h
 
-  pub fits_after : (k : Kind) (pc : ℕ) (i : Instr) (way : Bool) (m : Mark) → FitsMark d m → FitsMark d (mark_after k d pc i way m)
+  pub fits_after : (k : Kind) (pc : ℕ) (i : Instr) (way : Bool) (m : Checkpoint) → FitsCheckpoint d m → FitsCheckpoint d (checkpoint_after k d pc i way m)
   fits_after Branch pc i way m h = shifted_fits way m h
   fits_after Jal pc i way m h = jumped_fits pc i m h
   fits_after Jalr pc i way m h = jumped_fits pc i m h
@@ -69,10 +69,10 @@ module _ (d : Desc) where
 
 module _ (d : Desc) where
   abbrev EntryFits : Entry → Type 0
-  EntryFits e = FitsMark d e.item.mark
+  EntryFits e = FitsCheckpoint d e.item.checkpoint
 
   abbrev ItemFits : Item → Type 0
-  ItemFits i = FitsMark d i.mark
+  ItemFits i = FitsCheckpoint d i.checkpoint
 
   -- entries that go on keep their items
   evolves_fits : (w w2 : List Entry) → Evolves w w2 → Each EntryFits w → Each EntryFits w2
@@ -80,62 +80,62 @@ module _ (d : Desc) where
   evolves_fits [] (e2 ∷ w2) v h = absurd v
   evolves_fits (e ∷ w) (e2 ∷ w2) v h = (subst ItemFits (sym v.0.item) h.0, evolves_fits w w2 v.1 h.1)
 
-  pub marked_opening : (entry : ℕ) (ram : Ram) → Marked d (opening d entry ram)
-  marked_opening entry ram = record { next = record { history = pow_pos d.predictor_history; stack = omega arith }; entries = tt; items = tt }
+  pub checkpoints_opening : (entry : ℕ) (ram : Ram) → FitCheckpoints d (opening d entry ram)
+  checkpoints_opening entry ram = record { next = record { history = pow_pos d.predictor_history; stack = omega arith }; entries = tt; items = tt }
 
-  marked_complete : (x : Machine) → Marked d x → Marked d (complete x).machine
-  marked_complete x h = record { next = h.next; entries = evolves_fits x.window _ (map_evolves (completed x.cycle) (completed_goes x.cycle) x.window) h.entries; items = h.items }
+  checkpoints_complete : (x : Machine) → FitCheckpoints d x → FitCheckpoints d (complete x).machine
+  checkpoints_complete x h = record { next = h.next; entries = evolves_fits x.window _ (map_evolves (completed x.cycle) (completed_goes x.cycle) x.window) h.entries; items = h.items }
 
   -- entries fit whose older ones stay, whose younger ones stay or go, and of which one is resolved
-  entries_at : (x : Machine) (p : Place) → Taken d x p → Marked d x → (zs : List Entry) → (Each EntryFits p.younger → Each EntryFits zs) → Each EntryFits (reverse p.before ++ resolved_one p.entry ∷ zs)
+  entries_at : (x : Machine) (p : Place) → Taken d x p → FitCheckpoints d x → (zs : List Entry) → (Each EntryFits p.younger → Each EntryFits zs) → Each EntryFits (reverse p.before ++ resolved_one p.entry ∷ zs)
   entries_at x p t h zs v =
       let all = subst (Each EntryFits) t.window h.entries in
       let behind = each_right EntryFits (reverse p.before) _ all in
       each_join EntryFits (reverse p.before) _ (each_left EntryFits (reverse p.before) _ all) (behind.0, v behind.1)
 
-  marked_resolve : (x : Machine) → Marked d x → Marked d (resolve d x).machine
-  marked_resolve =
-      resolve_keep d (Marked d)
+  checkpoints_resolve : (x : Machine) → FitCheckpoints d x → FitCheckpoints d (resolve d x).machine
+  checkpoints_resolve =
+      resolve_keep d (FitCheckpoints d)
       (λ x p t q h.
       let e = p.entry in
       let all = subst (Each EntryFits) t.window h.entries in
       let own = (each_right EntryFits (reverse p.before) _ all).0 in
-      record { next = fits_after d e.item.kind e.item.pc e.item.instr _ e.item.mark own; entries = entries_at x p t h [] (λ k. tt); items = tt })
+      record { next = fits_after d e.item.kind e.item.pc e.item.instr _ e.item.checkpoint own; entries = entries_at x p t h [] (λ k. tt); items = tt })
       (λ x p t q h. record { next = h.next; entries = entries_at x p t h p.younger (λ k. k); items = h.items })
 
-  marked_retire : (x : Machine) → Marked d x → Marked d (retire d x).machine
-  marked_retire =
-      heads_keep d (Marked d) (λ x e rest w l t h.
+  checkpoints_retire : (x : Machine) → FitCheckpoints d x → FitCheckpoints d (retire d x).machine
+  checkpoints_retire =
+      heads_keep d (FitCheckpoints d) (λ x e rest w l t h.
       let left = (subst (Each EntryFits) w h.entries).1 in
-      head_by d e rest x (Marked d) h (λ s end f. record { next = h.next; entries = left; items = h.items }) (record { next = h.next; entries = left; items = h.items }) e.item.kind
+      head_by d e rest x (FitCheckpoints d) h (λ s end f. record { next = h.next; entries = left; items = h.items }) (record { next = h.next; entries = left; items = h.items }) e.item.kind
       (λ q. record { next = h.next; entries = left; items = h.items }))
       (λ x end h. record { next = h.next; entries = h.entries; items = h.items })
 
-  marked_issue : (x : Machine) → Marked d x → Marked d (issue d x).machine
-  marked_issue x h =
+  checkpoints_issue : (x : Machine) → FitCheckpoints d x → FitCheckpoints d (issue d x).machine
+  checkpoints_issue x h =
       let now = around x in
       let window = map (λ (b : Begun). b.entry) (each_from (issue_entry d now) [] x.window) in
       let entries = evolves_fits x.window window (issue_evolves d now [] x.window) h.entries in
-      by_after_load d x (λ y. (v : Divider) → Marked d (record y { window = window; divider = v })) (λ c s m v. record { next = h.next; entries = entries; items = h.items }) (first (may_at d now LoadPort) x.window) _
+      by_after_load d x (λ y. (v : Divider) → FitCheckpoints d (record y { window = window; divider = v })) (λ c s m v. record { next = h.next; entries = entries; items = h.items }) (first (may_at d now LoadPort) x.window) _
 
-  marked_rename : (x : Machine) → Marked d x → Marked d (rename d x).machine
-  marked_rename =
-      rename_keep d (Marked d) (λ x i rest q f h.
+  checkpoints_rename : (x : Machine) → FitCheckpoints d x → FitCheckpoints d (rename d x).machine
+  checkpoints_rename =
+      rename_keep d (FitCheckpoints d) (λ x i rest q f h.
       let items = subst (Each ItemFits) q h.items in
       record { next = h.next; entries = each_push EntryFits x.window (renamed d x.next_serial i) h.entries items.0; items = items.1 })
 
-  marked_fetch : (code : Code) (x : Machine) → Marked d x → Marked d (fetch d code x).machine
-  marked_fetch code =
-      fetch_keep d (Marked d) code (λ x pc q r h.
+  checkpoints_fetch : (code : Code) (x : Machine) → FitCheckpoints d x → FitCheckpoints d (fetch d code x).machine
+  checkpoints_fetch code =
+      fetch_keep d (FitCheckpoints d) code (λ x pc q r h.
       let i = item_at d code x pc in
-      record { next = fits_after d i.kind i.pc i.instr _ x.mark h.next; entries = h.entries; items = each_push ItemFits x.queue i h.items h.next })
+      record { next = fits_after d i.kind i.pc i.instr _ x.checkpoint h.next; entries = h.entries; items = each_push ItemFits x.queue i h.items h.next })
 
   -- ---- a cycle, and a run
 
-  pub marked_cycle : (code : Code) (x : Machine) → Marked d x → Marked d (cycle d code x).machine
-  marked_cycle code x h =
-      cycle_keep d (Marked d) code marked_issue marked_rename (marked_fetch code) marked_resolve (marked_clear d) marked_retire
-      (λ x h. record { next = h.next; entries = h.entries; items = h.items }) (λ x h. record { next = h.next; entries = h.entries; items = h.items }) marked_complete x h
+  pub checkpoints_cycle : (code : Code) (x : Machine) → FitCheckpoints d x → FitCheckpoints d (cycle d code x).machine
+  checkpoints_cycle code x h =
+      cycle_keep d (FitCheckpoints d) code checkpoints_issue checkpoints_rename (checkpoints_fetch code) checkpoints_resolve (checkpoints_clear d) checkpoints_retire
+      (λ x h. record { next = h.next; entries = h.entries; items = h.items }) (λ x h. record { next = h.next; entries = h.entries; items = h.items }) checkpoints_complete x h
 
-pub marked_at : (d : Desc) (code : Code) (entry : ℕ) (ram : Ram) (k : ℕ) → Marked d (at d code entry ram k)
-marked_at d code entry ram k = run_keep d (Marked d) code (marked_cycle d code) k (opening d entry ram) (marked_opening d entry ram)
+pub checkpoints_at : (d : Desc) (code : Code) (entry : ℕ) (ram : Ram) (k : ℕ) → FitCheckpoints d (at d code entry ram k)
+checkpoints_at d code entry ram k = run_keep d (FitCheckpoints d) code (checkpoints_cycle d code) k (opening d entry ram) (checkpoints_opening d entry ram)

@@ -14,8 +14,8 @@ use Rattle.generated_runs.specs.Agreement.{Run, lines}
 -- 00010020 bne x5,x0,-16
 -- 00010024 addi x17,x0,93
 -- 00010028 ecall
-abbrev pub mark_of_the_load : Run
-mark_of_the_load = record {
+abbrev pub checkpoint_of_the_load : Run
+checkpoint_of_the_load = record {
   description = lines (
       "version = 2" ∷
       "[core]" ∷

@@ -1,4 +1,4 @@
--- A word that marks who may issue, and what is left of it once an entry has had its turn.
+-- A word that tells who may issue, and what is left of it once an entry has had its turn.
 use Rattle.std.proofs.Common.{◌≡◌, ◌≢◌, ℕ, ◌+◌, ◌<◌, ◌≤◌, ◌%◌, Bool, true, false, List, length, get_or, Option, Some, None, refl, ap, sym, ◌∙◌, subst, arith, slice_get, bit_and, bit_xor}
 use Rattle.std.specs.Prelude.{min, not}
 use Rattle.std.specs.Int.{bit_at}
@@ -8,8 +8,8 @@ use Rattle.std.proofs.lemmas.List.{get_or-map, length-map}
 use Rattle.std.proofs.lemmas.Option.{get_or_from_slice_get, slice_get-get_or, slice_get_within}
 use Rattle.word_bits.specs.Bits.{one_if}
 use Rattle.stations.specs.declared.occupant.Occupant.{Occupant}
-use Rattle.stations.specs.Stations.{MarksAble, Station, able_as, is_able}
-use Rattle.stations.specs.Places.{MarkWaiting, awaited, held_of, nobody, station_in}
+use Rattle.stations.specs.Stations.{PlacesAble, Station, able_as, is_able}
+use Rattle.stations.specs.Places.{NotesWaiting, awaited, held_of, nobody, station_in}
 use Rattle.stations.proofs.Taken.{apart_at}
 
 -- ---- the word of flags
@@ -18,9 +18,9 @@ apart_able : (t w : ℕ) (b : Bool) → t ≡ 1 → w ≡ one_if (not b) → (t 
 apart_able t w true et ew = omega (arith, et, ew)
 apart_able t w false et ew = omega (arith, et, ew)
 
-pub marks_able : (places : List Occupant) (ages : List ℕ) (taken waiting : ℕ) → All (λ p. p < length places) ages → length places ≤ 128 → MarkWaiting places waiting → All (λ p. bit_at taken p ≡ 1) ages →
-    MarksAble (held_of places ages) 0 (bit_xor taken (bit_and taken waiting))
-marks_able places ages taken waiting below few m set i s from is =
+pub places_able : (places : List Occupant) (ages : List ℕ) (taken waiting : ℕ) → All (λ p. p < length places) ages → length places ≤ 128 → NotesWaiting places waiting → All (λ p. bit_at taken p ≡ 1) ages →
+    PlacesAble (held_of places ages) 0 (bit_xor taken (bit_and taken waiting))
+places_able places ages taken waiting below few m set i s from is =
     let within = slice_get_within (held_of places ages) i s is in
     let long = length-map ages (station_in places) in
     let lt : i < length ages = omega (arith, within, long) in
@@ -41,27 +41,27 @@ same_bit true false h = absurd (omega (arith, h))
 same_bit false true h = absurd (omega (arith, h))
 same_bit false false h = refl
 
-by_mark : (o : Option Station) (place : ℕ) (marks : ℕ) (b : Bool) → option_map (λ s. s.place) o ≡ Some place → ((s : Station) → o ≡ Some s → bit_at marks s.place ≡ one_if (is_able s)) → bit_at marks place ≡ one_if b → option_map is_able o ≡ Some b
-by_mark None place marks b at m is = absurd (cc)
-by_mark (Some s) place marks b at m is =
+by_bit : (o : Option Station) (place : ℕ) (able : ℕ) (b : Bool) → option_map (λ s. s.place) o ≡ Some place → ((s : Station) → o ≡ Some s → bit_at able s.place ≡ one_if (is_able s)) → bit_at able place ≡ one_if b → option_map is_able o ≡ Some b
+by_bit None place able b at m is = absurd (cc)
+by_bit (Some s) place able b at m is =
     let same : s.place ≡ place = cc in
-    ap Some (same_bit (is_able s) b (sym (m s refl) ∙ ap (bit_at marks) same ∙ is))
+    ap Some (same_bit (is_able s) b (sym (m s refl) ∙ ap (bit_at able) same ∙ is))
 
-pub marked_is : (held : List Station) (i place marks : ℕ) (b : Bool) → option_map (λ s. s.place) (slice_get held i) ≡ Some place → MarksAble held i marks → bit_at marks place ≡ one_if b → option_map is_able (slice_get held i) ≡ Some b
-marked_is held i place marks b at m is = by_mark (slice_get held i) place marks b at (λ s. m i s (omega arith)) is
+pub among_is : (held : List Station) (i place able : ℕ) (b : Bool) → option_map (λ s. s.place) (slice_get held i) ≡ Some place → PlacesAble held i able → bit_at able place ≡ one_if b → option_map is_able (slice_get held i) ≡ Some b
+among_is held i place able b at m is = by_bit (slice_get held i) place able b at (λ s. m i s (omega arith)) is
 
-pub unmarked : (o : Option Station) (place marks : ℕ) → option_map (λ s. s.place) o ≡ Some place → bit_at marks place ≡ 0 → option_map (λ s. bit_at marks s.place) o ≡ Some 0
-unmarked None place marks at none = absurd (cc)
-unmarked (Some s) place marks at none = let same : s.place ≡ place = cc in ap Some (ap (bit_at marks) same ∙ none)
+pub without_bit : (o : Option Station) (place able : ℕ) → option_map (λ s. s.place) o ≡ Some place → bit_at able place ≡ 0 → option_map (λ s. bit_at able s.place) o ≡ Some 0
+without_bit None place able at none = absurd (cc)
+without_bit (Some s) place able at none = let same : s.place ≡ place = cc in ap Some (ap (bit_at able) same ∙ none)
 
 place_is : (o : Option Station) (place : ℕ) (s : Station) → option_map (λ s. s.place) o ≡ Some place → o ≡ Some s → place ≡ s.place
 place_is None place s at is = absurd (cc)
 place_is (Some t) place s at is = cc
 
 -- the stations behind one keep their flags, where only that station's flag changes
-pub marks_behind : (held : List Station) (i place marks left : ℕ) → i < length held → option_map (λ s. s.place) (slice_get held i) ≡ Some place → AllPairs (λ a b. a.place ≢ b.place) held → All (λ s. s.place < 96) held →
-    MarksAble held i marks → ((b : ℕ) → b < 128 → b ≢ place → bit_at left b ≡ bit_at marks b) → MarksAble held (i + 1) left
-marks_behind held i place marks left lt at differ few m others j s from is =
+pub able_behind : (held : List Station) (i place able left : ℕ) → i < length held → option_map (λ s. s.place) (slice_get held i) ≡ Some place → AllPairs (λ a b. a.place ≢ b.place) held → All (λ s. s.place < 96) held →
+    PlacesAble held i able → ((b : ℕ) → b < 128 → b ≢ place → bit_at left b ≡ bit_at able b) → PlacesAble held (i + 1) left
+able_behind held i place able left lt at differ few m others j s from is =
     let within = slice_get_within held j s is in
     let own = get_or_from_slice_get held j s s is in
     let first = place_is (slice_get held i) place (get_or held i s) at (slice_get-get_or held i s lt) in
@@ -70,8 +70,8 @@ marks_behind held i place marks left lt at differ few m others j s from is =
     others s.place (omega (arith, small)) apart ∙ m j s (omega (arith, from)) is
 
 -- the place of a station is small enough for a bit of the word
-pub marked_low : (held : List Station) (i place : ℕ) → i < length held → option_map (λ s. s.place) (slice_get held i) ≡ Some place → All (λ s. s.place < 96) held → place < 128
-marked_low held i place lt at few =
+pub place_low : (held : List Station) (i place : ℕ) → i < length held → option_map (λ s. s.place) (slice_get held i) ≡ Some place → All (λ s. s.place < 96) held → place < 128
+place_low held i place lt at few =
     low (slice_get held i) place at (λ s e. subst (λ (t : Station). t.place < 96) (get_or_from_slice_get held i s s e) (few i s lt))
   where
     low : (o : Option Station) (place : ℕ) → option_map (λ s. s.place) o ≡ Some place → ((s : Station) → o ≡ Some s → s.place < 96) → place < 128
