@@ -32,9 +32,10 @@ HoldsOlder = (q : Queues) (old rest : List Entry) (serial : ℕ) → StandFor q 
 abbrev pub KnownAsComplete : Type 0
 KnownAsComplete = (stores : List Store) (before : List Entry) → StoresStandFor stores before → list_all is_known stores ≡ all_complete before
 
--- older stores let a load go where the queue says so: the address of each is known, or the load passes those of which it isn't;
--- none that the load meets lacks its data; and the youngest root of the addresses of those that lack it is visible, if
--- each store's root isn't where its own address is tainted, and what is older than a visible load is visible
+-- older stores let a load go where the queue says so: the address of each is known, or the load passes those of which
+-- it isn't; none that the load meets lacks its data; and the youngest root of the addresses of those that lack it is
+-- visible, if each store's root isn't where its own address is tainted, and what is older than a visible load is
+-- visible
 abbrev pub LetsAsAsked : Type 0
 LetsAsAsked = (model : SttModel) (passes : Bool) (visible : ℕ → Bool) → ((a b : ℕ) → a ≤ b → visible b ≡ true → visible a ≡ true) →
     (stores : List Store) (before : List Entry) (fault : Option Cause) (a n : ℕ) → StoresStandFor stores before →

@@ -1,4 +1,5 @@
--- What the stations tell of the entries that wait, once the point has moved over the window: who is ready, and which part of it.
+-- What the stations tell of the entries that wait, once the point has moved over the window: who is ready, and which
+-- part of it.
 use Rattle.std.proofs.Common.{Bool, List, None, Option, Some, [], ap, ap₂, arith, false, is_none, length, map, not, refl, slice_get, subst, sym, true, ℕ, ◌&&◌, ◌||◌, ◌∙◌, ◌∷◌, ◌≡◌, ◌≤◌}
 use Rattle.std.specs.List.{list_all, list_any}
 use Rattle.std.specs.Option.{option_map}

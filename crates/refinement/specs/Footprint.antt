@@ -18,19 +18,22 @@ use Rattle.refinement.specs.Writers.{source_writers}
 
 -- ---- what an entry looks back on
 
--- what an entry's sources find among the older ones: their youngest roots, the serials of their writers, and those that they await
+-- what an entry's sources find among the older ones: their youngest roots, the serials of their writers, and those that
+-- they await
 pub record Found : Type 0 where
   pub roots : List (Option ℕ)
   pub writers : List (Option ℕ)
   pub awaits : List (Option ℕ)
 
+-- an entry looks back on the older ones, where results are so held back
 abbrev pub look_back : Hold → List Entry → Entry → Found
 look_back h before e = record { roots = source_roots before e; writers = source_writers before e; awaits = awaits_of h before e }
 
 -- ---- what an entry leaves in the parts
 
--- a store: its serial, the root of its address, where it writes and what, each once that part has issued, whether it has its
--- outcome once one has, and, where loads may pass stores, from which cycle on its address is known, and whether it is cleared
+-- a store: its serial, the root of its address, where it writes and what, each once that part has issued, whether it
+-- has its outcome once one has, and, where loads may pass stores, from which cycle on its address is known, and whether
+-- it is cleared
 pub record StoreFootprint : Type 0 where
   pub serial : ℕ
   pub root : Option ℕ
@@ -40,6 +43,8 @@ pub record StoreFootprint : Type 0 where
   pub known_from : Option ℕ
   pub cleared : Bool
 
+-- what an entry leaves in the parts: its sources, what it writes, its station if it waits, and what a load or store is
+-- noted with
 pub record Footprint : Type 0 where
   pub serial : ℕ
   pub sources : Sources
@@ -54,12 +59,15 @@ pub record Terms : Type 0 where
   pub hold : Hold
   pub tracked : Bool
 
+-- the station of an entry that waits
 abbrev pub waiter_footprint : Terms → List (Option ℕ) → Entry → Waiter
 waiter_footprint t awaits e = record { serial = e.serial; awaits = awaits; wants = wants_of t.version e }
 
+-- what the queue holds of a load
 abbrev pub load_footprint : Terms → Entry → ShownLoad
 load_footprint t e = record { serial = e.serial; reading = if t.tracked then (shown_reader e).reading else None }
 
+-- what the queue holds of a store, by the root of its address
 abbrev pub store_footprint : Terms → Option ℕ → Entry → StoreFootprint
 store_footprint t root e = record {
   serial = e.serial;
@@ -82,6 +90,7 @@ footprint_by t l e = record {
   store = if is_store e.item.kind then Some (store_footprint t (base_root l.roots) e) else None;
 }
 
+-- an entry's footprint, by the older ones
 abbrev pub footprint_of : Terms → List Entry → Entry → Footprint
 footprint_of t before e = footprint_by t (look_back t.hold before e) e
 
@@ -92,12 +101,15 @@ column field (k ∷ ks) = cons_option (field k) (column field ks)
 
 -- ---- what a part shows of its items: roots and writers only where they haven't retired
 
+-- sources, with the roots and writers that haven't retired
 abbrev pub unretired_sources : ℕ → Sources → Sources
 unretired_sources oldest s = record { roots = map (unretired oldest) s.roots; writers = map (unretired oldest) s.writers }
 
+-- a write of the table, with its root if that hasn't retired
 abbrev pub unretired_write : ℕ → Write → Write
 unretired_write oldest w = record w { root = unretired oldest w.root }
 
+-- a load in the queue
 abbrev pub load_in : Terms → Load → ShownLoad
 load_in t l = record { serial = l.serial; reading = if t.tracked then option_map reading_of l.access else None }
 

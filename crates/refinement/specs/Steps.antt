@@ -1,5 +1,5 @@
--- What becomes of the parts in each step of a cycle, and that they go on to refine the window (docs/architecture.md, "How they stand
--- for it").
+-- What becomes of the parts in each step of a cycle, and that they go on to refine the window (docs/architecture.md,
+-- "How they stand for it").
 use Rattle.std.specs.Prelude.{◌≡◌, ℕ, ◌+◌, ◌<◌, nat_lt, true, false, List, [], ◌∷◌, ◌++◌, length, map, reverse, take, drop, slice_get, slice_set, Option, Some, None}
 use Rattle.std.specs.List.{filter}
 use Rattle.std.specs.Option.{option_to_list}
@@ -31,6 +31,7 @@ use Rattle.refinement.specs.Refines.{Refines}
 
 -- ---- before the first cycle
 
+-- nothing is in flight, and nothing held
 abbrev pub empty : Desc → InFlight
 empty d = record { version = d.version; holds = holds d.stt_defence; tracked = passing d; next = 0; window = []; sources = []; writes = []; held = []; queues = queues.empty d; point = first_point d.stt_model }
 
@@ -56,8 +57,8 @@ with_entry place s awaits e p = record p {
   queues = queued e.item.kind e.serial (base_root s.roots) p.queues;
 }
 
--- an entry with the next serial that isn't resolved, of which no part has issued, and which isn't cleared if it is a store that
--- loads may pass
+-- an entry with the next serial that isn't resolved, of which no part has issued, and which isn't cleared if it is a
+-- store that loads may pass
 pub record Fresh (p : InFlight) (e : Entry) : Type 0 where
   pub serial : e.serial ≡ p.next
   pub unresolved : e.resolved ≡ false
@@ -72,8 +73,8 @@ RenamesIn = (p : InFlight) (e : Entry) (s : Sources) (awaits : List (Option ℕ)
 
 -- ---- the entry at a position goes on
 
--- an entry issues, or a part of it: its station is freed or waits for what is left, and a store's parts that have issued are noted, with
--- the width of its access; so is what a load reads, where loads may pass stores
+-- an entry issues, or a part of it: its station is freed or waits for what is left, and a store's parts that have
+-- issued are noted, with the width of its access; so is what a load reads, where loads may pass stores
 abbrev pub with_issued : ℕ → Width → Entry → InFlight → InFlight
 with_issued i w e p = record p {
   window = slice_set p.window i e;

@@ -1,5 +1,5 @@
--- What holds results back, and what an entry that waits awaits and wants (docs/machine.md, "Issue"). `before` is always a list of the
--- older entries, youngest first.
+-- What holds results back, and what an entry that waits awaits and wants (docs/machine.md, "Issue"). `before` is always
+-- a list of the older entries, youngest first.
 use Rattle.std.specs.Prelude.{ℕ, Bool, true, false, not, ◌&&◌, ◌==◌, nat_le, List, [], ◌∷◌, map, Option, Some, None, if◌then◌else◌}
 use Rattle.std.specs.Option.{option_map}
 use Rattle.rv_types.specs.Regs.{two, writes_of}
