@@ -1,5 +1,4 @@
-use Rattle.std.proofs.Common.{◌∙◌, ap, refl, sym}
-use Rattle.std.specs.Prelude.{◌&&◌}
+use Rattle.std.proofs.Common.{◌∙◌, refl, sym}
 use Rattle.issue.specs.Ports.{besides}
 use Rattle.issue.proofs.Asking.{whole_ready}
 use Rattle.issue.proofs.Testing.{issue_is, refused_where_none, served_where_left}
