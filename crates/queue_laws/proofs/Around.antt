@@ -10,6 +10,7 @@ use Rattle.window_model.specs.Serials.{Rise}
 use Rattle.window_model.proofs.Serials.{all_right, rise_head, rise_tail}
 use Rattle.queue_laws.specs.Window.{Others, shown_entry, stores_in}
 
+-- the stores of a window are those older than an entry, its own, and those younger
 pub stores_around : (old : List Entry) (e : Entry) (young : List Entry) → stores_in (old ++ e ∷ young) ≡ stores_in old ++ (stores_in (e ∷ []) ++ stores_in young)
 stores_around old e young =
     ap (map shown_entry) (filter-append (λ e. is_store e.item.kind) old (e ∷ young)
@@ -23,16 +24,19 @@ store_alone e h = ap (λ s. map shown_entry (cond s (e ∷ []) [])) h
 
 -- ---- an entry in its place
 
+-- no older entry has the serial of an entry
 pub others_older : (older : List Entry) (e : Entry) (younger : List Entry) → Rise (older ++ e ∷ younger) → Others e.serial older
 others_older [] e younger r = All-nil (λ d. d.serial ≢ e.serial)
 others_older (x ∷ older) e younger r =
     let lt : x.serial < e.serial = All-head (λ d. x.serial < d.serial) e younger (all_right (λ d. x.serial < d.serial) older (e ∷ younger) (rise_head x (older ++ e ∷ younger) r)) in
     All-cons (λ d. d.serial ≢ e.serial) x older (omega (arith, lt)) (others_older older e younger (rise_tail x (older ++ e ∷ younger) r))
 
+-- no younger entry has the serial of an entry
 pub others_younger : (older : List Entry) (e : Entry) (younger : List Entry) → Rise (older ++ e ∷ younger) → Others e.serial younger
 others_younger [] e younger r = All-weaker (λ d. e.serial < d.serial) (λ d. d.serial ≢ e.serial) (λ d lt. omega (arith, lt)) younger (rise_head e younger r)
 others_younger (x ∷ older) e younger r = others_younger older e younger (rise_tail x (older ++ e ∷ younger) r)
 
+-- a window is what is older than an entry, the entry, and what is younger
 pub split_at : (entries : List Entry) (i : ℕ) (e : Entry) → slice_get entries i ≡ Some e → entries ≡ take i entries ++ e ∷ drop (suc i) entries
 split_at [] i e h = absurd (cc)
 split_at (x ∷ entries) zero e h = let q : x ≡ e = cc in ap (λ x. x ∷ entries) q

@@ -43,11 +43,13 @@ keeps_entries p (e ∷ ws) =
     keeps_store p (t e) (p e.serial) e (filter t ws) (filter t (filter (λ e. p e.serial) ws)) refl (keeps_entries p ws)
     ∙ ap (map shown_entry) (sym (tests_kept t (p e.serial) e (filter (λ e. p e.serial) ws)))
 
+-- the stores with some serials
 pub stores_kept : (p : ℕ → Bool) (ss : List Store) (ws : List Entry) → StoresStandFor ss ws → StoresStandFor (filter (λ s. p s.serial) ss) (filter (λ e. p e.serial) ws)
 stores_kept p ss ws h = keeps_shown p ss ∙ ap (filter (λ (w : Shown). p w.serial)) h ∙ keeps_entries p ws
 
 -- ---- youngest first
 
+-- a map of what is turned over
 pub map_reverse : {X Y : Type 0} (f : X → Y) (xs : List X) → map f (reverse xs) ≡ reverse (map f xs)
 map_reverse f [] = refl
 map_reverse f (x ∷ xs) =
@@ -85,6 +87,7 @@ none_pass first (e ∷ es) h =
     ap (λ b. cond b (e ∷ filter (λ e. nat_lt e.serial first) es) (filter (λ e. nat_lt e.serial first) es)) b
     ∙ none_pass first es (All-tail (λ (e : Entry). first ≤ e.serial) e es h)
 
+-- the entries older than a serial
 pub split_by : (first : ℕ) (old rest : List Entry) → Older first old → NotOlder first rest → filter (λ e. nat_lt e.serial first) (old ++ rest) ≡ old
 split_by first old rest h k =
     filter-append (λ e. nat_lt e.serial first) old rest ∙ ap (λ es. es ++ filter (λ e. nat_lt e.serial first) rest) (older_pass first old h)

@@ -43,6 +43,7 @@ hides_younger v down (Some a) (Some b) = of_two v down a b (v a) (v b) (v (max a
 abbrev any : List Bool → Bool
 any bs = list_any (λ b. b) bs
 
+-- the youngest root is visible exactly where each store's is
 pub hides_youngest : (v : ℕ → Bool) → Down v → (ss : List Store) → hides v (youngest_root ss) ≡ any (map (λ s. hides v s.root) ss)
 hides_youngest v down [] = refl
 hides_youngest v down (s ∷ ss) = hides_younger v down s.root (youngest_root ss) ∙ ap (λ b. hides v s.root || b) (hides_youngest v down ss)

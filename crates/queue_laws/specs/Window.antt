@@ -93,6 +93,7 @@ pub record ShownLoad : Type 0 where
 abbrev pub reading_of : Access → Reading
 reading_of a = record { area = record { addr = a.addr; bytes = bytes_in a.width; fault = a.fault }; cycle = a.cycle }
 
+-- a load in the queue, with what is noted of it
 abbrev pub shown_load : Load → ShownLoad
 shown_load l = record { serial = l.serial; reading = option_map reading_of l.access }
 

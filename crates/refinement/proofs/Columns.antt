@@ -20,6 +20,7 @@ Numbered xn field k = option_map xn (field k) ≡ option_map (λ x. k.serial) (f
 
 -- where each has an item, the items of the oldest are its oldest
 module _ {T X : Type 0} (f : T → X) (g : Footprint → X) where
+  -- the oldest items are those of the oldest footprints
   pub taken : (n : ℕ) (xs : List T) (ks : List Footprint) → map f xs ≡ column (λ k. Some (g k)) ks → map f (take n xs) ≡ column (λ k. Some (g k)) (take n ks)
   taken zero xs ks h = refl
   taken (suc n) [] [] h = refl
@@ -27,10 +28,12 @@ module _ {T X : Type 0} (f : T → X) (g : Footprint → X) where
   taken (suc n) (x ∷ xs) [] h = absurd (cc)
   taken (suc n) (x ∷ xs) (k ∷ ks) h = let head : f x ≡ g k = cc in let tail : map f xs ≡ column (λ k. Some (g k)) ks = cc in ap₂ (λ y ys. y ∷ ys) head (taken n xs ks tail)
 
+  -- without the oldest
   pub dropped : (xs : List T) (k : Footprint) (ks : List Footprint) → map f xs ≡ column (λ k. Some (g k)) (k ∷ ks) → map f (drop 1 xs) ≡ column (λ k. Some (g k)) ks
   dropped [] k ks h = absurd (cc)
   dropped (x ∷ xs) k ks h = cc
 
+  -- there are as many items as footprints
   pub as_many : (xs : List T) (ks : List Footprint) → map f xs ≡ column (λ k. Some (g k)) ks → length xs ≡ length ks
   as_many [] [] h = refl
   as_many [] (k ∷ ks) h = absurd (cc)
@@ -43,12 +46,14 @@ module _ {T X : Type 0} (f : T → X) (field : Footprint → Option X) where
   cons_join None xs ys = refl
   cons_join (Some x) xs ys = refl
 
+  -- a column of younger footprints behind older ones
   pub column_join : (a b : List Footprint) → column field (a ++ b) ≡ column field a ++ column field b
   column_join [] b = refl
   column_join (k ∷ a) b = ap (cons_option (field k)) (column_join a b) ∙ cons_join (field k) (column field a) (column field b)
 
   -- ---- one entry more
 
+  -- the item of one entry more, if it has one
   pub pushed : (xs : List T) (o : Option T) (ks : List Footprint) (k : Footprint) → map f xs ≡ column field ks → option_map f o ≡ field k → map f (xs ++ option_to_list o) ≡ column field (ks ++ k ∷ [])
   pushed xs o ks k h q =
       map-append f xs (option_to_list o) ∙ ap₂ (λ a b. a ++ b) h (one o ∙ ap (λ o. cons_option o []) q) ∙ sym (column_join ks (k ∷ []))
@@ -69,6 +74,7 @@ module _ {T X : Type 0} (f : T → X) (field : Footprint → Option X) where
   mapped w None xs = refl
   mapped w (Some x) xs = refl
 
+  -- a column of footprints that change
   pub column_mapped : (w : X → X) (v : Footprint → Footprint) → ((k : Footprint) → field (v k) ≡ option_map w (field k)) → (ks : List Footprint) → map w (column field ks) ≡ column field (map v ks)
   column_mapped w v b [] = refl
   column_mapped w v b (k ∷ ks) = mapped w (field k) (column field ks) ∙ ap₂ cons_option (sym (b k)) (column_mapped w v b ks)
@@ -83,17 +89,17 @@ module _ {T X : Type 0} (f : T → X) (field : Footprint → Option X) where
       items (x ∷ xs) = ap₂ (λ y ys. y ∷ ys) (a x) (items xs)
 
   -- all entries change, but not in this field
-  pub aside : (v : Footprint → Footprint) → ((k : Footprint) → field (v k) ≡ field k) → (ks : List Footprint) → column field ks ≡ column field (map v ks)
-  aside v b [] = refl
-  aside v b (k ∷ ks) = ap₂ cons_option (sym (b k)) (aside v b ks)
+  pub frame_all : (v : Footprint → Footprint) → ((k : Footprint) → field (v k) ≡ field k) → (ks : List Footprint) → column field ks ≡ column field (map v ks)
+  frame_all v b [] = refl
+  frame_all v b (k ∷ ks) = ap₂ cons_option (sym (b k)) (frame_all v b ks)
 
   -- ---- one entry changes
 
   -- one entry changes, but not in this field
-  pub unset : (ks : List Footprint) (i : ℕ) (k k2 : Footprint) → slice_get ks i ≡ Some k → field k2 ≡ field k → column field ks ≡ column field (slice_set ks i k2)
-  unset [] i k k2 h q = absurd (cc)
-  unset (x ∷ ks) zero k k2 h q = let a : x ≡ k = cc in ap (λ o. cons_option o (column field ks)) (ap field a ∙ sym q)
-  unset (x ∷ ks) (suc i) k k2 h q = ap (cons_option (field x)) (unset ks i k k2 h q)
+  pub frame_at : (ks : List Footprint) (i : ℕ) (k k2 : Footprint) → slice_get ks i ≡ Some k → field k2 ≡ field k → column field ks ≡ column field (slice_set ks i k2)
+  frame_at [] i k k2 h q = absurd (cc)
+  frame_at (x ∷ ks) zero k k2 h q = let a : x ≡ k = cc in ap (λ o. cons_option o (column field ks)) (ap field a ∙ sym q)
+  frame_at (x ∷ ks) (suc i) k k2 h q = ap (cons_option (field x)) (frame_at ks i k k2 h q)
 
   -- where among the items a position's is
   abbrev pub place : ℕ → List Footprint → ℕ
@@ -192,6 +198,7 @@ module _ {T X : Type 0} (f : T → X) (field : Footprint → Option X) where
 
     -- ---- one item is noted, at its serial
 
+    -- an item changes where it has this serial
     abbrev pub noted_in : ℕ → (T → T) → T → T
     noted_in n v x = if tn x == n then v x else x
 

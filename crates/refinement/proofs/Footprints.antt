@@ -34,6 +34,7 @@ footprint_have t P b [] a = All-nil (λ (k : Footprint). P k.serial)
 footprint_have t P b (e ∷ es) a =
     All-cons (λ (k : Footprint). P k.serial) (footprint_of t b e) (each_from (footprint_of t) (e ∷ b) es) (All-head (λ e. P e.serial) e es a) (footprint_have t P (e ∷ b) es (All-tail (λ e. P e.serial) e es a))
 
+-- footprints have the serials of their entries, so they rise
 pub footprint_rise : (t : Terms) (b es : List Entry) → Rise es → Rises (each_from (footprint_of t) b es)
 footprint_rise t b [] r = tt
 footprint_rise t b (e ∷ es) r = (footprint_have t (λ n. e.serial < n) (e ∷ b) es (rise_head e es r), footprint_rise t (e ∷ b) es (rise_tail e es r))
@@ -42,6 +43,7 @@ footprint_rise t b (e ∷ es) r = (footprint_have t (λ n. e.serial < n) (e ∷ 
 pub footprint_pass : (t : Terms) (p : ℕ → Bool) (b es : List Entry) → All (λ e. p e.serial ≡ true) es → filter (λ (k : Footprint). p k.serial) (each_from (footprint_of t) b es) ≡ each_from (footprint_of t) b es
 footprint_pass t p b es a = keeps_all (λ (k : Footprint). p k.serial) (each_from (footprint_of t) b es) (footprint_have t (λ n. p n ≡ true) b es a)
 
+-- no footprint passes a test of serials that no entry passes
 pub footprint_fail : (t : Terms) (p : ℕ → Bool) (b es : List Entry) → All (λ e. p e.serial ≡ false) es → filter (λ (k : Footprint). p k.serial) (each_from (footprint_of t) b es) ≡ []
 footprint_fail t p b es a = keeps_none (λ (k : Footprint). p k.serial) (each_from (footprint_of t) b es) (footprint_have t (λ n. p n ≡ false) b es a)
 
@@ -53,6 +55,7 @@ each_has t P h b (e ∷ es) = (h (look_back t.hold b e) e, each_has t P h (e ∷
 if_numbered : {X : Type 0} (xn : X → ℕ) (b : Bool) (x : X) → option_map xn (if b then Some x else None) ≡ option_map (λ y. xn x) (if b then Some x else None)
 if_numbered xn b x = sym (if_mapped xn b x) ∙ if_mapped (λ y. xn x) b x
 
+-- what an entry writes has its serial
 pub writes_numbered : (t : Terms) (b es : List Entry) → Each (Numbered (λ (w : Write). w.serial) (λ k. k.write)) (each_from (footprint_of t) b es)
 writes_numbered t b es = each_has t (Numbered (λ (w : Write). w.serial) (λ k. k.write)) (λ l e. by_write l e (writes_of e.item.instr)) b es
   where
@@ -61,12 +64,15 @@ writes_numbered t b es = each_has t (Numbered (λ (w : Write). w.serial) (λ k. 
     by_write l e None = refl
     by_write l e (Some r) = refl
 
+-- the waiter of an entry has its serial
 pub waiters_numbered : (t : Terms) (b es : List Entry) → Each (Numbered (λ (w : Waiter). w.serial) (λ k. k.waiter)) (each_from (footprint_of t) b es)
 waiters_numbered t b es = each_has t (Numbered (λ (w : Waiter). w.serial) (λ k. k.waiter)) (λ l e. if_numbered (λ (w : Waiter). w.serial) (is_waiting e.state) (waiter_footprint t l.awaits e)) b es
 
+-- the load of an entry has its serial
 pub loads_numbered : (t : Terms) (b es : List Entry) → Each (Numbered (λ (l : ShownLoad). l.serial) (λ k. k.load)) (each_from (footprint_of t) b es)
 loads_numbered t b es = each_has t (Numbered (λ (l : ShownLoad). l.serial) (λ k. k.load)) (λ l e. if_numbered (λ (l : ShownLoad). l.serial) (is_load e.item.kind) (load_footprint t e)) b es
 
+-- the store of an entry has its serial
 pub stores_numbered : (t : Terms) (b es : List Entry) → Each (Numbered (λ (s : StoreFootprint). s.serial) (λ k. k.store)) (each_from (footprint_of t) b es)
 stores_numbered t b es =
     each_has t (Numbered (λ (s : StoreFootprint). s.serial) (λ k. k.store)) (λ l e. if_numbered (λ (s : StoreFootprint). s.serial) (is_store e.item.kind) (store_footprint t (base_root l.roots) e)) b es
@@ -135,6 +141,7 @@ pub footprint_alike : (t : Terms) (b b2 : List Entry) (e : Entry) → AllZip (Gi
 footprint_alike t b b2 e v =
     ap (λ l. footprint_by t l e) (look_woken t.hold t.hold [] b b2 e v ∙ ap (λ a. record (look_back t.hold b e) { awaits = a }) (strike_nothing (look_back t.hold b e).awaits))
 
+-- an entry that stays gives its value or not as it did
 pub gives_same : (h : Hold) (e : Entry) → Gives h h [] e e
 gives_same h e = record { on = goes_same e; gives = sym (or_false (gives_at h e)) }
 
@@ -172,13 +179,16 @@ awaited_without hold (e ∷ before) h d (Some r) = by_writes (writes r e) (await
 abbrev pub unretired_store : ℕ → StoreFootprint → StoreFootprint
 unretired_store oldest s = record s { root = unretired oldest s.root }
 
+-- a footprint, as far as its roots and writers are told
 abbrev pub footprint_unretired : ℕ → Footprint → Footprint
 footprint_unretired oldest k = record k { sources = unretired_sources oldest k.sources; write = option_map (unretired_write oldest) k.write; store = option_map (unretired_store oldest) k.store }
 
+-- of a pair of roots the first, where it is told
 pub first_shown : (f : ℕ) (rs : List (Option ℕ)) → base_root (map (unretired f) rs) ≡ unretired f (base_root rs)
 first_shown f [] = refl
 first_shown f (r ∷ rs) = refl
 
+-- what an entry writes, where its sources' roots are told
 pub write_shown : (f : ℕ) (e : Entry) (rs : List (Option ℕ)) → f ≤ e.serial → write_of e (map (unretired f) rs) ≡ option_map (unretired_write f) (write_of e rs)
 write_shown f e rs le = by_write (writes_of e.item.instr)
   where
@@ -222,6 +232,7 @@ each_stays : (f : ℕ) (es : List Entry) → All (λ e. f ≤ e.serial) es → A
 each_stays f [] a = tt
 each_stays f (e ∷ es) a = (record { is = refl; young = All-head (λ e. f ≤ e.serial) e es a }, each_stays f es (All-tail (λ e. f ≤ e.serial) e es a))
 
+-- once the oldest has left, the others' footprints are what they were, where its serial isn't told
 pub footprints_without : (t : Terms) (f : ℕ) (h : Entry) (es : List Entry) → All (λ e. f ≤ e.serial) es → h.serial < f → gives_at t.hold h ≡ true →
     each_from (footprint_of t) [] es ≡ map (footprint_unretired f) (each_from (footprint_of t) (h ∷ []) es)
 footprints_without t f h es a lt g =

@@ -21,7 +21,7 @@ use Rattle.window_model.specs.Order.{each_from, fault_of, has_address, has_data,
 use Rattle.window_model.specs.Retire.{addr_of, stored_of, byte_count}
 use Rattle.window_model.specs.declared.Entry.{Entry}
 use Rattle.window_model.specs.declared.Item.{Item}
-use Rattle.refinement.proofs.Columns.{Numbered, Rises, column_at, column_removed, column_set, noted, noted_at, place, unset}
+use Rattle.refinement.proofs.Columns.{Numbered, Rises, column_at, column_removed, column_set, noted, noted_at, place, frame_at}
 use Rattle.refinement.proofs.Each.{each_at, each_set}
 use Rattle.refinement.proofs.Footprints.{footprint_alike, footprint_rise, gives_same, loads_numbered, stores_numbered}
 use Rattle.refinement.proofs.Lists.{map_id, map_remove, map_same, map_twice, zip_set, unknown}
@@ -153,7 +153,7 @@ stores_issued : (store : Bool) (t : Terms) (f : ℕ) (stores : List QueuedStore)
     k.store ≡ (if store then Some (store_footprint t root e) else None) → k2.store ≡ (if store then Some (store_footprint t root e2) else None) →
     (store ≡ true → PartsGoOn w e e2) → (t.tracked ≡ true → e2.cleared ≡ e.cleared) → map (store_in t f) stores ≡ column (λ k. k.store) ks →
     map (store_in t f) (if store then with_stored (has_data e2) e2 (with_span (has_address e2) w e2 stores) else stores) ≡ column (λ k. k.store) (slice_set ks i k2)
-stores_issued false t f stores ks i k k2 root w e e2 num rise h m n old new g c s = s ∙ unset (store_in t f) (λ k. k.store) ks i k k2 h (new ∙ sym old)
+stores_issued false t f stores ks i k k2 root w e e2 num rise h m n old new g c s = s ∙ frame_at (store_in t f) (λ k. k.store) ks i k k2 h (new ∙ sym old)
 stores_issued true t f stores ks i k k2 root w e e2 num rise h m n old new g c s =
     ap (map (store_in t f)) (each_noted (has_address e2) (has_data e2) w e2 stores)
     ∙ noted (store_in t f) (λ k. k.store) (λ (s : QueuedStore). s.serial) (λ (s : StoreFootprint). s.serial) (λ x. refl) (with_parts (has_address e2) (has_data e2) w e2) stores ks i e2.serial k k2 (store_footprint t root e)
@@ -187,11 +187,11 @@ loads_issued true true false t loads ks i k k2 w e e2 tr r num rise h m n old ne
     let same = unread refl refl refl in
     let now = none_read e2 e2.issued r in
     let before = none_read e e.issued (ap is_some (sym same) ∙ r) in
-    s ∙ unset (load_in t) (λ k. k.load) ks i k k2 h
+    s ∙ frame_at (load_in t) (λ k. k.load) ks i k k2 h
     (new ∙ ap₂ (λ (n : ℕ) (r : Option Reading). Some (record { serial = n; reading = if t.tracked then r else None })) n (now ∙ sym before) ∙ sym old)
-loads_issued true false read t loads ks i k k2 w e e2 tr r num rise h m n old new unread size s = s ∙ unset (load_in t) (λ k. k.load) ks i k k2 h (new ∙ sym old)
+loads_issued true false read t loads ks i k k2 w e e2 tr r num rise h m n old new unread size s = s ∙ frame_at (load_in t) (λ k. k.load) ks i k k2 h (new ∙ sym old)
 loads_issued false load read t loads ks i k k2 w e e2 tr r num rise h m n old new unread size s =
-    s ∙ unset (load_in t) (λ k. k.load) ks i k k2 h (new ∙ by_load load ∙ sym old)
+    s ∙ frame_at (load_in t) (λ k. k.load) ks i k k2 h (new ∙ by_load load ∙ sym old)
   where
     untracked : load_footprint t e2 ≡ load_footprint t e
     untracked =
@@ -236,9 +236,9 @@ refines_issued p i e e2 w s h waits issued on_so tracks_so =
       next = all_on (λ n. n < p.next) p.window new go s.next;
       columns = subst (λ f. Columns t f (parts q) (footprints q)) (sym (oldest_on p.next p.window new go))
           (subst (Columns t f (parts q)) (sym (footprints_set t p.window i e e2 h (steady t.hold e e2 on (issued.undone ∙ sym (waiting_done e.state waits))))) (record {
-            sources = s.columns.sources ∙ unset (unretired_sources f) (λ k. Some k.sources) ks i k k2 at
+            sources = s.columns.sources ∙ frame_at (unretired_sources f) (λ k. Some k.sources) ks i k k2 at
                 (ap (λ (i : Item). Some (record { roots = map (root_of_source b) (two (reads_of i.instr)); writers = map (writer_of_source b) (two (reads_of i.instr)) })) on.item);
-            writes = s.columns.writes ∙ unset (unretired_write f) (λ k. k.write) ks i k k2 at
+            writes = s.columns.writes ∙ frame_at (unretired_write f) (λ k. k.write) ks i k k2 at
                 (ap₂ (λ (n : ℕ) (i : Item). option_map (λ r. record { serial = n; register = r; root = root_written i.kind n (map (root_of_source b) (two (reads_of i.instr))) }) (writes_of i.instr)) on.serial on.item);
             waiters = waiters_left t p.version p.held ks (station_of i p.window) i k x e2 k2 (station_place t p.window i) s.columns.waiters at (ap (λ b. if b then Some x else None) waits)
                 (ap₂ (λ (n : ℕ) (i : Item). if is_waiting e2.state then Some (record { serial = n; awaits = map (awaited t.hold b) (two (reads_of i.instr)); wants = wants_of p.version e2 }) else None) on.serial on.item);
@@ -281,10 +281,10 @@ refines_cleared p i e s h =
       next = all_on (λ n. n < p.next) p.window new go s.next;
       columns = subst (λ f. Columns t f (parts q) (footprints q)) (sym (oldest_on p.next p.window new go))
           (subst (Columns t f (parts q)) (sym (footprints_set t p.window i e (cleared_one e) h (steady t.hold e (cleared_one e) on refl))) (record {
-            sources = s.columns.sources ∙ unset (unretired_sources f) (λ k. Some k.sources) ks i old c at refl;
-            writes = s.columns.writes ∙ unset (unretired_write f) (λ k. k.write) ks i old c at refl;
-            waiters = s.columns.waiters ∙ unset waiter_in (λ k. k.waiter) ks i old c at refl;
-            loads = s.columns.loads ∙ unset (load_in t) (λ k. k.load) ks i old c at refl;
+            sources = s.columns.sources ∙ frame_at (unretired_sources f) (λ k. Some k.sources) ks i old c at refl;
+            writes = s.columns.writes ∙ frame_at (unretired_write f) (λ k. k.write) ks i old c at refl;
+            waiters = s.columns.waiters ∙ frame_at waiter_in (λ k. k.waiter) ks i old c at refl;
+            loads = s.columns.loads ∙ frame_at (load_in t) (λ k. k.load) ks i old c at refl;
             stores = noted_at (store_in t f) (λ k. k.store) (λ (s : QueuedStore). s.serial) (λ (s : StoreFootprint). s.serial) (λ x. refl) (λ x. record x { cleared = true }) p.queues.stores ks i e.serial old c
                 (stores_numbered t [] p.window) (footprint_rise t [] p.window s.rise) at refl (store_cleared t f (base_root (source_roots b e)) e (is_store e.item.kind)) s.columns.stores;
           }));

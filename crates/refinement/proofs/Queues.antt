@@ -85,10 +85,12 @@ queues_track p s tr =
 
 -- ---- what the roots tell
 
+-- the root of the base register is the first of an entry's roots
 pub base_told : (point : ℕ) (rs : List (Option ℕ)) → list_any (is_hidden point) (take 1 rs) ≡ is_hidden point (base_root rs)
 base_told point [] = refl
 base_told point (r ∷ rs) = or_false (is_hidden point r)
 
+-- a root is hidden from those that see up to the point where it is above the point
 pub hides_root : (point : ℕ) (r : Option ℕ) → hides (λ root. nat_le root point) r ≡ is_hidden point r
 hides_root point None = refl
 hides_root point (Some root) = refl

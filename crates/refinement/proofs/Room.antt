@@ -30,9 +30,11 @@ few {X = X} field (k ∷ ks) = by_field (field k) (few field ks)
     by_field None h = omega (arith, h)
     by_field (Some x) h = omega (arith, h)
 
+-- sources for each entry
 pub counts_sources : (p : InFlight) → Refines p → length p.sources ≡ length p.window
 counts_sources p s = as_many (unretired_sources (oldest_of p.next p.window)) (λ k. k.sources) p.sources (footprints p) s.columns.sources ∙ each_length (terms p) [] p.window
 
+-- no more writes than entries
 pub counts_writes : (p : InFlight) → Refines p → length p.writes ≤ length p.window
 counts_writes p s =
     let a = length-map p.writes (unretired_write (oldest_of p.next p.window)) in
@@ -41,14 +43,17 @@ counts_writes p s =
     let d = each_length (terms p) [] p.window in
     omega (arith, a, b, c, d)
 
+-- as many stations as entries wait
 pub counts_held : (p : InFlight) → Refines p → length p.held ≡ count_by (λ e. is_waiting e.state) p.window
 counts_held p s = sym (length-map p.held waiter_in) ∙ ap length s.columns.waiters ∙ waiting_count (terms p) [] p.window ∙ count_is (λ e. is_waiting e.state) p.window
 
+-- writes are older than the next entry
 pub writes_older : (p : InFlight) → Refines p → All (λ w. w.serial < p.next) p.writes
 writes_older p s =
     items_have (unretired_write (oldest_of p.next p.window)) (λ k. k.write) (λ (w : Write). w.serial) (λ (w : Write). w.serial) (λ w. refl) (λ n. n < p.next) p.writes (footprints p)
     (writes_numbered (terms p) [] p.window) (footprint_have (terms p) (λ n. n < p.next) [] p.window s.next) s.columns.writes
 
+-- stations are older than the next entry
 pub held_older : (p : InFlight) → Refines p → All (λ x. x.serial < p.next) p.held
 held_older p s =
     items_have waiter_in (λ k. k.waiter) (λ (x : Station). x.serial) (λ (w : Waiter). w.serial) (λ w. refl) (λ n. n < p.next) p.held (footprints p)

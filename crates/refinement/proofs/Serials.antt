@@ -49,9 +49,11 @@ below_is es i e r h =
 
 -- ---- entries go on
 
+-- an entry that stays goes on
 pub goes_same : (e : Entry) → GoesOn e e
 goes_same e = record { serial = refl; item = refl }
 
+-- a fact of serials that all have, as entries go on
 pub all_on : (P : ℕ → Type 0) (es es2 : List Entry) → AllZip GoesOn es es2 → All (λ e. P e.serial) es → All (λ e. P e.serial) es2
 all_on P [] [] v a = a
 all_on P [] (e2 ∷ es2) v a = absurd v
@@ -59,6 +61,7 @@ all_on P (e ∷ es) [] v a = absurd v
 all_on P (e ∷ es) (e2 ∷ es2) v a =
     All-cons (λ e. P e.serial) e2 es2 (subst P (sym v.0.serial) (All-head (λ e. P e.serial) e es a)) (all_on P es es2 v.1 (All-tail (λ e. P e.serial) e es a))
 
+-- serials rise, as entries go on
 pub rise_on : (es es2 : List Entry) → AllZip GoesOn es es2 → Rise es → Rise es2
 rise_on [] [] v r = r
 rise_on [] (e2 ∷ es2) v r = absurd v
@@ -66,6 +69,7 @@ rise_on (e ∷ es) [] v r = absurd v
 rise_on (e ∷ es) (e2 ∷ es2) v r =
     rise_cons e2 es2 (subst (λ n. All (λ d. n < d.serial) es2) (sym v.0.serial) (all_on (λ m. e.serial < m) es es2 v.1 (rise_head e es r))) (rise_on es es2 v.1 (rise_tail e es r))
 
+-- the oldest serial stays, as entries go on
 pub oldest_on : (next : ℕ) (es es2 : List Entry) → AllZip GoesOn es es2 → oldest_of next es2 ≡ oldest_of next es
 oldest_on next [] [] v = refl
 oldest_on next [] (e2 ∷ es2) v = absurd v

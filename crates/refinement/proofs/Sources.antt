@@ -39,6 +39,7 @@ roots_kept : (t : Terms) (b es : List Entry) → map (λ (x : Sources). x.roots)
 roots_kept t b [] = refl
 roots_kept t b (e ∷ es) = ap (λ rs. source_roots b e ∷ rs) (roots_kept t (e ∷ b) es)
 
+-- by position the roots of all entries' sources, where they haven't retired
 pub roots_are : (p : InFlight) → Refines p → map (map (unretired (oldest_of p.next p.window))) (each_roots p.sources) ≡ each_from source_roots [] p.window
 roots_are p s =
     let f = oldest_of p.next p.window in

@@ -20,6 +20,7 @@ use Rattle.refinement.specs.Waiters.{waiter_in, waiter_of, waiters_from}
 
 -- ---- stations
 
+-- as many footprints have a waiter as entries wait
 pub waiting_count : (t : Terms) (b es : List Entry) → length (column (λ k. k.waiter) (each_from (footprint_of t) b es)) ≡ count (λ e. is_waiting e.state) es
 waiting_count t b [] = refl
 waiting_count t b (e ∷ es) = by_wait (is_waiting e.state) (waiting_count t (e ∷ b) es)

@@ -25,7 +25,7 @@ use Rattle.window_model.specs.Retire.{stored_of}
 use Rattle.window_model.specs.Serials.{Rise}
 use Rattle.window_model.specs.declared.Entry.{Entry}
 use Rattle.window_model.specs.declared.Progress.TheVariants.{Done}
-use Rattle.refinement.proofs.Columns.{aside, column_mapped, dropped, filtered, items_have, pushed, pushed_if, taken, viewed}
+use Rattle.refinement.proofs.Columns.{frame_all, column_mapped, dropped, filtered, items_have, pushed, pushed_if, taken, viewed}
 use Rattle.refinement.proofs.Each.{each_join, each_take}
 use Rattle.refinement.proofs.Footprints.{first_shown, footprint_fail, footprint_have, footprint_pass, footprint_unretired, footprints_without, footprints_woken, gives_same, loads_numbered, stores_numbered, unretired_store, waiters_numbered, wake, write_shown, writes_numbered}
 use Rattle.refinement.proofs.Lists.{map_same, map_twice, take_first, zip_set, unknown}
@@ -140,11 +140,11 @@ refines_renamed p e s awaits place h fresh rs ws aw =
 
 columns_woken : (t : Terms) (f : ℕ) (p : Parts) (ks : List Footprint) (h : Hold) (ss : List ℕ) → Columns t f p ks → Columns (record t { hold = h }) f (record p { held = struck_each ss p.held }) (map (wake ss) ks)
 columns_woken t f p ks h ss s = record {
-  sources = s.sources ∙ aside (unretired_sources f) (λ k. Some k.sources) (wake ss) (λ k. refl) ks;
-  writes = s.writes ∙ aside (unretired_write f) (λ k. k.write) (wake ss) (λ k. refl) ks;
+  sources = s.sources ∙ frame_all (unretired_sources f) (λ k. Some k.sources) (wake ss) (λ k. refl) ks;
+  writes = s.writes ∙ frame_all (unretired_write f) (λ k. k.write) (wake ss) (λ k. refl) ks;
   waiters = held_woken ss p.held ∙ ap (map (woken ss)) s.waiters ∙ column_mapped waiter_in (λ k. k.waiter) (woken ss) (wake ss) (λ k. refl) ks;
-  loads = s.loads ∙ aside (load_in t) (λ k. k.load) (wake ss) (λ k. refl) ks;
-  stores = s.stores ∙ aside (store_in t f) (λ k. k.store) (wake ss) (λ k. refl) ks;
+  loads = s.loads ∙ frame_all (load_in t) (λ k. k.load) (wake ss) (λ k. refl) ks;
+  stores = s.stores ∙ frame_all (store_in t f) (λ k. k.store) (wake ss) (λ k. refl) ks;
 }
 
 wakes_go : (h h2 : Hold) (ss : List ℕ) (es es2 : List Entry) → AllZip (Wakes h h2 ss) es es2 → AllZip GoesOn es es2
@@ -251,8 +251,8 @@ holds_aged t f g p ks le s = record {
   sources = viewed (unretired_sources f) (λ k. Some k.sources) (unretired_sources g) (unretired_sources g) (footprint_unretired g)
       (λ x. ap₂ (λ r w. record { roots = r; writers = w }) (sym (unretired_all_twice f g x.roots le)) (sym (unretired_all_twice f g x.writers le))) (λ k. refl) p.sources ks s.sources;
   writes = viewed (unretired_write f) (λ k. k.write) (unretired_write g) (unretired_write g) (footprint_unretired g) (λ w. ap (λ r. record w { root = r }) (sym (unretired_twice f g w.root le))) (λ k. refl) p.writes ks s.writes;
-  waiters = s.waiters ∙ aside waiter_in (λ k. k.waiter) (footprint_unretired g) (λ k. refl) ks;
-  loads = s.loads ∙ aside (load_in t) (λ k. k.load) (footprint_unretired g) (λ k. refl) ks;
+  waiters = s.waiters ∙ frame_all waiter_in (λ k. k.waiter) (footprint_unretired g) (λ k. refl) ks;
+  loads = s.loads ∙ frame_all (load_in t) (λ k. k.load) (footprint_unretired g) (λ k. refl) ks;
   stores = viewed (store_in t f) (λ k. k.store) (store_in t g) (unretired_store g) (footprint_unretired g) (λ x. ap (λ r. record (store_in t g x) { root = r }) (sym (unretired_twice f g x.root le))) (λ k. refl) p.queues.stores ks s.stores;
 }
 

@@ -30,6 +30,7 @@ pub record Told (point : Point) (oldest : ℕ) (window : List Entry) : Type 0 wh
   pub falls : Along Falls [] window
   pub retired : (s : ℕ) → s < oldest → s ≤ point.serial
 
+-- a point that has moved over a window with an entry tells that
 pub told : (point : Point) (next : ℕ) (e : Entry) (es : List Entry) → Rise (e ∷ es) → HasMoved point (e ∷ es) → Told point (oldest_of next (e ∷ es)) (e ∷ es)
 told point next e es r m = record {
   tells = m.each;
@@ -69,6 +70,7 @@ take_shown : (f : ℕ) (os : List (Option ℕ)) → take 1 (map (unretired f) os
 take_shown f [] = refl
 take_shown f (o ∷ os) = refl
 
+-- an entry's roots tell which of its operands are tainted, where the older entries are known
 pub operands_told : (p : Point) (f : ℕ) (before : List Entry) (e : Entry) (roots : List (Option ℕ)) → Behind (Tells p) before → Behind Falls before → ((s : ℕ) → s < f → s ≤ p.serial) →
     map (unretired f) roots ≡ source_roots before e → OperandsTold p before e roots
 operands_told p f before e roots t u old k =

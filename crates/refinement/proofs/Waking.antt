@@ -61,12 +61,14 @@ pub record Wakes (h h2 : Hold) (ss : List ℕ) (e e2 : Entry) : Type 0 where
   pub gives : Gives h h2 ss e e2
   pub same : (t : Terms) (l : Found) → footprint_by t l e2 ≡ footprint_by t l e
 
+-- entries that come to give their values go on
 pub gives_go : (h h2 : Hold) (ss : List ℕ) (es es2 : List Entry) → AllZip (Gives h h2 ss) es es2 → AllZip GoesOn es es2
 gives_go h h2 ss [] [] v = v
 gives_go h h2 ss [] (e2 ∷ es2) v = absurd v
 gives_go h h2 ss (e ∷ es) [] v = absurd v
 gives_go h h2 ss (e ∷ es) (e2 ∷ es2) v = (v.0.on, gives_go h h2 ss es es2 v.1)
 
+-- what a source awaits is struck where its writer comes to give its value
 pub awaited_woken : (h h2 : Hold) (ss : List ℕ) (b b2 : List Entry) → AllZip (Gives h h2 ss) b b2 → (o : Option ℕ) → awaited h2 b2 o ≡ strike_each ss (awaited h b o)
 awaited_woken h h2 ss b b2 v None = sym (strike_none ss)
 awaited_woken h h2 ss [] [] v (Some r) = sym (strike_none ss)
@@ -90,6 +92,7 @@ woken ss w = record w { awaits = map (strike_each ss) w.awaits }
 pub strike_nothing : (os : List (Option ℕ)) → map (strike_each []) os ≡ os
 strike_nothing os = map_id (strike_each []) (λ o. refl) os
 
+-- stations that are told of serials await none of them any more
 pub held_woken : (ss : List ℕ) (held : List Station) → map waiter_in (struck_each ss held) ≡ map (woken ss) (map waiter_in held)
 held_woken [] held = sym (map_id (woken []) (λ (w : Waiter). ap (λ os. record w { awaits = os }) (strike_nothing w.awaits)) (map waiter_in held))
 held_woken (s ∷ ss) held =
@@ -140,6 +143,7 @@ other_gives false b m n f = no_more b
     no_more true = refl
     no_more false = refl
 
+-- an entry that becomes Done wakes with its serial, if it then gives its value
 pub wakes_done : (h : Hold) (es : List Entry) (i : ℕ) (e : Entry) → Rise es → slice_get es i ≡ Some e → is_waiting e.state ≡ false →
     AllZip (Wakes h h (given (gives_at h (record e { state = Done })) e.serial)) es (slice_set es i (record e { state = Done }))
 wakes_done h es i e r k w =
@@ -157,6 +161,7 @@ wakes_done h es i e r k w =
       same = λ t l. refl;
     })
 
+-- stations are told of one serial where an entry gives its value
 pub struck_given : (h : Hold) (e : Entry) (held : List Station) → struck_if_given h e held ≡ struck_each (given (gives_at h e) e.serial) held
 struck_given h e held = by_test (gives_at h e)
   where
@@ -247,5 +252,6 @@ to_wakes h h2 ss (e ∷ es) m k = (
   to_wakes h h2 ss es m k.1,
 )
 
+-- as the point moves on, entries wake with the serials that are released
 pub wakes_moved : (h h2 : Hold) (es : List Entry) → MovesOn h h2 → Rise es → AllZip (Wakes h h2 (released h h2 es)) es es
 wakes_moved h h2 es m r = to_wakes h h2 (released h h2 es) es m (released_tell h h2 es r)

@@ -35,10 +35,12 @@ stands_in r w before (e ∷ es) h = ⊎_elim (λ (k : (i : ℕ) × (slice_get es
 pub writer_place : (r : ℕ) (w : Entry) (es : List Entry) → Rise es → writer (reverse es) r ≡ Some w → slice_get es (length (below w.serial es)) ≡ Some w
 writer_place r w es rise h = ⊎_elim (λ (k : (i : ℕ) × (slice_get es i ≡ Some w)). ap (slice_get es) (place_of es k.0 w rise k.1) ∙ k.1) (λ (k : writer [] r ≡ Some w). absurd (cc)) (stands_in r w [] es h)
 
+-- the entry of a writer's serial is the writer
 pub found : (r : ℕ) (es : List Entry) → Rise es → (o : Option Entry) → writer (reverse es) r ≡ o → entry_of es (source_by o) ≡ o
 found r es rise None h = refl
 found r es rise (Some w) h = writer_place r w es rise h
 
+-- a writer's serial is that of an entry in the window
 pub within : (r s : ℕ) (es : List Entry) → Rise es → (o : Option Entry) → writer (reverse es) r ≡ o → source_by o ≡ source.Entry s → length (below s es) < length es
 within r s es rise None h q = absurd (cc)
 within r s es rise (Some w) h q =

@@ -24,9 +24,11 @@ use Rattle.rv_types.specs.declared.Instr.TheVariants as instr
 
 -- ---- what has not retired
 
+-- a serial from the oldest on is told
 pub unretired_in : (f s : ℕ) → f ≤ s → unretired f (Some s) ≡ Some s
 unretired_in f s le = let t : nat_le f s ≡ true = grind (arith, nat_tests) in ap (λ b. if b then Some s else None) t
 
+-- a serial below the oldest isn't told
 pub unretired_out : (f s : ℕ) → s < f → unretired f (Some s) ≡ None
 unretired_out f s lt = let t : nat_le f s ≡ false = grind (arith, nat_tests) in ap (λ b. if b then Some s else None) t
 
@@ -60,6 +62,7 @@ pub unretired_written : (f : ℕ) (k : Kind) (s : ℕ) (os : List (Option ℕ)) 
 unretired_written f Load s os le = unretired_in f s le
 unretired_written f _ s os le = unretired_latest f os
 
+-- what is told where the oldest is older is no more than what is told now
 pub unretired_twice : (f g : ℕ) (o : Option ℕ) → f ≤ g → unretired g (unretired f o) ≡ unretired g o
 unretired_twice f g None le = refl
 unretired_twice f g (Some s) le = by_f (nat_le f s) refl
@@ -68,12 +71,14 @@ unretired_twice f g (Some s) le = by_f (nat_le f s) refl
     by_f true e = refl
     by_f false e = let t : nat_le g s ≡ false = grind (arith, nat_tests) in ap (λ b. if b then Some s else None) (sym t)
 
+-- several serials, told twice
 pub unretired_all_twice : (f g : ℕ) (os : List (Option ℕ)) → f ≤ g → map (unretired g) (map (unretired f) os) ≡ map (unretired g) os
 unretired_all_twice f g [] le = refl
 unretired_all_twice f g (o ∷ os) le = ap₂ (λ o os. o ∷ os) (unretired_twice f g o le) (unretired_all_twice f g os le)
 
 -- ---- sources
 
+-- an instruction has at most two sources
 pub few_reads : (i : Instr) → length (reads_of i) ≤ 2
 few_reads (instr.Jalr rd rs1 imm) = omega arith
 few_reads (instr.Branch op rs1 rs2 imm) = omega arith
@@ -114,6 +119,7 @@ unretired_roots f before older os h = map_twice (unretired f) (root_of_source ol
     each None = refl
     each (Some r) = h r
 
+-- the youngest root without the oldest entry
 pub root_without : (f : ℕ) (before : List Entry) (h : Entry) → All (λ e. f ≤ e.serial) before → h.serial < f → (r : ℕ) → unretired f (youngest_root (before ++ h ∷ []) r) ≡ youngest_root before r
 root_without f [] h a lt r = by_writes (writes r h)
   where
@@ -175,6 +181,7 @@ none_hidden point (e ∷ before) a r = by_writes (writes r e) (none_hidden point
 abbrev pub Tells : Point → List Entry → Entry → Type 0
 Tells p before e = nat_le e.serial p.serial ≡ visible p.model before
 
+-- the youngest root is hidden exactly where the value is tainted
 pub root_tells : (p : Point) (before : List Entry) → Behind (Tells p) before → Behind Falls before → (r : ℕ) → is_hidden p.serial (youngest_root before r) ≡ tainted p.model before r
 root_tells p [] t f r = refl
 root_tells p (e ∷ before) t f r = by_writes (writes r e) (root_tells p before t.1 f.1) ∙ sym (tainted_cons p.model e before r)

@@ -26,6 +26,7 @@ pub record Found : Type 0 where
   pub writers : List (Option ℕ)
   pub awaits : List (Option ℕ)
 
+-- an entry looks back on the older ones, where results are so held back
 abbrev pub look_back : Hold → List Entry → Entry → Found
 look_back h before e = record { roots = source_roots before e; writers = source_writers before e; awaits = awaits_of h before e }
 
@@ -43,6 +44,8 @@ pub record StoreFootprint : Type 0 where
   pub known_from : Option ℕ
   pub cleared : Bool
 
+-- what an entry leaves in the parts: its sources, what it writes, its station if it waits, and what a load or store is
+-- noted with
 pub record Footprint : Type 0 where
   pub serial : ℕ
   pub sources : Sources
@@ -57,12 +60,15 @@ pub record Terms : Type 0 where
   pub hold : Hold
   pub tracked : Bool
 
+-- the station of an entry that waits
 abbrev pub waiter_footprint : Terms → List (Option ℕ) → Entry → Waiter
 waiter_footprint t awaits e = record { serial = e.serial; awaits = awaits; wants = wants_of t.version e }
 
+-- what the queue holds of a load
 abbrev pub load_footprint : Terms → Entry → ShownLoad
 load_footprint t e = record { serial = e.serial; reading = if t.tracked then (shown_reader e).reading else None }
 
+-- what the queue holds of a store, by the root of its address
 abbrev pub store_footprint : Terms → Option ℕ → Entry → StoreFootprint
 store_footprint t root e = record {
   serial = e.serial;
@@ -85,6 +91,7 @@ footprint_by t l e = record {
   store = if is_store e.item.kind then Some (store_footprint t (base_root l.roots) e) else None;
 }
 
+-- an entry's footprint, by the older ones
 abbrev pub footprint_of : Terms → List Entry → Entry → Footprint
 footprint_of t before e = footprint_by t (look_back t.hold before e) e
 
@@ -95,12 +102,15 @@ column field (k ∷ ks) = cons_option (field k) (column field ks)
 
 -- ---- what a part shows of its items: roots and writers only where they haven't retired
 
+-- sources, with the roots and writers that haven't retired
 abbrev pub unretired_sources : ℕ → Sources → Sources
 unretired_sources oldest s = record { roots = map (unretired oldest) s.roots; writers = map (unretired oldest) s.writers }
 
+-- a write of the table, with its root if that hasn't retired
 abbrev pub unretired_write : ℕ → Write → Write
 unretired_write oldest w = record w { root = unretired oldest w.root }
 
+-- a load in the queue
 abbrev pub load_in : Terms → Load → ShownLoad
 load_in t l = record { serial = l.serial; reading = if t.tracked then option_map reading_of l.access else None }
 

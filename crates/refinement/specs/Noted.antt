@@ -55,8 +55,8 @@ pub record PartsGoOn (w : Width) (e e2 : Entry) : Type 0 where
   pub outcome : (has_address e2 || has_data e2) ≡ true → is_some e2.outcome ≡ true
   pub size : bytes_in w ≡ byte_count e2
 
--- what is tracked of it goes on too: it is cleared or not as it was, and what a load reads is noted once it has issued,
--- with the width of its access
+-- what is tracked of an entry goes on: it is cleared or not as it was, and what a load reads is noted once it has
+-- issued, with the width of its access
 pub record TracksOn (w : Width) (e e2 : Entry) : Type 0 where
   pub cleared : e2.cleared ≡ e.cleared
   pub unread : is_load e.item.kind ≡ true → has_read e2 ≡ false → e2.issued ≡ e.issued

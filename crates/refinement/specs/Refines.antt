@@ -1,7 +1,7 @@
--- When the parts of a core refine the window (docs/architecture.md, "How the parts refine the window"). The abstraction
--- function is `footprint_of`: what an entry, with the older ones, leaves in the parts. The relation is `Refines`: what
--- each part holds is one column of the entries' footprints. A step owes the footprints that it changes; those of the
--- other entries, and the columns that it doesn't touch, are the frame (`unset` and `aside` of proofs/Columns.antt).
+-- When the parts of a core refine the window (docs/architecture.md, "How they stand for it"). `footprint_of` is the
+-- abstraction function: what an entry, with the older ones, leaves in the parts. `Refines` is the relation: what each
+-- part holds is one column of the entries' footprints. Each step owes the footprints that it changes; the other
+-- footprints, and the columns that it doesn't touch, are its frame (`frame_at` and `frame_all` of proofs/Columns.antt).
 use Rattle.std.specs.Prelude.{◌≡◌, ℕ, ◌<◌, List, map, Some}
 use Rattle.std.specs.List.{All}
 use Rattle.window_model.specs.Order.{each}
@@ -22,6 +22,7 @@ pub record Parts : Type 0 where
   pub held : List Station
   pub queues : Queues
 
+-- what is in flight, but for the window and the point
 abbrev pub parts : InFlight → Parts
 parts p = record { sources = p.sources; writes = p.writes; held = p.held; queues = p.queues }
 
@@ -33,6 +34,7 @@ pub record Columns (t : Terms) (oldest : ℕ) (p : Parts) (ks : List Footprint) 
   pub loads : map (load_in t) p.queues.loads ≡ column (λ k. k.load) ks
   pub stores : map (store_in t oldest) p.queues.stores ≡ column (λ k. k.store) ks
 
+-- the terms of what is in flight
 abbrev pub terms : InFlight → Terms
 terms p = record { version = p.version; hold = hold_in p; tracked = p.tracked }
 
@@ -40,8 +42,7 @@ terms p = record { version = p.version; hold = hold_in p; tracked = p.tracked }
 abbrev pub footprints : InFlight → List Footprint
 footprints p = each (footprint_of (terms p)) p.window
 
--- serials rise with age and are below the next one, the parts are the columns of the footprints, and the point can move
--- on
+-- serials rise with age and are below the next one, each part is a column of the footprints, and the point can move on
 pub record Refines (p : InFlight) : Type 0 where
   pub rise : Rise p.window
   pub next : All (λ e. e.serial < p.next) p.window

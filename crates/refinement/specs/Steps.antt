@@ -31,6 +31,7 @@ use Rattle.refinement.specs.Refines.{Refines}
 
 -- ---- before the first cycle
 
+-- nothing is in flight, and nothing held
 abbrev pub empty : Desc → InFlight
 empty d = record { version = d.version; holds = holds d.stt_defence; tracked = loads_pass d; next = 0; window = []; sources = []; writes = []; held = []; queues = queues.empty d; point = first_point d.stt_model }
 
