@@ -49,7 +49,7 @@ drop_past zero (e ∷ es) l = absurd (omega (arith, l))
 drop_past (suc i) [] l = refl
 drop_past (suc i) (e ∷ es) l = drop_past i es (omega (arith, l))
 
--- ---- those that are given
+-- ---- The entries whose values are given
 
 -- the point gives no value of an entry that it hides
 given_hidden : (p : ℕ) (es : List Entry) → Hidden p es → filter (is_given p) es ≡ []

@@ -11,7 +11,7 @@ use Rattle.entry_marks.specs.declared.marks.Marks.{Marks as Beside}
 use Rattle.entry_marks.specs.declared.walk.Walk.{Walk}
 use Rattle.entry_marks.specs.Beside.{marks_before}
 
--- these sources, with some other parts, refine the window, and each entry has its marks
+-- the sources, with some other parts, refine the window, and each entry has its marks
 pub record StandBeside (window : List Entry) (sources : List Sources) (marks : List EntryMarks) : Type 0 where
   pub rest : InFlight
   pub refines : Refines (record rest { window = window; sources = sources })

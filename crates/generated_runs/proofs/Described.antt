@@ -14,7 +14,7 @@ abbrev pub all_hold : List Bool → Bool
 all_hold [] = true
 all_hold (b ∷ more) = b && all_hold more
 
--- so each of them does
+-- where all hold, each of them does
 by_head : (b : Bool) (more : List Bool) → IsTrue (b && all_hold more) → IsTrue b
 by_head true more h = refl
 by_head false more h = absurd (cc)

@@ -2,7 +2,7 @@
 use Rattle.std.specs.Prelude.{[], ◌∷◌}
 use Rattle.generated_runs.specs.Agreement.{Run, lines}
 
--- its code:
+-- the run's code:
 -- 00010000 mul x5,x0,x0
 -- 00010004 add x5,x5,x2
 -- 00010008 sw x2,0(x5)

@@ -2,7 +2,7 @@
 use Rattle.std.specs.Prelude.{[], ◌∷◌}
 use Rattle.generated_runs.specs.Agreement.{Run, lines}
 
--- its code:
+-- the run's code:
 -- 00010000 div x5,x2,x2
 -- 00010004 sw x5,0(x2)
 -- 00010008 sw x5,4(x2)

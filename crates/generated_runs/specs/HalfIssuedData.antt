@@ -2,7 +2,7 @@
 use Rattle.std.specs.Prelude.{[], ◌∷◌}
 use Rattle.generated_runs.specs.Agreement.{Run, lines}
 
--- its code:
+-- the run's code:
 -- 00010000 rem x6,x2,x0
 -- 00010004 sw x2,0(x6)
 -- 00010008 sw x6,4(x6)

@@ -2,7 +2,7 @@
 use Rattle.std.specs.Prelude.{[], ◌∷◌}
 use Rattle.generated_runs.specs.Agreement.{Run, lines}
 
--- its code:
+-- the run's code:
 -- 00010000 beq x0,x0,+8
 -- 00010004 addi x6,x0,1
 -- 00010008 bne x0,x0,+8

@@ -2,7 +2,7 @@
 use Rattle.std.specs.Prelude.{[], ◌∷◌}
 use Rattle.generated_runs.specs.Agreement.{Run, lines}
 
--- its code:
+-- the run's code:
 -- 00010000 beq x0,x0,+8
 -- 00010004 addi x0,x0,0
 -- 00010008 auipc x6,0x0

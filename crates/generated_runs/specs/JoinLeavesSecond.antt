@@ -2,7 +2,7 @@
 use Rattle.std.specs.Prelude.{[], ◌∷◌}
 use Rattle.generated_runs.specs.Agreement.{Run, lines}
 
--- its code:
+-- the run's code:
 -- 00010000 lw x5,0(x2)
 -- 00010004 add x6,x5,x2
 -- 00010008 lw x5,-32(x6)

@@ -2,7 +2,7 @@
 use Rattle.std.specs.Prelude.{[], ◌∷◌}
 use Rattle.generated_runs.specs.Agreement.{Run, lines}
 
--- its code:
+-- the run's code:
 -- 00010000 jal x1,+4
 -- 00010004 bne x0,x0,+8
 -- 00010008 auipc x5,0x0

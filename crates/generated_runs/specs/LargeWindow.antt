@@ -2,7 +2,7 @@
 use Rattle.std.specs.Prelude.{[], ◌∷◌}
 use Rattle.generated_runs.specs.Agreement.{Run, lines}
 
--- its code:
+-- the run's code:
 -- 00010000 rem x5,x2,x0
 -- 00010004 rem x5,x5,x0
 -- 00010008 rem x5,x5,x0

@@ -2,7 +2,7 @@
 use Rattle.std.specs.Prelude.{[], ◌∷◌}
 use Rattle.generated_runs.specs.Agreement.{Run, lines}
 
--- its code:
+-- the run's code:
 -- 00010000 lw x5,0(x2)
 -- 00010004 auipc x7,0x0
 -- 00010008 jalr x5,8(x7)

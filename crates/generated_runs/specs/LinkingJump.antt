@@ -2,7 +2,7 @@
 use Rattle.std.specs.Prelude.{[], ◌∷◌}
 use Rattle.generated_runs.specs.Agreement.{Run, lines}
 
--- its code:
+-- the run's code:
 -- 00010000 auipc x5,0x0
 -- 00010004 jalr x1,16(x5)
 -- 00010008 addi x17,x0,93

@@ -2,7 +2,7 @@
 use Rattle.std.specs.Prelude.{[], ◌∷◌}
 use Rattle.generated_runs.specs.Agreement.{Run, lines}
 
--- its code:
+-- the run's code:
 -- 00010000 addi x8,x2,-128
 -- 00010004 addi x15,x0,4
 -- 00010008 div x7,x5,x11

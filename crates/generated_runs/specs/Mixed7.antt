@@ -2,7 +2,7 @@
 use Rattle.std.specs.Prelude.{[], ◌∷◌}
 use Rattle.generated_runs.specs.Agreement.{Run, lines}
 
--- its code:
+-- the run's code:
 -- 00010000 addi x8,x2,-128
 -- 00010004 sub x5,x9,x12
 -- 00010008 bne x11,x10,+16

@@ -2,7 +2,7 @@
 use Rattle.std.specs.Prelude.{[], ◌∷◌}
 use Rattle.generated_runs.specs.Agreement.{Run, lines}
 
--- its code:
+-- the run's code:
 -- 00010000 addi x8,x2,-16
 -- 00010004 addi x9,x0,3
 -- 00010008 mul x6,x7,x9

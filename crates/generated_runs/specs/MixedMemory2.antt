@@ -2,7 +2,7 @@
 use Rattle.std.specs.Prelude.{[], ◌∷◌}
 use Rattle.generated_runs.specs.Agreement.{Run, lines}
 
--- its code:
+-- the run's code:
 -- 00010000 addi x8,x2,-7
 -- 00010004 addi x9,x0,3
 -- 00010008 lw x6,-30(x8)

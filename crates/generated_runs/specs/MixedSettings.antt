@@ -2,7 +2,7 @@
 use Rattle.std.specs.Prelude.{[], ◌∷◌}
 use Rattle.generated_runs.specs.Agreement.{Run, lines}
 
--- its code:
+-- the run's code:
 -- 0001001c addi x7,x0,-1475
 -- 00010020 addi x8,x0,-1273
 -- 00010024 addi x11,x0,-239

@@ -2,7 +2,7 @@
 use Rattle.std.specs.Prelude.{[], ◌∷◌}
 use Rattle.generated_runs.specs.Agreement.{Run, lines}
 
--- its code:
+-- the run's code:
 -- fffff000 lw x5,0(x2)
 -- fffff004 addi x17,x0,93
 -- fffff008 ecall

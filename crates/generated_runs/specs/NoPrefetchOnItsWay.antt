@@ -2,7 +2,7 @@
 use Rattle.std.specs.Prelude.{[], ◌∷◌}
 use Rattle.generated_runs.specs.Agreement.{Run, lines}
 
--- its code:
+-- the run's code:
 -- 00010000 lw x5,-16(x2)
 -- 00010004 lw x6,-32(x2)
 -- 00010008 addi x17,x0,93

@@ -2,7 +2,7 @@
 use Rattle.std.specs.Prelude.{[], ◌∷◌}
 use Rattle.generated_runs.specs.Agreement.{Run, lines}
 
--- its code:
+-- the run's code:
 -- 00010000 div x9,x2,x2
 -- 00010004 beq x9,x0,+8
 -- 00010008 div x8,x0,x2

@@ -2,7 +2,7 @@
 use Rattle.std.specs.Prelude.{[], ◌∷◌}
 use Rattle.generated_runs.specs.Agreement.{Run, lines}
 
--- its code:
+-- the run's code:
 -- 00010000 sb x7,-16(x2)
 -- 00010004 sw x2,4(x2)
 -- 00010008 lh x7,8(x2)

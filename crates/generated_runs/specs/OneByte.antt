@@ -2,7 +2,7 @@
 use Rattle.std.specs.Prelude.{[], ◌∷◌}
 use Rattle.generated_runs.specs.Agreement.{Run, lines}
 
--- its code:
+-- the run's code:
 -- 00010000 div x5,x2,x2
 -- 00010004 sb x5,3(x2)
 -- 00010008 lw x10,0(x2)

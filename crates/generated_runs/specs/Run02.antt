@@ -2,7 +2,7 @@
 use Rattle.std.specs.Prelude.{[], ◌∷◌}
 use Rattle.generated_runs.specs.Agreement.{Run, lines}
 
--- its code:
+-- the run's code:
 -- 0000001c addi x7,x0,-139
 -- 00000020 addi x10,x0,151
 -- 00000024 auipc x1,0x0

@@ -2,7 +2,7 @@
 use Rattle.std.specs.Prelude.{[], ◌∷◌}
 use Rattle.generated_runs.specs.Agreement.{Run, lines}
 
--- its code:
+-- the run's code:
 -- 00010010 addi x5,x2,1869
 -- 00010014 addi x16,x0,424
 -- 00010018 addi x11,x0,161

@@ -2,7 +2,7 @@
 use Rattle.std.specs.Prelude.{[], ◌∷◌}
 use Rattle.generated_runs.specs.Agreement.{Run, lines}
 
--- its code:
+-- the run's code:
 -- 00004c84 addi x5,x2,1783
 -- 00004c88 addi x8,x0,-52
 -- 00004c8c addi x10,x0,1422

@@ -2,7 +2,7 @@
 use Rattle.std.specs.Prelude.{[], ◌∷◌}
 use Rattle.generated_runs.specs.Agreement.{Run, lines}
 
--- its code:
+-- the run's code:
 -- 00005f08 addi x6,x0,-8
 -- 00005f0c addi x7,x0,380
 -- 00005f10 addi x8,x0,1090

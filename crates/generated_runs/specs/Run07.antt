@@ -2,7 +2,7 @@
 use Rattle.std.specs.Prelude.{[], ◌∷◌}
 use Rattle.generated_runs.specs.Agreement.{Run, lines}
 
--- its code:
+-- the run's code:
 -- 0001001c addi x5,x0,1192
 -- 00010020 addi x6,x0,1505
 -- 00010024 addi x10,x0,-1461

@@ -2,7 +2,7 @@
 use Rattle.std.specs.Prelude.{[], ◌∷◌}
 use Rattle.generated_runs.specs.Agreement.{Run, lines}
 
--- its code:
+-- the run's code:
 -- 0001000c addi x6,x2,-1952
 -- 00010010 addi x16,x0,1199
 -- 00010014 auipc x1,0x0

@@ -2,7 +2,7 @@
 use Rattle.std.specs.Prelude.{[], ◌∷◌}
 use Rattle.generated_runs.specs.Agreement.{Run, lines}
 
--- its code:
+-- the run's code:
 -- 00010004 addi x6,x0,479
 -- 00010008 addi x7,x0,45
 -- 0001000c auipc x1,0x0

@@ -2,7 +2,7 @@
 use Rattle.std.specs.Prelude.{[], ◌∷◌}
 use Rattle.generated_runs.specs.Agreement.{Run, lines}
 
--- its code:
+-- the run's code:
 -- 00010018 addi x5,x0,-754
 -- 0001001c addi x6,x2,-300
 -- 00010020 addi x16,x2,-159

@@ -2,7 +2,7 @@
 use Rattle.std.specs.Prelude.{[], ◌∷◌}
 use Rattle.generated_runs.specs.Agreement.{Run, lines}
 
--- its code:
+-- the run's code:
 -- 00010010 addi x7,x2,-1701
 -- 00010014 addi x10,x2,-1459
 -- 00010018 auipc x1,0x0

@@ -2,7 +2,7 @@
 use Rattle.std.specs.Prelude.{[], ◌∷◌}
 use Rattle.generated_runs.specs.Agreement.{Run, lines}
 
--- its code:
+-- the run's code:
 -- 00000e84 addi x5,x0,-662
 -- 00000e88 auipc x1,0x0
 -- 00000e8c addi x1,x1,72

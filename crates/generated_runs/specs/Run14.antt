@@ -2,7 +2,7 @@
 use Rattle.std.specs.Prelude.{[], ◌∷◌}
 use Rattle.generated_runs.specs.Agreement.{Run, lines}
 
--- its code:
+-- the run's code:
 -- 00010f90 addi x6,x2,-1388
 -- 00010f94 addi x16,x0,-568
 -- 00010f98 auipc x1,0x0

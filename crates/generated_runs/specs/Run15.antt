@@ -2,7 +2,7 @@
 use Rattle.std.specs.Prelude.{[], ◌∷◌}
 use Rattle.generated_runs.specs.Agreement.{Run, lines}
 
--- its code:
+-- the run's code:
 -- 00010010 addi x11,x0,-1082
 -- 00010014 auipc x1,0x0
 -- 00010018 addi x1,x1,52

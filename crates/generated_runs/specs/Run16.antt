@@ -2,7 +2,7 @@
 use Rattle.std.specs.Prelude.{[], ◌∷◌}
 use Rattle.generated_runs.specs.Agreement.{Run, lines}
 
--- its code:
+-- the run's code:
 -- 00000010 addi x8,x2,1206
 -- 00000014 auipc x1,0x0
 -- 00000018 addi x1,x1,76

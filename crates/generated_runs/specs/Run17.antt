@@ -2,7 +2,7 @@
 use Rattle.std.specs.Prelude.{[], ◌∷◌}
 use Rattle.generated_runs.specs.Agreement.{Run, lines}
 
--- its code:
+-- the run's code:
 -- 00010018 addi x5,x0,1623
 -- 0001001c addi x8,x2,2015
 -- 00010020 addi x11,x2,291

@@ -2,7 +2,7 @@
 use Rattle.std.specs.Prelude.{[], ◌∷◌}
 use Rattle.generated_runs.specs.Agreement.{Run, lines}
 
--- its code:
+-- the run's code:
 -- 00010008 addi x7,x2,44
 -- 0001000c addi x8,x0,339
 -- 00010010 addi x10,x2,-705

@@ -2,7 +2,7 @@
 use Rattle.std.specs.Prelude.{[], ◌∷◌}
 use Rattle.generated_runs.specs.Agreement.{Run, lines}
 
--- its code:
+-- the run's code:
 -- 00010014 addi x6,x0,1602
 -- 00010018 addi x8,x0,-2037
 -- 0001001c addi x16,x2,388

@@ -2,7 +2,7 @@
 use Rattle.std.specs.Prelude.{[], ◌∷◌}
 use Rattle.generated_runs.specs.Agreement.{Run, lines}
 
--- its code:
+-- the run's code:
 -- 00010e8c addi x5,x0,769
 -- 00010e90 addi x6,x0,-1886
 -- 00010e94 addi x7,x2,-855

@@ -2,7 +2,7 @@
 use Rattle.std.specs.Prelude.{[], ◌∷◌}
 use Rattle.generated_runs.specs.Agreement.{Run, lines}
 
--- its code:
+-- the run's code:
 -- 00010d2c addi x16,x0,-1691
 -- 00010d30 auipc x1,0x0
 -- 00010d34 addi x1,x1,56

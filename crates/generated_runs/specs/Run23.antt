@@ -2,7 +2,7 @@
 use Rattle.std.specs.Prelude.{[], ◌∷◌}
 use Rattle.generated_runs.specs.Agreement.{Run, lines}
 
--- its code:
+-- the run's code:
 -- fffff004 auipc x1,0x0
 -- fffff008 addi x1,x1,44
 -- fffff00c slti x7,x10,-1462

@@ -2,7 +2,7 @@
 use Rattle.std.specs.Prelude.{[], ◌∷◌}
 use Rattle.generated_runs.specs.Agreement.{Run, lines}
 
--- its code:
+-- the run's code:
 -- fffff010 addi x8,x0,521
 -- fffff014 addi x10,x2,929
 -- fffff018 addi x11,x0,-703

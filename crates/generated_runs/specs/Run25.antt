@@ -2,7 +2,7 @@
 use Rattle.std.specs.Prelude.{[], ◌∷◌}
 use Rattle.generated_runs.specs.Agreement.{Run, lines}
 
--- its code:
+-- the run's code:
 -- 0000001c addi x8,x2,-1349
 -- 00000020 auipc x1,0x0
 -- 00000024 addi x1,x1,40

@@ -2,7 +2,7 @@
 use Rattle.std.specs.Prelude.{[], ◌∷◌}
 use Rattle.generated_runs.specs.Agreement.{Run, lines}
 
--- its code:
+-- the run's code:
 -- 00010018 addi x11,x2,995
 -- 0001001c auipc x1,0x0
 -- 00010020 addi x1,x1,24

@@ -2,7 +2,7 @@
 use Rattle.std.specs.Prelude.{[], ◌∷◌}
 use Rattle.generated_runs.specs.Agreement.{Run, lines}
 
--- its code:
+-- the run's code:
 -- 00010e10 addi x6,x0,1691
 -- 00010e14 addi x11,x0,1219
 -- 00010e18 auipc x1,0x0

@@ -2,7 +2,7 @@
 use Rattle.std.specs.Prelude.{[], ◌∷◌}
 use Rattle.generated_runs.specs.Agreement.{Run, lines}
 
--- its code:
+-- the run's code:
 -- 0001000c addi x8,x0,-1066
 -- 00010010 addi x10,x0,-1948
 -- 00010014 auipc x1,0x0

@@ -2,7 +2,7 @@
 use Rattle.std.specs.Prelude.{[], ◌∷◌}
 use Rattle.generated_runs.specs.Agreement.{Run, lines}
 
--- its code:
+-- the run's code:
 -- 00000004 addi x7,x2,-1596
 -- 00000008 addi x16,x0,-1810
 -- 0000000c auipc x1,0x0

@@ -2,7 +2,7 @@
 use Rattle.std.specs.Prelude.{[], ◌∷◌}
 use Rattle.generated_runs.specs.Agreement.{Run, lines}
 
--- its code:
+-- the run's code:
 -- 00010000 addi x7,x0,-798
 -- 00010004 addi x10,x2,-160
 -- 00010008 auipc x1,0x0

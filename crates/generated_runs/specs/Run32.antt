@@ -2,7 +2,7 @@
 use Rattle.std.specs.Prelude.{[], ◌∷◌}
 use Rattle.generated_runs.specs.Agreement.{Run, lines}
 
--- its code:
+-- the run's code:
 -- fffff01c addi x8,x0,647
 -- fffff020 addi x10,x2,2001
 -- fffff024 auipc x1,0x0

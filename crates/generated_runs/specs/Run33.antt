@@ -2,7 +2,7 @@
 use Rattle.std.specs.Prelude.{[], ◌∷◌}
 use Rattle.generated_runs.specs.Agreement.{Run, lines}
 
--- its code:
+-- the run's code:
 -- 00013778 addi x7,x0,-272
 -- 0001377c addi x11,x0,1454
 -- 00013780 auipc x1,0x0

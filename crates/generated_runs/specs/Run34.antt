@@ -2,7 +2,7 @@
 use Rattle.std.specs.Prelude.{[], ◌∷◌}
 use Rattle.generated_runs.specs.Agreement.{Run, lines}
 
--- its code:
+-- the run's code:
 -- 0000000c addi x6,x0,-1849
 -- 00000010 addi x10,x0,1381
 -- 00000014 auipc x1,0x0

@@ -2,7 +2,7 @@
 use Rattle.std.specs.Prelude.{[], ◌∷◌}
 use Rattle.generated_runs.specs.Agreement.{Run, lines}
 
--- its code:
+-- the run's code:
 -- 00010000 addi x7,x2,306
 -- 00010004 addi x8,x0,-506
 -- 00010008 addi x16,x2,1671

@@ -2,7 +2,7 @@
 use Rattle.std.specs.Prelude.{[], ◌∷◌}
 use Rattle.generated_runs.specs.Agreement.{Run, lines}
 
--- its code:
+-- the run's code:
 -- 00010e5c addi x5,x0,1275
 -- 00010e60 addi x16,x2,-265
 -- 00010e64 addi x10,x0,915

@@ -2,7 +2,7 @@
 use Rattle.std.specs.Prelude.{[], ◌∷◌}
 use Rattle.generated_runs.specs.Agreement.{Run, lines}
 
--- its code:
+-- the run's code:
 -- 00008df4 addi x10,x2,-1193
 -- 00008df8 auipc x1,0x0
 -- 00008dfc addi x1,x1,56

@@ -2,7 +2,7 @@
 use Rattle.std.specs.Prelude.{[], ◌∷◌}
 use Rattle.generated_runs.specs.Agreement.{Run, lines}
 
--- its code:
+-- the run's code:
 -- 00000018 addi x7,x0,1746
 -- 0000001c addi x8,x0,3
 -- 00000020 addi x16,x0,1608

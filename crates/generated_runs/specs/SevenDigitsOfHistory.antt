@@ -2,7 +2,7 @@
 use Rattle.std.specs.Prelude.{[], ◌∷◌}
 use Rattle.generated_runs.specs.Agreement.{Run, lines}
 
--- its code:
+-- the run's code:
 -- 00010000 addi x5,x0,9
 -- 00010004 addi x5,x5,-1
 -- 00010008 bne x5,x0,-4

@@ -2,7 +2,7 @@
 use Rattle.std.specs.Prelude.{[], ◌∷◌}
 use Rattle.generated_runs.specs.Agreement.{Run, lines}
 
--- its code:
+-- the run's code:
 -- 00010000 add x6,x5,x2
 -- 00010004 lw x5,0(x6)
 -- 00010008 add x6,x5,x2

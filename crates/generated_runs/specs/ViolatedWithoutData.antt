@@ -2,7 +2,7 @@
 use Rattle.std.specs.Prelude.{[], ◌∷◌}
 use Rattle.generated_runs.specs.Agreement.{Run, lines}
 
--- its code:
+-- the run's code:
 -- 00010000 auipc x6,0x0
 -- 00010004 lw x7,6(x6)
 -- 00010008 add x9,x8,x2

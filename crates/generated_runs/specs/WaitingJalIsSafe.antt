@@ -2,7 +2,7 @@
 use Rattle.std.specs.Prelude.{[], ◌∷◌}
 use Rattle.generated_runs.specs.Agreement.{Run, lines}
 
--- its code:
+-- the run's code:
 -- 00010000 div x9,x2,x2
 -- 00010004 sw x2,0(x2)
 -- 00010008 addi x6,x0,1

@@ -2,7 +2,7 @@
 use Rattle.std.specs.Prelude.{[], ◌∷◌}
 use Rattle.generated_runs.specs.Agreement.{Run, lines}
 
--- its code:
+-- the run's code:
 -- 00010000 lb x7,-64(x2)
 -- 00010004 sw x7,-32(x8)
 -- 00010008 lw x6,-16(x8)

@@ -2,7 +2,7 @@
 use Rattle.std.specs.Prelude.{[], ◌∷◌}
 use Rattle.generated_runs.specs.Agreement.{Run, lines}
 
--- its code:
+-- the run's code:
 -- 00010000 auipc x6,0x0
 -- 00010004 lbu x8,0(x6)
 -- 00010008 sh x6,0(x2)

@@ -46,7 +46,7 @@ run_traps code s s' p c n e =
     let P : Hart → Type 0 = λ h. isa code s (suc n) ≡ stopped h 0 (Some (EndTrap c h.pc)) in
     subst P (sym t.1) (ap (λ x. after s x (run (isa_step code) n)) t.0)
 
--- ---- The same in a loop of n steps, behind i of them
+-- ---- What a step leads to in a loop of n steps, behind i of them
 
 left : (n i : ℕ) → i < n → n - i ≡ suc (n - (i + 1))
 left n i h = omega arith
@@ -67,7 +67,7 @@ traps_at code s s' p c n i h e = ap (isa code s) (left n i h) ∙ run_traps code
 pub ends_at : (code : Code) (s : Hart) (n i : ℕ) → n ≤ i → isa code s (n - i) ≡ stopped s 0 None
 ends_at code s n i h = let e : n - i ≡ 0 = omega arith in ap (isa code s) e
 
--- ---- The rest of a run, behind so many steps of the whole
+-- ---- What is left of a run, behind so many steps of the whole
 
 pub record Rest (whole rest : Run) (done : ℕ) : Type 0 where
   pub last : rest.last ≡ whole.last

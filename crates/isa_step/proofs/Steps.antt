@@ -22,7 +22,7 @@ pub nothing_there : (word : Option ℕ) (s : Hart) → None ≡ option_map decod
 nothing_there None s e = refl
 nothing_there (Some w) s e = absurd (cc)
 
--- ---- The same of a step that passes faults over
+-- ---- A step that passes faults over
 
 pub plain_there : (word : Option ℕ) (i : Instr) (s : Hart) → Some i ≡ option_map decode word → step_of s i ≡ step_at word s
 plain_there None i s e = absurd (cc)

@@ -54,7 +54,7 @@ pub all_stay : (d : Desc) (now : Around) (p : InFlight) → p.version ≡ d.vers
 all_stay d now p v s moved parts together none = along_by (AsksNone d now) [] p.window (λ i e h.
     none_by d now (before_at p.window i) e (is_waiting e.state) (step_at d p.window i e parts together h) refl (λ w. subst (λ v. has_sources (wants_of v e) d (before_at p.window i) e ≡ false) v (answer_at p.held (station_of i p.window) (has_sources (wants_of p.version e) d (before_at p.window i) e) none (tells_able d p i e s moved h w))))
 
--- ---- and nothing is left otherwise
+-- ---- Where none of these may issue, nothing changes
 
 module _ (d : Desc) (now : Around) where
   each_waits : (before es : List Entry) → Along (AsksNone d now) before es → each_from (issue_entry d now) before es ≡ map waits es

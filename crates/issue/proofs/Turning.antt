@@ -76,7 +76,7 @@ turn_none d now before e n = by_store (is_store e.item.kind) refl
     by_store false s = turn_is false d now before e s (grants_none d now (port_for e.item.kind) before e n)
     by_store true s = store_turn false false d now before e s (grants_none d now AddressPort before e n) (grants_none d now DataPort before e n)
 
--- ---- it waits on, or it goes on with an event
+-- ---- An entry waits on, or it goes on with an event
 
 -- the entry waited, and goes on in this turn with an event
 pub record Acts (e : Entry) (b : Begun) : Type 0 where
@@ -110,7 +110,7 @@ some_events now e due o v more s w = inr (record {
   tracks = record {
     cleared = refl;
     unread = λ l h. absurd (unread_not (is_load e.item.kind) l h);
-    size = λ h. size_is (op_of e.item.instr);
+    size = size_is (op_of e.item.instr);
   };
 })
 
@@ -135,10 +135,10 @@ begin_turns _ d now before e s w = one_event now e _ _ _ s w
 -- what is tracked of a store stays
 parts_track : (a c : Bool) (d : Desc) (now : Around) (before : List Entry) (e : Entry) →
     TracksOn (width_for (byte_count e)) e (parts_as a c d now before e).entry
-parts_track true true d now before e = record { cleared = refl; unread = λ l h. refl; size = λ h. size_is (op_of e.item.instr) }
-parts_track true false d now before e = record { cleared = refl; unread = λ l h. refl; size = λ h. size_is (op_of e.item.instr) }
-parts_track false true d now before e = record { cleared = refl; unread = λ l h. refl; size = λ h. size_is (op_of e.item.instr) }
-parts_track false false d now before e = record { cleared = refl; unread = λ l h. refl; size = λ h. size_is (op_of e.item.instr) }
+parts_track true true d now before e = record { cleared = refl; unread = λ l h. refl; size = size_is (op_of e.item.instr) }
+parts_track true false d now before e = record { cleared = refl; unread = λ l h. refl; size = size_is (op_of e.item.instr) }
+parts_track false true d now before e = record { cleared = refl; unread = λ l h. refl; size = size_is (op_of e.item.instr) }
+parts_track false false d now before e = record { cleared = refl; unread = λ l h. refl; size = size_is (op_of e.item.instr) }
 
 parts_turns : (a c : Bool) (d : Desc) (now : Around) (before : List Entry) (e : Entry) → ((a || c) ≡ true → is_waiting e.state ≡ true) → (a ≡ false → c ≡ true → (d.version == 1) ≡ false) → Turns e (parts_as a c d now before e)
 parts_turns false false d now before e w v = inl refl

@@ -129,7 +129,7 @@ module _ (v : ℕ) (known : IsKnown v) (document : Members) (m : SttModel) (t : 
         defence_known = defence_known v known document t q;
       }
 
-  -- it has at each key what the document sets the key to
+  -- the description has at each key what the document sets the key to
   each_made : (key : Key) → setting v document key ≡ Ok (setting_of made key)
   unfolding made
   each_made CoreFetchWidth = (at CoreFetchWidth refl).set

@@ -72,7 +72,7 @@ not_yet : (cycle : ℕ) (e : Entry) → NotYet cycle e → has_issued cycle e �
 not_yet cycle e h = ap₂ (λ a b. a || b) h.0 h.1
 
 module _ (d : Desc) (now : Around) (before : List Entry) (e : Entry) (fresh : NotYet now.cycle e) where
-  -- these events tell of the entry alone, and do where it has issued as Issue leaves it
+  -- the events of a begun entry tell of it alone, and do where it has issued as Issue leaves it
   record Tells (b : Begun) : Type 0 where
     owns : Each (Owns e.serial) b.events
     told : has_issued now.cycle b.entry ≡ true → TellsOf b.events (length b.events) e.serial

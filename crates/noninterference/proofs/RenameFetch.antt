@@ -16,7 +16,7 @@ use Rattle.window_model.specs.Fetch.{fetch, fetch_up_to, fetch_from, fetch_one, 
 use Rattle.noninterference.specs.Alike.{without_outcome, shown, shown_after}
 use Rattle.noninterference.specs.Laws.{RenameTellsNothing, FetchTellsNothing}
 
--- the rest of a phase does to what shows what it does to the whole
+-- what is left of a phase does to what shows what it does to the whole
 abbrev pub Commutes : (Machine → After) → Type 0
 Commutes more = (x : Machine) → shown_after (more x) ≡ more (shown x)
 

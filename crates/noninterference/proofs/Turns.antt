@@ -46,7 +46,7 @@ module _ (now : ℕ) (d : Desc) (code : Code) (total : ℕ) where
     in_step = h.in_step;
   }
 
-  -- the rest of Retire leaves both runs alike, on machines that are alike, consistent and in step
+  -- what is left of Retire leaves both runs alike, on machines that are alike, consistent and in step
   abbrev pub Follows : (Machine → Retired) → Type 0
   Follows more = (y y2 : Machine) → y.end ≡ None → ConsistentIn now d code y → ConsistentIn now d code y2 → y.retired + length y.window ≤ total → Alike y y2 → InStepUpTo d.stt_model code total y y2 → R (more y) (more y2)
 

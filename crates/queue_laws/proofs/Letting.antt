@@ -130,7 +130,7 @@ window_lets model passes bytes (e ∷ before) u =
     let_one passes bytes (is_store e.item.kind) (address_tainted model before e) (lets model passes bytes before e) (stores_let model passes bytes before) (tainted_stores model before) e f
     (λ s. entry_lets model passes bytes before e s (us.0 s)) (window_lets model passes bytes before us.1)
 
--- ---- they are all known
+-- ---- All older stores are known
 
 both_known : (ss : List Store) → list_all is_known ss ≡ list_all (λ (s : Shown). is_some s.span && is_some s.stored) (map shown_store ss)
 both_known [] = refl

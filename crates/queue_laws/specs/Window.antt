@@ -67,7 +67,7 @@ serials_of loads = map (λ l. l.serial) loads
 abbrev pub loads_in : List Entry → List ℕ
 loads_in es = map (λ e. e.serial) (filter (λ e. is_load e.item.kind) es)
 
--- these stores are those of the entries: of each is known exactly what its parts that have issued tell. Of their roots
+-- the stores are those of the entries: of each is known exactly what its parts that have issued tell. Of their roots
 -- it says nothing
 abbrev pub StoresStandFor : List Store → List Entry → Type 0
 StoresStandFor stores es = map shown_store stores ≡ stores_in es

@@ -138,7 +138,7 @@ module _ (d : Desc) (code : Code) where
       let t = both_empty (before_retire d y).events r.events s.0 in
       silent_by y t.0 t.1 s.1 k
 
-  -- ---- and on to later cycles
+  -- ---- On to later cycles
 
   pub silent_later : (n c : ℕ) (x : Machine) → NothingDueBefore n x → x.cycle < c → c < n → Silent d code x → Silent d code (at_cycle c x)
   silent_later n c x due l m s = record {

@@ -83,7 +83,7 @@ next_over s first (x ∷ es) (suc i) e r h lt =
     let t : nat_lt x.serial first ≡ true = grind (arith, nat_tests) in
     subst (λ b. e.serial + 1 ≤ next_after s (cond b (x ∷ below first es) (below first es))) (sym t) (next_over (x.serial + 1) first es i e (rise_tail x es r) h lt)
 
--- ---- it moves, and entries come and go
+-- ---- the point moves, and entries come and go
 
 -- the point only moves on
 pub point_moves_on : (point : Point) (next : ℕ) (window : List Entry) → PointStands point next window → Rise window → point.serial ≤ (moved_over window point).serial

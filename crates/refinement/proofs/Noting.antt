@@ -245,7 +245,7 @@ refines_issued p i e e2 w s h waits issued on_so tracks_so =
             loads = ap (map (load_in t)) (loads_of_read reads w e2 noted)
                 ∙ loads_issued p.tracked (is_load e2.item.kind) (is_some e2.issued) t p.queues.loads ks i k k2 w e e2 refl refl (loads_numbered t [] p.window) rises at refl on.serial
                 (ap (λ (i : Item). if is_load i.kind then Some (load_footprint t e) else None) (sym on.item)) refl
-                (λ tr l r. (tracks_so tr).unread (ap (λ (i : Item). is_load i.kind) (sym on.item) ∙ l) (ap₂ (λ a b. a && b) l r)) (λ tr r. (tracks_so tr).size r) s.columns.loads;
+                (λ tr l r. (tracks_so tr).unread (ap (λ (i : Item). is_load i.kind) (sym on.item) ∙ l) (ap₂ (λ a b. a && b) l r)) (λ tr r. (tracks_so tr).size) s.columns.loads;
             stores = ap (map (store_in t f)) (stores_of_read reads w e2 noted)
                 ∙ stores_issued (is_store e2.item.kind) t f p.queues.stores ks i k k2 (base_root (source_roots b e)) w e e2 (stores_numbered t [] p.window) rises at refl on.serial
                 (ap (λ (i : Item). if is_store i.kind then Some (store_footprint t (base_root (source_roots b e)) e) else None) (sym on.item))

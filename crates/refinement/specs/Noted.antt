@@ -60,4 +60,4 @@ pub record PartsGoOn (w : Width) (e e2 : Entry) : Type 0 where
 pub record TracksOn (w : Width) (e e2 : Entry) : Type 0 where
   pub cleared : e2.cleared ≡ e.cleared
   pub unread : is_load e.item.kind ≡ true → has_read e2 ≡ false → e2.issued ≡ e.issued
-  pub size : has_read e2 ≡ true → bytes_in w ≡ byte_count e2
+  pub size : bytes_in w ≡ byte_count e2

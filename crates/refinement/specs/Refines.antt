@@ -1,6 +1,6 @@
--- When the parts of a core refine the window (docs/architecture.md, "How they stand for it"). `footprint_of` is the
--- abstraction function: what an entry, with the older ones, leaves in the parts. `Refines` is the relation: what each
--- part holds is one column of the entries' footprints. Each step owes the footprints that it changes; the other
+-- When the parts of a core refine the window (docs/architecture.md, "How the parts refine the window"). `footprint_of`
+-- is the abstraction function: what an entry, with the older ones, leaves in the parts. `Refines` is the relation: what
+-- each part holds is one column of the entries' footprints. Each step owes the footprints that it changes; the other
 -- footprints, and the columns that it doesn't touch, are its frame (`frame_at` and `frame_all` of proofs/Columns.antt).
 use Rattle.std.specs.Prelude.{◌≡◌, ℕ, ◌<◌, List, map, Some}
 use Rattle.std.specs.List.{All}

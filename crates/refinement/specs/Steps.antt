@@ -1,5 +1,5 @@
 -- What becomes of the parts in each step of a cycle, and that they go on to refine the window (docs/architecture.md,
--- "How they stand for it").
+-- "How the parts refine the window").
 use Rattle.std.specs.Prelude.{◌≡◌, ℕ, ◌+◌, ◌<◌, nat_lt, true, false, List, [], ◌∷◌, ◌++◌, length, map, reverse, take, drop, slice_get, slice_set, Option, Some, None}
 use Rattle.std.specs.List.{filter}
 use Rattle.std.specs.Option.{option_to_list}

@@ -1,5 +1,5 @@
 -- The writers of an entry's sources, by their serials, as they were when the entry was renamed: so a source's value is
--- found without a search (docs/architecture.md, "How they stand for it").
+-- found without a search (docs/architecture.md, "How the parts refine the window").
 use Rattle.std.specs.Prelude.{ℕ, ◌==◌, List, length, map, slice_get, Option, Some, None, if◌then◌else◌}
 use Rattle.std.specs.Option.{option_map}
 use Rattle.rv_types.specs.Regs.{two}
