@@ -24,7 +24,7 @@ pub fn clear<R: RenameTaint>(parts: &mut Parts<R>, row: &mut Row)
     ensures row { row.new ≡ with_events row.old (clear parts.old.desc parts.old.machine).events }
     ensures few { IsLonger most_cleared row.old row.new }
 {
-    if parts.desc.predictor_depend == 0 {
+    if !parts.desc.loads_pass() {
         return;
     }
     let Some(serial) = next_cleared(parts) else {

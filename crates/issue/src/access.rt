@@ -87,7 +87,7 @@ impl<'a> Seen<'a> {
         ensures within { IsTrue result → line_behind self.now.desc.now (as_lines lines.now) < 2 ^ 32 }
     {
         let taken = lines.registers();
-        self.desc.cache_prefetch == 1
+        self.desc.has_prefetch()
             && taken > 0
             && lines.behind(self.desc) < self.memory_end
             && taken < self.mshrs.free()

@@ -36,7 +36,7 @@ impl<'a> Seen<'a> {
         if self.lsq.all_older_known(place.entry.serial) {
             return true;
         }
-        if self.desc.version == 1 {
+        if self.desc.stores_in_one() {
             return false;
         }
         self.is_let(self.passes(place), &self.pending(place, made.addr))
@@ -47,7 +47,7 @@ impl<'a> Seen<'a> {
         requires turn { HasTurn self.now place.now }
         ensures { result ≡ passes_here self.now place.now }
     {
-        self.desc.predictor_depend > 0 && !self.dependence.waits(place.entry.item.pc)
+        self.desc.loads_pass() && !self.dependence.waits(place.entry.item.pc)
     }
 
     // Whether a load is let go that passes stores or not, and waits for this.

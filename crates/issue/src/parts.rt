@@ -155,7 +155,7 @@ impl<'a> Seen<'a> {
             (with_data (around_of self.now) (seen made.now) (with_issued issued.old entry.now)) }
         ensures row { row.new ≡ with_events row.old (data_events self.now.desc.now entry.now) }
     {
-        if self.desc.version != 1 {
+        if !self.desc.stores_in_one() {
             row.push(Event::Std(entry.serial));
         }
         let mut outcome = so_far(&issued.outcome, made.next);

@@ -92,7 +92,7 @@ fn note_store(lsq: &mut Lsq, entry: &Entry)
 fn note_load(lsq: &mut Lsq, desc: &Desc, entry: &Entry)
     ensures { lsq.new ≡ noted_load (loads_pass desc.now) (width_for (byte_count entry.now)) entry.now lsq.old }
 {
-    if desc.predictor_depend == 0 || !entry.is_load() {
+    if !desc.loads_pass() || !entry.is_load() {
         return;
     }
     if let Some(cycle) = entry.issued {

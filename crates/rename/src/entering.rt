@@ -34,7 +34,7 @@ fn needs_clearing(kind: Kind, desc: &Desc) -> bool
     ensures { result ≡ needs_clearing desc.now kind }
 {
     match kind {
-        Kind::Store => desc.predictor_depend > 0,
+        Kind::Store => desc.loads_pass(),
         _ => false,
     }
 }

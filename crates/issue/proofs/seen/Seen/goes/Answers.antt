@@ -15,10 +15,10 @@ returns-then-all_older_known c =
     let t = c.requires.turn in
     sym (goes_known c.args.self.now _ _ t.stands t.at (sym c.all_older_known.ensures ∙ c.if-all_older_known.true))
 
-pub returns-then-self-eq1 : goal.returns-then-self-eq1
-returns-then-self-eq1 c =
+pub returns-then-stores_in_one : goal.returns-then-stores_in_one
+returns-then-stores_in_one c =
     let t = c.requires.turn in
-    sym (goes_not c.args.self.now _ _ t.stands t.at (ap (λ v. v == 1) c.if-self-eq1.true) (sym c.all_older_known.ensures ∙ c.if-all_older_known.false))
+    sym (goes_not c.args.self.now _ _ t.stands t.at (sym c.stores_in_one.ensures ∙ c.if-stores_in_one.true) (sym c.all_older_known.ensures ∙ c.if-all_older_known.false))
 
 pub pending-requires : goal.pending-requires
 pending-requires c = record { address = ap (λ (f : Effect). f.addr) c.requires.effect ∙ address_is c.args.self.now.regs.now (before_of c.args.self.now c.args.place.now) c.args.place.now.entry.now }
