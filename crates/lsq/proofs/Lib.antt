@@ -4,3 +4,4 @@ pub mod Awaiting
 mod Wrong
 mod Absent
 mod Rising
+pub mod Far

@@ -1,15 +1,20 @@
 -- What one walk over the stores gathers for a load, and what it then comes to.
-use Rattle.std.specs.Prelude.{ℕ, ◌+◌, Bool, ◌&&◌, List, [], ◌∷◌, None, is_some}
+use Rattle.std.specs.Prelude.{ℕ, ◌+◌, Bool, ◌&&◌, nat_lt, List, [], ◌∷◌, None, is_some}
 use Rattle.std.specs.Option.{option_or}
 use Rattle.rv_types.specs.Word.{from_le}
 use Rattle.rv_types.specs.Memory.{Ram}
 use Rattle.rv_types.specs.declared.Width.{Width}
 use Rattle.rv_types.specs.declared.Width.TheVariants.{B, H, W}
 use Rattle.rename_taint.specs.Writes.{later}
+use Rattle.lsq.specs.declared.store.Span.{Span}
 use Rattle.lsq.specs.declared.store.Store.{Store}
 use Rattle.lsq.specs.declared.merging.Gathered.{Gathered}
 use Rattle.lsq.specs.Queues.{youngest_root}
 use Rattle.lsq.specs.Merging.{byte_by, byte_or_memory, forwarded}
+
+-- what a store writes may reach one of the four bytes from an address on: it begins less than four bytes away
+abbrev pub is_near : ℕ → Span → Bool
+is_near a k = nat_lt k.addr (a + 4) && nat_lt a (k.addr + 4)
 
 -- what stores, youngest first, give to a load of the bytes from an address on
 abbrev pub gathered : List Store → ℕ → Gathered

@@ -1,11 +1,14 @@
 //! What a load finds in the stores before it and in memory (`docs/machine.md`, "Loads"): one walk over the stores.
 ghost use Rattle.std.specs.Prelude.{◌≡◌, ◌≤◌, ◌<◌, ◌+◌, ◌-◌, ◌*◌, ◌^◌, None, nat_lt, if◌then◌else◌, length, slice_index};
+ghost use Rattle.std.specs.Prelude.{false};
+ghost use Rattle.rename_taint.specs.Writes.{later};
+ghost use Rattle.lsq.specs.declared.merging.Gathered.{Gathered};
 ghost use Rattle.rv_types.specs.Memory.{load_fault};
 ghost use Rattle.rv_types.specs.Value.{bytes_in};
 ghost use Rattle.rv_types.specs.Word.{from_le, to_le};
 ghost use Rattle.lsq.specs.Queues.{older, youngest_root};
 ghost use Rattle.lsq.specs.Merging.{all_forwarded, byte_by, byte_or_memory, merged_bytes, reaches};
-ghost use Rattle.lsq.specs.Gathering.{covered_in, gathered, nothing, number_in, passed};
+ghost use Rattle.lsq.specs.Gathering.{covered_in, gathered, is_near, nothing, number_in, passed};
 
 use crate::store::{Span, Store};
 use byte_ram::Ram;
@@ -43,6 +46,14 @@ pub(crate) fn reaches(span: &Span, addr: u64) -> bool
         && addr < span.addr as u64 + span.width.bytes() as u64
 }
 
+// Whether what a store writes may reach one of the four bytes from an address on: most stores are passed by this test.
+pub(crate) fn is_near(span: &Span, addr: u64) -> bool
+    requires { addr < 2 ^ 32 }
+    ensures { result ≡ is_near addr span.now }
+{
+    (span.addr as u64) < addr + 4 && addr < span.addr as u64 + 4
+}
+
 // A byte of a number of this width, the lowest first, and 0 past its last.
 fn byte_in(width: Width, number: u32, place: u64) -> u8
     ensures { result ≡ slice_index (to_le (bytes_in width) number) place }
@@ -68,6 +79,19 @@ fn byte_by(store: &Store, addr: u64) -> Option<u8>
             addr.saturating_sub(span.addr as u64),
         )),
         _ => None,
+    }
+}
+
+// Whether a store may write one of the four bytes from an address on.
+#[tactic(auto, using(crate::proofs::Far::far_span))]
+fn may_give(store: &Store, addr: u64) -> bool
+    requires { addr < 2 ^ 32 }
+    ensures { (g : Gathered) → result ≡ false
+        → passed addr store.now g ≡ record g { root = later store.now.root g.root } }
+{
+    match &store.span {
+        Some(span) => is_near(span, addr),
+        None => false,
     }
 }
 
@@ -102,13 +126,26 @@ impl Gathered {
         }
     }
 
+    // What is gathered for the bytes from an address on, once this younger store is passed. One that reaches none of
+    // them only gives its root.
+    fn passed_by_range(self, store: &Store, addr: u64) -> Gathered
+        requires { addr < 2 ^ 32 }
+        ensures { result ≡ passed addr store.now self }
+    {
+        if may_give(store, addr) {
+            return self.passed(store, addr);
+        }
+        let root = later(store.root, self.root);
+        Gathered { root, ..self }
+    }
+
     // What is gathered for the bytes from an address on, once this store is passed, if it is older than the load.
     fn passed_if_older(self, store: &Store, serial: u64, addr: u64) -> Gathered
         requires { addr < 2 ^ 32 }
         ensures { result ≡ (if nat_lt store.now.serial serial then passed addr store.now self else self) }
     {
         if store.serial < serial {
-            return self.passed(store, addr);
+            return self.passed_by_range(store, addr);
         }
         self
     }

@@ -6,7 +6,7 @@ ghost use Rattle.lsq.specs.Queues.{older};
 ghost use Rattle.lsq.specs.Merging.{reaches};
 ghost use Rattle.lsq.specs.Pending.{awaited, awaits_too, bytes_asked, reaches_one};
 
-use crate::merging::reaches;
+use crate::merging::{is_near, reaches};
 use crate::store::{Span, Store};
 use rename_taint::later;
 use rv_types::{Cause, Width};
@@ -28,6 +28,9 @@ fn reaches_one(span: &Span, addr: u64, width: Width) -> bool
     requires { addr < 2 ^ 32 }
     ensures { result ≡ reaches_one width addr span.now }
 {
+    if !is_near(span, addr) {
+        return false;
+    }
     match width {
         Width::B => reaches(span, addr),
         Width::H => reaches(span, addr) || reaches(span, addr + 1),
