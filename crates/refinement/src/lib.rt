@@ -1,4 +1,8 @@
-//! What the parts of a core hold of the entries in flight is one function of each entry and the older ones.
+//! The parts of a core refine the window of entries in flight.
+//!
+//! `specs/Footprint.antt` says what an entry, with the older ones, leaves in the parts; `specs/Refines.antt` when the
+//! parts refine a window: each holds one column of the entries' footprints. `specs/Steps.antt` says that each step of a
+//! cycle keeps that, and `specs/Telling.antt` what the parts then tell.
 #![tactic(auto)]
 
 ghost use Rattle.refinement.specs.Steps.{
