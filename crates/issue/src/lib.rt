@@ -6,6 +6,8 @@
 //! what is decided is written then.
 #![tactic(auto)]
 
+ghost use Rattle.issue.specs.Telling.{TellsIssue};
+
 mod access;
 mod begin;
 mod decide;
@@ -20,3 +22,9 @@ mod seen;
 mod shared;
 
 pub use phase::issue;
+
+/// What taint lets go by an entry's roots, with what Issue asks besides, is what lets it issue, where the parts refine
+/// the window and the visibility point has moved over it (`docs/machine.md`, "Issue").
+pub fn parts_tell_who_may_issue()
+    ensures { TellsIssue }
+{}
