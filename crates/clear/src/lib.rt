@@ -12,8 +12,9 @@ mod phase;
 
 pub use phase::clear;
 
-/// The oldest store of the queue whose address is known and whose root isn't behind the visibility point is the one that
-/// the machine clears, where the parts refine the window and the point has moved over it (`docs/machine.md`, "Clear").
+/// The oldest store of the queue whose address is known and whose root isn't behind the visibility point is the one
+/// that the machine clears, where the parts refine the window and the point has moved over it (`docs/machine.md`,
+/// "Clear").
 pub fn queue_finds_clearable()
     ensures { FindsClearable }
 {}
