@@ -1,5 +1,5 @@
 -- The store in the queue that is cleared is the machine's.
-use Rattle.std.proofs.Common.{◌≡◌, ℕ, ◌<◌, ◌≤◌, Bool, true, false, not, ◌&&◌, cond, List, [], ◌∷◌, Option, Some, None, refl, ap, ap₂, sym, ◌∙◌, arith, is_some}
+use Rattle.std.proofs.Common.{◌≡◌, ℕ, ◌<◌, ◌≤◌, Bool, true, false, not, ◌&&◌, List, [], ◌∷◌, Option, Some, None, refl, ap, ap₂, sym, ◌∙◌, arith, is_some}
 use Rattle.std.specs.Prelude.{if◌then◌else◌, map}
 use Rattle.std.specs.List.{cons_option, find}
 use Rattle.std.specs.Option.{option_map}
@@ -18,8 +18,7 @@ use Rattle.refinement.proofs.Queues.{base_hidden}
 use Rattle.refinement.proofs.Visible.{told}
 use Rattle.refinement.proofs.Youngest.{Tells, retired_shown}
 use Rattle.refinement.specs.Footprint.{StoreFootprint, Terms, column, footprint_of, store_footprint, store_in}
-use Rattle.refinement.specs.InFlight.{InFlight}
-use Rattle.refinement.specs.Refines.{Refines, terms}
+use Rattle.refinement.specs.Refines.{terms}
 use Rattle.refinement.specs.Roots.{base_root, source_roots}
 use Rattle.refinement.specs.Waiters.{oldest_of}
 use Rattle.clear.specs.Clearable.{FindsClearable, can_clear}

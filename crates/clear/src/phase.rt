@@ -1,9 +1,10 @@
 //! The phase: a store is found and cleared; where a load passed it wrongly, that goes with all that is younger, and is
 //! fetched anew.
-ghost use Rattle.std.specs.Prelude.{◌≡◌, IfSome, Some, true};
+ghost use Rattle.std.specs.Prelude.{◌≡◌, ◌<◌, IfSome, Some, length, slice_get, true};
 ghost use Rattle.core_parts.specs.Dropped.{StopsBelow};
 ghost use Rattle.visibility.specs.Point.{HasAdvanced};
 ghost use Rattle.window_model.specs.Clear.{clear};
+ghost use Rattle.window_model.specs.declared.Entry.{Entry};
 ghost use Rattle.machine_desc.specs.Questions.{loads_pass};
 ghost use Rattle.window_model.specs.inner.Row.{HasRoom, IsLonger, most_cleared, with_events};
 ghost use Rattle.clear.specs.Cleared.{anew, anew_events, clearing, most_anew, violated, with_cleared};
@@ -11,7 +12,7 @@ ghost use Rattle.clear.specs.Cleared.{anew, anew_events, clearing, most_anew, vi
 use crate::finding::clearable;
 use core_parts::Parts;
 use rename_taint::RenameTaint;
-use window_model::{Entry, Event, Row};
+use window_model::{Event, Row};
 
 /// Phase Clear, once the visibility point has moved over the window: the oldest store whose address is known and not
 /// tainted, and that isn't cleared, is, with its event in the row. Where younger loads passed it wrongly the oldest of
@@ -57,8 +58,7 @@ fn clear_store<R: RenameTaint>(serial: u64, parts: &mut Parts<R>, row: &mut Row)
         return;
     };
     let position = parts.rob.position_of(violated);
-    let load = parts.rob.at(position);
-    fetch_anew(&load, parts, row);
+    fetch_anew(position, parts, row);
 }
 
 // The store with this serial is marked as cleared, where it stands and in the queue. The answer is the serial of the
@@ -75,18 +75,26 @@ fn clear_in_place<R: RenameTaint>(serial: u64, parts: &mut Parts<R>) -> Option<u
     parts.lsq.clear(serial)
 }
 
-// A load that passed a store wrongly is dropped, with all that is younger: its bit of dependence is set, and it is
-// fetched anew, with history and stack as they were before it.
-fn fetch_anew<R: RenameTaint>(load: &Entry, parts: &mut Parts<R>, row: &mut Row)
+// The load at this position, which passed a store wrongly, is dropped, with all that is younger: its bit of dependence
+// is set, and it is fetched anew, with history and stack as they were before it.
+fn fetch_anew<R: RenameTaint>(position: u32, parts: &mut Parts<R>, row: &mut Row)
     requires loads_pass { loads_pass parts.old.desc ≡ true }
-    requires stops { StopsBelow load.now.serial parts.old.point parts.old.machine.window }
+    requires within { position < length parts.old.machine.window }
+    requires stops { (load : Entry) → slice_get parts.old.machine.window position ≡ Some load
+        → StopsBelow load.serial parts.old.point parts.old.machine.window }
     requires room { HasRoom most_anew row.old }
-    ensures machine { parts.new ≡ record parts.old { machine = anew parts.old.desc load.now parts.old.machine } }
-    ensures row { row.new ≡ with_events row.old (anew_events parts.old.desc load.now parts.old.machine) }
+    ensures machine { (load : Entry) → slice_get parts.old.machine.window position ≡ Some load
+        → parts.new ≡ record parts.old { machine = anew parts.old.desc load parts.old.machine } }
+    ensures row { (load : Entry) → slice_get parts.old.machine.window position ≡ Some load
+        → row.new ≡ with_events row.old (anew_events parts.old.desc load parts.old.machine) }
+    ensures few { IsLonger most_anew row.old row.new }
 {
-    row.push(Event::Vio(load.serial));
-    row.push(parts.dependence.learn(load.item.pc));
+    let load = parts.rob.lend(position);
+    let serial = load.serial;
+    let pc = load.item.pc;
     parts.history.restore(&load.item.checkpoint);
-    let dropped = parts.drop_from(load.serial, Some(load.item.pc));
+    row.push(Event::Vio(serial));
+    row.push(parts.dependence.learn(pc));
+    let dropped = parts.drop_from(serial, Some(pc));
     row.push(Event::Sq(dropped));
 }
