@@ -1,5 +1,5 @@
 //! The queue of loads and the queue of stores.
-ghost use Rattle.std.specs.Prelude.{◌≡◌, ◌<◌, ◌≤◌, ◌*◌, ◌^◌, not, ◌==◌, ◌||◌, nat_le, nat_lt, [], ◌∷◌, ◌++◌, length, map, None, is_some, false, slice_get, IfOk, vec_len, vec_capacity};
+ghost use Rattle.std.specs.Prelude.{◌≡◌, ◌<◌, ◌≤◌, ◌*◌, ◌^◌, not, ◌==◌, ◌&&◌, ◌||◌, nat_le, nat_lt, [], ◌∷◌, ◌++◌, length, map, None, is_some, false, slice_get, IfOk, vec_len, vec_capacity};
 ghost use Rattle.std.specs.List.{filter, list_all, list_any};
 ghost use Rattle.std.specs.Option.{option_map};
 ghost use Rattle.rv_types.specs.Memory.{load_fault};
@@ -190,6 +190,14 @@ impl Lsq {
         pending_in(self.stores.as_slice(), serial, addr as u64, width, fault)
     }
 
+    /// Whether of some store older than this serial it isn't known where it writes.
+    #[tactic(auto, using(crate::proofs::Older::any_older))]
+    pub fn awaits_address(&self, serial: u64) -> bool
+        ensures { result ≡ list_any lacks_address (older serial self.now.stores) }
+    {
+        lack_address(self.stores.as_slice(), serial)
+    }
+
     /// Whether each store older than this serial has both its address and its data.
     #[tactic(auto, using(crate::proofs::Older::all_older))]
     pub fn all_older_known(&self, serial: u64) -> bool
@@ -249,6 +257,15 @@ impl Lsq {
         pop_item(&mut self.loads, self.loads_rise, serial);
         pop_item(&mut self.stores, self.stores_rise, serial);
     }
+}
+
+// Whether some store has a serial below this one, and it isn't known where it writes.
+fn lack_address(stores: &[Store], serial: u64) -> bool
+    ensures { result ≡ list_any (λ s. nat_lt s.serial serial && lacks_address s) stores.now }
+{
+    stores
+        .iter()
+        .any(|store| store.serial < serial && store.span.is_none())
 }
 
 // Whether each store has a serial from this one on, or both its parts.
