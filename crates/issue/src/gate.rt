@@ -3,7 +3,7 @@ use crate::seen::{Place, Seen};
 use lsq::Pending;
 use rob_ring::{Sources, sources_at};
 use rv_effect::Effect;
-use rv_types::Kind;
+use rv_types::{Cause, Kind};
 use transmit_gate::may_transmit;
 use unit_ports::Ports;
 
@@ -13,6 +13,8 @@ impl<'a> Seen<'a> {
     ghost use Rattle.window_model.specs.MayIssue.{address_of, goes_behind};
     ghost use Rattle.window_model.specs.Order.{is_store};
     ghost use Rattle.window_model.specs.Around.{is_free};
+    ghost use Rattle.window_model.specs.Retire.{byte_count};
+    ghost use Rattle.rv_types.specs.Memory.{load_fault};
     ghost use Rattle.issue.specs.Ports.{LeftFor, besides, is_served};
     ghost use Rattle.issue.specs.Pending.{is_kept, lets_by, passes_here, pending_here, stores_keep};
     ghost use Rattle.issue.specs.State.{HasTurn, around_of, before_of, here};
@@ -41,7 +43,11 @@ impl<'a> Seen<'a> {
         if self.lsq.all_older_known(place.entry.serial) {
             return true;
         }
-        self.is_let(self.passes(place), &self.pending(place, made.addr))
+        let fault = self.ram.load_fault(made.addr, place.entry.bytes());
+        if self.awaits_data(place, made.addr, fault) {
+            return false;
+        }
+        self.is_let(self.passes(place), &self.pending(place, made.addr, fault))
     }
 
     // Whether a load passes stores of unknown address: there are bits of dependence, and its own isn't set.
@@ -59,12 +65,22 @@ impl<'a> Seen<'a> {
         (passes || !pending.address) && !pending.overlap && !self.point.tainted(pending.root)
     }
 
-    // What a load waits for in the older stores, by its address.
-    fn pending(&self, place: &Place, addr: u32) -> Pending
+    // Whether a load with this fault waits for the data of an older store, by its address.
+    fn awaits_data(&self, place: &Place, addr: u32, fault: Option<Cause>) -> bool
         requires address { addr ≡ address_of self.now.regs.now (before_of self.now place.now) place.now.entry.now }
+        requires fault { fault ≡ load_fault self.now.ram.now addr (byte_count place.now.entry.now) }
+        ensures { result ≡ (pending_here self.now place.now).overlap }
+    {
+        self.lsq
+            .awaits_data(place.entry.serial, addr, place.entry.width(), fault)
+    }
+
+    // What a load with this fault waits for in the older stores, by its address.
+    fn pending(&self, place: &Place, addr: u32, fault: Option<Cause>) -> Pending
+        requires address { addr ≡ address_of self.now.regs.now (before_of self.now place.now) place.now.entry.now }
+        requires fault { fault ≡ load_fault self.now.ram.now addr (byte_count place.now.entry.now) }
         ensures { result ≡ pending_here self.now place.now }
     {
-        let fault = self.ram.load_fault(addr, place.entry.bytes());
         self.lsq
             .pending(place.entry.serial, addr, place.entry.width(), fault)
     }

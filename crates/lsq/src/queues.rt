@@ -1,5 +1,5 @@
 //! The queue of loads and the queue of stores.
-ghost use Rattle.std.specs.Prelude.{◌≡◌, ◌<◌, ◌≤◌, ◌*◌, ◌^◌, not, ◌==◌, ◌&&◌, ◌||◌, nat_le, nat_lt, [], ◌∷◌, ◌++◌, length, map, None, is_some, false, slice_get, IfOk, vec_len, vec_capacity};
+ghost use Rattle.std.specs.Prelude.{◌≡◌, ◌<◌, ◌≤◌, ◌*◌, ◌^◌, not, ◌==◌, ◌||◌, nat_le, nat_lt, [], ◌∷◌, ◌++◌, length, map, None, is_some, false, slice_get, IfOk, vec_len, vec_capacity};
 ghost use Rattle.std.specs.List.{filter, list_all, list_any};
 ghost use Rattle.std.specs.Option.{option_map};
 ghost use Rattle.rv_types.specs.Memory.{load_fault};
@@ -14,7 +14,7 @@ use crate::clearing::{StoreInfo, info_of, violated_by};
 use crate::load::{Access, Load};
 use crate::loads::issue_load;
 use crate::merging::{Merged, merge};
-use crate::pending::{Pending, pending_in};
+use crate::pending::{Pending, lack_address, lack_data_for, pending_in};
 use crate::serials::{cut_items, pop_item, rises_with};
 use crate::store::{Span, Store};
 use byte_ram::Ram;
@@ -191,11 +191,21 @@ impl Lsq {
     }
 
     /// Whether of some store older than this serial it isn't known where it writes.
-    #[tactic(auto, using(crate::proofs::Older::any_older))]
+    #[tactic(auto, using(crate::proofs::Older::any_lacks_address))]
     pub fn awaits_address(&self, serial: u64) -> bool
         ensures { result ≡ list_any lacks_address (older serial self.now.stores) }
     {
         lack_address(self.stores.as_slice(), serial)
+    }
+
+    /// Whether of some store older than a load with this serial, and that writes bytes of the load, it isn't known
+    /// what, if the fault is the load's own.
+    #[tactic(auto, using(crate::proofs::Older::any_lacks_data))]
+    pub fn awaits_data(&self, serial: u64, addr: u32, width: Width, fault: Option<Cause>) -> bool
+        ensures { result
+            ≡ list_any (lacks_data_for (bytes_asked fault addr (bytes_in width))) (older serial self.now.stores) }
+    {
+        lack_data_for(self.stores.as_slice(), serial, addr, width, fault)
     }
 
     /// Whether each store older than this serial has both its address and its data.
@@ -257,15 +267,6 @@ impl Lsq {
         pop_item(&mut self.loads, self.loads_rise, serial);
         pop_item(&mut self.stores, self.stores_rise, serial);
     }
-}
-
-// Whether some store has a serial below this one, and it isn't known where it writes.
-fn lack_address(stores: &[Store], serial: u64) -> bool
-    ensures { result ≡ list_any (λ s. nat_lt s.serial serial && lacks_address s) stores.now }
-{
-    stores
-        .iter()
-        .any(|store| store.serial < serial && store.span.is_none())
 }
 
 // Whether each store has a serial from this one on, or both its parts.
