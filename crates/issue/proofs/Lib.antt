@@ -2,6 +2,7 @@ pub mod Writers
 pub mod Width
 pub mod Bytes
 pub mod Behind
+pub mod Kept
 pub mod Waiting
 pub mod Asking
 pub mod Testing

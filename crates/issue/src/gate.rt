@@ -3,18 +3,21 @@ use crate::seen::{Place, Seen};
 use lsq::Pending;
 use rob_ring::{Sources, sources_at};
 use rv_effect::Effect;
-use rv_types::Kind;
+use rv_types::{Cause, Kind};
 use transmit_gate::may_transmit;
 use unit_ports::Ports;
 
 impl<'a> Seen<'a> {
-    ghost use Rattle.std.specs.Prelude.{◌≡◌, ◌&&◌, Some, false, slice_get};
+    ghost use Rattle.std.specs.Prelude.{◌≡◌, ◌&&◌, Some, false, slice_get, true};
     ghost use Rattle.rv_effect.specs.Seen.{seen};
     ghost use Rattle.window_model.specs.MayIssue.{address_of, goes_behind};
     ghost use Rattle.window_model.specs.Order.{is_store};
+    ghost use Rattle.window_model.specs.Around.{is_free};
+    ghost use Rattle.window_model.specs.Retire.{byte_count};
+    ghost use Rattle.rv_types.specs.Memory.{load_fault};
     ghost use Rattle.issue.specs.Ports.{LeftFor, besides, is_served};
-    ghost use Rattle.issue.specs.Pending.{lets_by, passes_here, pending_here};
-    ghost use Rattle.issue.specs.State.{HasTurn, before_of, here};
+    ghost use Rattle.issue.specs.Pending.{is_kept, lets_by, passes_here, pending_here, stores_keep};
+    ghost use Rattle.issue.specs.State.{HasTurn, around_of, before_of, here};
     ghost use Rattle.issue.specs.Turns.{effect_here};
 
     /// What stands of the entry's sources at its position: their youngest roots, and the serials of their writers.
@@ -25,21 +28,26 @@ impl<'a> Seen<'a> {
         *sources_at(self.sources, place.position)
     }
 
-    // Whether the older stores let a load go that has this effect: each has both its parts; or in version 2 each has
-    // its address, unless the load passes stores, and each without data an untainted one that covers none of the load's
-    // bytes.
+    // Whether the older stores, where they don't keep a load whatever its address, let it go that has this effect: in
+    // version 1 they do; in version 2 they do where each has both its parts, or by its bytes, where each without data
+    // has an untainted address and covers none of them.
     fn goes(&self, place: &Place, made: &Effect) -> bool
         requires turn { HasTurn self.now place.now }
+        requires open { stores_keep self.now place.now ≡ false }
         requires effect { seen made.now ≡ effect_here self.now place.now }
         ensures { result ≡ here goes_behind self.now place.now }
     {
+        if self.desc.stores_in_one() {
+            return true;
+        }
         if self.lsq.all_older_known(place.entry.serial) {
             return true;
         }
-        if self.desc.stores_in_one() {
+        let fault = self.ram.load_fault(made.addr, place.entry.bytes());
+        if self.awaits_data(place, made.addr, fault) {
             return false;
         }
-        self.is_let(self.passes(place), &self.pending(place, made.addr))
+        self.is_let(self.passes(place), &self.pending(place, made.addr, fault))
     }
 
     // Whether a load passes stores of unknown address: there are bits of dependence, and its own isn't set.
@@ -57,45 +65,88 @@ impl<'a> Seen<'a> {
         (passes || !pending.address) && !pending.overlap && !self.point.tainted(pending.root)
     }
 
-    // What a load waits for in the older stores, by its address.
-    fn pending(&self, place: &Place, addr: u32) -> Pending
+    // Whether a load with this fault waits for the data of an older store, by its address.
+    fn awaits_data(&self, place: &Place, addr: u32, fault: Option<Cause>) -> bool
         requires address { addr ≡ address_of self.now.regs.now (before_of self.now place.now) place.now.entry.now }
+        requires fault { fault ≡ load_fault self.now.ram.now addr (byte_count place.now.entry.now) }
+        ensures { result ≡ (pending_here self.now place.now).overlap }
+    {
+        self.lsq
+            .awaits_data(place.entry.serial, addr, place.entry.width(), fault)
+    }
+
+    // What a load with this fault waits for in the older stores, by its address.
+    fn pending(&self, place: &Place, addr: u32, fault: Option<Cause>) -> Pending
+        requires address { addr ≡ address_of self.now.regs.now (before_of self.now place.now) place.now.entry.now }
+        requires fault { fault ≡ load_fault self.now.ram.now addr (byte_count place.now.entry.now) }
         ensures { result ≡ pending_here self.now place.now }
     {
-        let fault = self.ram.load_fault(addr, place.entry.bytes());
         self.lsq
             .pending(place.entry.serial, addr, place.entry.width(), fault)
     }
 
-    /// Whether an entry with this effect has what it asks for besides untainted operands: a load older stores that let
-    /// it go, a division a free divider.
+    // Whether the older stores keep a load whatever its address: in version 1 where one lacks a part; in version 2
+    // where one lacks its address, unless the load passes stores.
+    fn stores_keep(&self, place: &Place) -> bool
+        requires turn { HasTurn self.now place.now }
+        ensures { result ≡ stores_keep self.now place.now }
+    {
+        if self.desc.stores_in_one() {
+            return !self.lsq.all_older_known(place.entry.serial);
+        }
+        !self.passes(place) && self.lsq.awaits_address(place.entry.serial)
+    }
+
+    // Whether the entry is kept whatever its operands are: a load by the older stores, a division by a divider that
+    // isn't free.
+    fn is_kept(&self, place: &Place) -> bool
+        requires turn { HasTurn self.now place.now }
+        ensures { result ≡ is_kept self.now place.now }
+    {
+        match place.entry.item.kind {
+            Kind::Load => self.stores_keep(place),
+            Kind::Div => !self.is_free(),
+            _ => false,
+        }
+    }
+
+    // Whether the divider is free.
+    fn is_free(&self) -> bool
+        ensures { result ≡ is_free (around_of self.now) }
+    {
+        self.free_from <= self.cycle as u64
+    }
+
+    /// Whether an entry with this effect, which isn't kept whatever its operands are, has what it asks for besides
+    /// untainted ones: a load older stores that let it go.
     pub(crate) fn has_besides(&self, place: &Place, made: &Effect) -> bool
         requires turn { HasTurn self.now place.now }
+        requires open { is_kept self.now place.now ≡ false }
         requires effect { seen made.now ≡ effect_here self.now place.now }
         ensures { result ≡ besides self.now place.now }
     {
         match place.entry.item.kind {
             Kind::Load => self.goes(place, made),
-            Kind::Div => self.free_from <= self.cycle as u64,
             _ => true,
         }
     }
 
-    /// Whether the entry, which is no store, may ask for its port: one is left, and no tainted operand holds it back.
-    /// It is served then where it has what it asks for besides.
+    /// Whether the entry, which is no store, may ask for its port: one is left, no tainted operand holds it back, and
+    /// nothing keeps it whatever its operands are. It is served then where it has what it asks for besides.
     pub(crate) fn may_ask(&self, place: &Place, ports: &Ports) -> bool
         requires turn { HasTurn self.now place.now }
         requires whole { is_store place.now.entry.now.item.kind ≡ false }
         requires left { LeftFor self.now place.now ports.now }
-        ensures { is_served self.now place.now ≡ (result && besides self.now place.now) }
+        ensures served { is_served self.now place.now ≡ (result && besides self.now place.now) }
+        ensures open { result ≡ true → is_kept self.now place.now ≡ false }
     {
-        if !ports.has(place.entry.item.kind) {
+        let kind = place.entry.item.kind;
+        if !ports.has(kind) {
             return false;
         }
-        may_transmit(
-            place.entry.item.kind,
-            self.sources_of(place).roots,
-            self.point,
-        )
+        if !may_transmit(kind, self.sources_of(place).roots, self.point) {
+            return false;
+        }
+        !self.is_kept(place)
     }
 }

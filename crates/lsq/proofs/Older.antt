@@ -1,10 +1,13 @@
 -- The stores older than a serial.
-use Rattle.std.proofs.Common.{◌≡◌, ℕ, Bool, true, false, cond, not, ◌||◌, ◌&&◌, List, [], ◌∷◌, refl, ap, sym, ◌∙◌, arith}
-use Rattle.std.specs.Prelude.{nat_lt, nat_le}
-use Rattle.std.specs.List.{filter, list_all}
+use Rattle.std.proofs.Common.{◌≡◌, ℕ, Bool, true, false, cond, not, ◌||◌, ◌&&◌, List, [], ◌∷◌, ◌++◌, refl, ap, sym, ◌∙◌, arith}
+use Rattle.std.specs.Prelude.{nat_lt, nat_le, reverse}
+use Rattle.std.specs.List.{filter, list_all, list_any}
 use Rattle.std.proofs.lemmas.Bool.Decides.{nat_tests}
+use Rattle.std.proofs.lemmas.List.{reverse-append}
+use Rattle.std.proofs.lemmas.List.Folds.{list_any-append}
 use Rattle.window_model.proofs.Before.{all_reverse}
 use Rattle.lsq.specs.declared.store.Store.{Store}
+use Rattle.lsq.specs.Pending.{lacks_address, lacks_data_for}
 use Rattle.lsq.specs.Queues.{is_known, older}
 
 all_if : (b young : Bool) (s : Store) (old : List Store) (r : Bool) → young ≡ not b → list_all is_known old ≡ r → list_all is_known (cond b (s ∷ old) old) ≡ ((young || is_known s) && r)
@@ -21,3 +24,37 @@ filtered serial (s ∷ stores) = all_if (nat_lt s.serial serial) (nat_le serial 
 -- the older stores are all known where each store of the queue is not older or is known
 pub all_older : (serial : ℕ) (stores : List Store) → list_all is_known (older serial stores) ≡ list_all (λ s. nat_le serial s.serial || is_known s) stores
 all_older serial stores = all_reverse is_known (filter (λ s. nat_lt s.serial serial) stores) ∙ filtered serial stores
+
+-- ---- one of them
+
+-- a test of one doesn't ask for their order
+one_last : (p q : Bool) → (q || (p || false)) ≡ (p || q)
+one_last true true = refl
+one_last true false = refl
+one_last false true = refl
+one_last false false = refl
+
+any_reverse : (p : Store → Bool) (stores : List Store) → list_any p (reverse stores) ≡ list_any p stores
+any_reverse p [] = refl
+any_reverse p (s ∷ stores) =
+    ap (list_any p) (reverse-append (s ∷ []) stores) ∙ list_any-append p (reverse stores) (s ∷ [])
+    ∙ one_last (p s) (list_any p (reverse stores)) ∙ ap (λ q. p s || q) (any_reverse p stores)
+
+any_if : (p : Store → Bool) (b : Bool) (s : Store) (old : List Store) (r : Bool) → list_any p old ≡ r → list_any p (cond b (s ∷ old) old) ≡ (b && p s || r)
+any_if p true s old r h = ap (λ r. p s || r) h
+any_if p false s old r h = h
+
+any_filtered : (p : Store → Bool) (serial : ℕ) (stores : List Store) → list_any p (filter (λ s. nat_lt s.serial serial) stores) ≡ list_any (λ s. nat_lt s.serial serial && p s) stores
+any_filtered p serial [] = refl
+any_filtered p serial (s ∷ stores) = any_if p (nat_lt s.serial serial) s (filter (λ s. nat_lt s.serial serial) stores) _ (any_filtered p serial stores)
+
+any_older : (p : Store → Bool) (serial : ℕ) (stores : List Store) → list_any p (older serial stores) ≡ list_any (λ s. nat_lt s.serial serial && p s) stores
+any_older p serial stores = any_reverse p (filter (λ s. nat_lt s.serial serial) stores) ∙ any_filtered p serial stores
+
+-- of some older store it isn't known where it writes where some store of the queue is older and lacks its address
+pub any_lacks_address : (serial : ℕ) (stores : List Store) → list_any lacks_address (older serial stores) ≡ list_any (λ s. nat_lt s.serial serial && lacks_address s) stores
+any_lacks_address serial stores = any_older lacks_address serial stores
+
+-- some older store lacks data for bytes where some store of the queue is older and does
+pub any_lacks_data : (bytes : List ℕ) (serial : ℕ) (stores : List Store) → list_any (lacks_data_for bytes) (older serial stores) ≡ list_any (λ s. nat_lt s.serial serial && lacks_data_for bytes s) stores
+any_lacks_data bytes serial stores = any_older (lacks_data_for bytes) serial stores

@@ -1,10 +1,10 @@
 //! What a load still waits for in the stores before it (`docs/machine.md`, "Issue"): one walk over the stores.
-ghost use Rattle.std.specs.Prelude.{◌≡◌, ◌<◌, ◌^◌, [], None, nat_lt, if◌then◌else◌};
+ghost use Rattle.std.specs.Prelude.{◌≡◌, ◌<◌, ◌^◌, ◌&&◌, [], None, nat_lt, if◌then◌else◌};
 ghost use Rattle.std.specs.List.{list_any};
 ghost use Rattle.rv_types.specs.Value.{bytes_in};
 ghost use Rattle.lsq.specs.Queues.{older};
 ghost use Rattle.lsq.specs.Merging.{reaches};
-ghost use Rattle.lsq.specs.Pending.{awaited, awaits_too, bytes_asked, reaches_one};
+ghost use Rattle.lsq.specs.Pending.{awaited, awaits_too, bytes_asked, lacks_address, lacks_data_for, reaches_one};
 
 use crate::merging::{is_near, reaches};
 use crate::store::{Span, Store};
@@ -54,6 +54,54 @@ pub(crate) fn shares(span: &Span, addr: u64, width: Width, fault: Option<Cause>)
         Some(_) => false,
         None => reaches_one(span, addr, width),
     }
+}
+
+// Whether a store is older than a load, and it isn't known what it writes of bytes that the load asks for.
+fn lacks_data_for(
+    store: &Store,
+    serial: u64,
+    addr: u32,
+    width: Width,
+    fault: Option<Cause>,
+) -> bool
+    ensures { result ≡ (nat_lt store.now.serial serial
+        && lacks_data_for (bytes_asked fault addr (bytes_in width)) store.now) }
+{
+    if store.serial >= serial {
+        return false;
+    }
+    if store.stored.is_some() {
+        return false;
+    }
+    match &store.span {
+        Some(span) => shares(span, addr as u64, width, fault),
+        None => false,
+    }
+}
+
+/// Whether of some store that is older than a load, and writes bytes that the load asks for, it isn't known what.
+pub(crate) fn lack_data_for(
+    stores: &[Store],
+    serial: u64,
+    addr: u32,
+    width: Width,
+    fault: Option<Cause>,
+) -> bool
+    ensures { result ≡ list_any
+        (λ s. nat_lt s.serial serial && lacks_data_for (bytes_asked fault addr (bytes_in width)) s) stores.now }
+{
+    stores
+        .iter()
+        .any(|store| lacks_data_for(store, serial, addr, width, fault))
+}
+
+/// Whether of some store with a serial below this one it isn't known where it writes.
+pub(crate) fn lack_address(stores: &[Store], serial: u64) -> bool
+    ensures { result ≡ list_any (λ s. nat_lt s.serial serial && lacks_address s) stores.now }
+{
+    stores
+        .iter()
+        .any(|store| store.serial < serial && store.span.is_none())
 }
 
 impl Pending {

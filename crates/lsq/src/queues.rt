@@ -14,7 +14,7 @@ use crate::clearing::{StoreInfo, info_of, violated_by};
 use crate::load::{Access, Load};
 use crate::loads::issue_load;
 use crate::merging::{Merged, merge};
-use crate::pending::{Pending, pending_in};
+use crate::pending::{Pending, lack_address, lack_data_for, pending_in};
 use crate::serials::{cut_items, pop_item, rises_with};
 use crate::store::{Span, Store};
 use byte_ram::Ram;
@@ -188,6 +188,24 @@ impl Lsq {
             ≡ youngest_root (filter (λ s. not (is_some s.stored)) (older serial self.now.stores)) }
     {
         pending_in(self.stores.as_slice(), serial, addr as u64, width, fault)
+    }
+
+    /// Whether of some store older than this serial it isn't known where it writes.
+    #[tactic(auto, using(crate::proofs::Older::any_lacks_address))]
+    pub fn awaits_address(&self, serial: u64) -> bool
+        ensures { result ≡ list_any lacks_address (older serial self.now.stores) }
+    {
+        lack_address(self.stores.as_slice(), serial)
+    }
+
+    /// Whether of some store older than a load with this serial, and that writes bytes of the load, it isn't known
+    /// what, if the fault is the load's own.
+    #[tactic(auto, using(crate::proofs::Older::any_lacks_data))]
+    pub fn awaits_data(&self, serial: u64, addr: u32, width: Width, fault: Option<Cause>) -> bool
+        ensures { result
+            ≡ list_any (lacks_data_for (bytes_asked fault addr (bytes_in width))) (older serial self.now.stores) }
+    {
+        lack_data_for(self.stores.as_slice(), serial, addr, width, fault)
     }
 
     /// Whether each store older than this serial has both its address and its data.

@@ -45,12 +45,12 @@ pub returns-then-not-may_ask : goal.returns-then-not-may_ask
 returns-then-not-may_ask c =
     let s = c.args.self.now in
     let p = c.args.place.now in
-    unserved s p _ _ _ c.requires.whole c.requires.left (c.may_ask.ensures ∙ ap (λ b. b && besides s p) c.if-not-may_ask.true)
+    unserved s p _ _ _ c.requires.whole c.requires.left (c.may_ask.ensures.served ∙ ap (λ b. b && besides s p) c.if-not-may_ask.true)
 
 pub returns-then-not-has_besides : goal.returns-then-not-has_besides
 returns-then-not-has_besides c =
     unserved c.args.self.now c.args.place.now _ _ _ c.requires.whole c.requires.left
-    (c.may_ask.ensures ∙ ap₂ (λ a b. a && b) c.if-not-may_ask.false (sym c.has_besides.ensures ∙ c.if-not-has_besides.true))
+    (c.may_ask.ensures.served ∙ ap₂ (λ a b. a && b) c.if-not-may_ask.false (sym c.has_besides.ensures ∙ c.if-not-has_besides.true))
 
 -- it is served where it may ask for its port and has what it asks for besides
 granted_where : (served ask besides has : Bool) → served ≡ (ask && besides) → ask ≡ true → has ≡ besides → has ≡ true → served ≡ true
@@ -60,17 +60,17 @@ pub begin-after-requires-clause-goes : goal.begin-after-requires-clause-goes
 begin-after-requires-clause-goes c =
     let s = c.args.self.now in
     let p = c.args.place.now in
-    granted_goes s.desc.now (around_of s) (before_of s p) p.entry.now c.requires.whole (granted_where _ _ _ _ c.may_ask.ensures c.if-not-may_ask.false c.has_besides.ensures c.if-not-has_besides.false)
+    granted_goes s.desc.now (around_of s) (before_of s p) p.entry.now c.requires.whole (granted_where _ _ _ _ c.may_ask.ensures.served c.if-not-may_ask.false c.has_besides.ensures c.if-not-has_besides.false)
 
 pub begin-after-requires-clause-room : goal.begin-after-requires-clause-room
 begin-after-requires-clause-room c =
-    let many = events_served _ _ _ c.args.place.now.entry.now _ c.requires.whole c.requires.left (granted_where _ _ _ _ c.may_ask.ensures c.if-not-may_ask.false c.has_besides.ensures c.if-not-has_besides.false) in
+    let many = events_served _ _ _ c.args.place.now.entry.now _ c.requires.whole c.requires.left (granted_where _ _ _ _ c.may_ask.ensures.served c.if-not-may_ask.false c.has_besides.ensures c.if-not-has_besides.false) in
     let room = c.requires.room in
     omega (arith, many, room)
 
 pub note-requires : goal.note-requires
 note-requires c =
-    let some = some_left _ _ _ c.args.place.now.entry.now _ c.requires.whole c.requires.left (granted_where _ _ _ _ c.may_ask.ensures c.if-not-may_ask.false c.has_besides.ensures c.if-not-has_besides.false) in
+    let some = some_left _ _ _ c.args.place.now.entry.now _ c.requires.whole c.requires.left (granted_where _ _ _ _ c.may_ask.ensures.served c.if-not-may_ask.false c.has_besides.ensures c.if-not-has_besides.false) in
     let few = c.requires.few in
     omega (arith, some, few)
 
@@ -82,7 +82,7 @@ returns c =
     let now = around_of s in
     let before = before_of s p in
     let e = p.entry.now in
-    let granted : is_granted d now (port_for e.item.kind) before e ≡ true = granted_where _ _ _ _ c.may_ask.ensures c.if-not-may_ask.false c.has_besides.ensures c.if-not-has_besides.false in
+    let granted : is_granted d now (port_for e.item.kind) before e ≡ true = granted_where _ _ _ _ c.may_ask.ensures.served c.if-not-may_ask.false c.has_besides.ensures c.if-not-has_besides.false in
     let begins = turn_is true d now before e c.requires.whole granted in
     let comes = c.begin-after.ensures.comes in
     let left = served d now before e _ c.requires.whole c.requires.left granted _ _ _ c.begin-after.ensures.divider c.grant.ensures.left in

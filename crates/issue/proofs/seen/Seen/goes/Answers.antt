@@ -6,19 +6,20 @@ use Rattle.window_model.specs.MayIssue.{address_of}
 use Rattle.window_model.specs.Retire.{byte_count}
 use Rattle.issue.specs.Pending.{lets_by, passes_here}
 use Rattle.issue.specs.State.{before_of}
-use Rattle.issue.proofs.Behind.{address_is, goes_is, goes_known, goes_not}
+use Rattle.issue.proofs.Behind.{address_is, goes_is, goes_known}
 use Rattle.issue.proofs.Bytes.{let_is}
+use Rattle.issue.proofs.Kept.{all_known_in_one}
 use Rattle.issue.proofs.seen.Seen.goes.Goals as goal
+
+pub returns-then-stores_in_one : goal.returns-then-stores_in_one
+returns-then-stores_in_one c =
+    let t = c.requires.turn in
+    sym (goes_known c.args.self.now _ _ t.stands t.at (all_known_in_one c.args.self.now c.args.place.now (sym c.stores_in_one.ensures ∙ c.if-stores_in_one.true) c.requires.open))
 
 pub returns-then-all_older_known : goal.returns-then-all_older_known
 returns-then-all_older_known c =
     let t = c.requires.turn in
     sym (goes_known c.args.self.now _ _ t.stands t.at (sym c.all_older_known.ensures ∙ c.if-all_older_known.true))
-
-pub returns-then-stores_in_one : goal.returns-then-stores_in_one
-returns-then-stores_in_one c =
-    let t = c.requires.turn in
-    sym (goes_not c.args.self.now _ _ t.stands t.at (sym c.stores_in_one.ensures ∙ c.if-stores_in_one.true) (sym c.all_older_known.ensures ∙ c.if-all_older_known.false))
 
 pub pending-requires : goal.pending-requires
 pending-requires c = record { address = ap (λ (f : Effect). f.addr) c.requires.effect ∙ address_is c.args.self.now.regs.now (before_of c.args.self.now c.args.place.now) c.args.place.now.entry.now }

@@ -1,0 +1,71 @@
+-- An entry that is kept whatever its operands are lacks what it asks for besides.
+use Rattle.std.proofs.Common.{◌≡◌, Bool, true, false, not, ◌&&◌, ◌||◌, refl, ap, sym, ◌∙◌}
+use Rattle.std.specs.Prelude.{◌==◌, if◌then◌else◌}
+use Rattle.std.specs.List.{list_all, list_any}
+use Rattle.rv_types.specs.Memory.{load_fault}
+use Rattle.rv_types.specs.declared.Kind.{Kind}
+use Rattle.rv_types.specs.declared.Kind.TheVariants.{Div, Load}
+use Rattle.window_model.specs.Around.{is_free}
+use Rattle.window_model.specs.MayIssue.{address_of, goes_behind}
+use Rattle.window_model.specs.Retire.{byte_count}
+use Rattle.lsq.specs.Pending.{lacks_address}
+use Rattle.lsq.specs.Queues.{is_known}
+use Rattle.issue.specs.declared.seen.Place.{Place}
+use Rattle.issue.specs.declared.seen.Seen.{Seen}
+use Rattle.issue.specs.Pending.{is_kept, kept_as, older_here, passes_here, stores_keep}
+use Rattle.issue.specs.Ports.{besides}
+use Rattle.issue.specs.State.{HasTurn, around_of, before_of, here}
+use Rattle.issue.specs.Telling.{asks_besides}
+use Rattle.issue.proofs.Behind.{goes_is, goes_not}
+use Rattle.issue.proofs.Bytes.{let_is}
+
+not_false : (b : Bool) → not b ≡ true → b ≡ false
+not_false true h = absurd (cc)
+not_false false h = refl
+
+not_true : (b : Bool) → not b ≡ false → b ≡ true
+not_true true h = refl
+not_true false h = absurd (cc)
+
+-- a load that passes no store isn't let go by one whose address isn't known
+refused : (passes lacks rest : Bool) → (not passes && lacks) ≡ true → ((passes || not lacks) && rest) ≡ false
+refused true lacks rest h = absurd (cc)
+refused false true rest h = refl
+refused false false rest h = absurd (cc)
+
+module _ (s : Seen) (p : Place) where
+  -- in version 1 older stores that don't keep a load are all known
+  pub all_known_in_one : (s.desc.now.version == 1) ≡ true → stores_keep s p ≡ false → list_all is_known (older_here s p) ≡ true
+  all_known_in_one v k =
+      not_true (list_all is_known (older_here s p))
+      (sym (ap (λ v. if v then not (list_all is_known (older_here s p)) else not (passes_here s p) && list_any lacks_address (older_here s p)) v) ∙ k)
+
+  module _ (t : HasTurn s p) where
+    stores_refuse : (v : Bool) → (s.desc.now.version == 1) ≡ v →
+        (if v then not (list_all is_known (older_here s p)) else not (passes_here s p) && list_any lacks_address (older_here s p)) ≡ true → here goes_behind s p ≡ false
+    stores_refuse true v k = goes_not s p.position p.entry.now t.stands t.at v (not_false (list_all is_known (older_here s p)) k)
+    stores_refuse false v k =
+        let e = p.entry.now in
+        let a = address_of s.regs.now (before_of s p) e in
+        goes_is s p.position e t.stands t.at
+        ∙ let_is s p.position e t.stands t.at (passes_here s p) (load_fault s.ram.now a (byte_count e)) a (byte_count e)
+        ∙ refused (passes_here s p) (list_any lacks_address (older_here s p)) _ k
+
+    lacks_besides : (k : Kind) → kept_as k s p ≡ true → asks_besides k s.desc.now (around_of s) (before_of s p) p.entry.now ≡ false
+    lacks_besides Load k = stores_refuse (s.desc.now.version == 1) refl k
+    lacks_besides Div k = not_false (is_free (around_of s)) k
+    lacks_besides _ k = absurd (cc)
+
+    -- what an entry asks for besides is there only where it isn't kept
+    pub unless_kept : besides s p ≡ (not (is_kept s p) && besides s p)
+    unless_kept = by_kept (is_kept s p) refl
+      where
+        by_kept : (k : Bool) → is_kept s p ≡ k → besides s p ≡ (not k && besides s p)
+        by_kept true k = lacks_besides p.entry.now.item.kind k
+        by_kept false k = refl
+
+-- an entry that isn't kept and is no load has what it asks for besides
+pub besides_no_load : (s : Seen) (p : Place) (k : Kind) → (k ≡ Load → ⊥) → kept_as k s p ≡ false → asks_besides k s.desc.now (around_of s) (before_of s p) p.entry.now ≡ true
+besides_no_load s p Load n h = absurd (n refl)
+besides_no_load s p Div n h = not_true (is_free (around_of s)) h
+besides_no_load s p _ n h = refl
