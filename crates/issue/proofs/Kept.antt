@@ -33,6 +33,12 @@ refused true lacks rest h = absurd (cc)
 refused false true rest h = refl
 refused false false rest h = absurd (cc)
 
+-- nor is a load that meets a store without data
+pub meets_none : (known lacks visible : Bool) → lacks ≡ true → (known && not lacks && visible) ≡ false
+meets_none true true visible h = refl
+meets_none true false visible h = absurd (cc)
+meets_none false lacks visible h = refl
+
 module _ (s : Seen) (p : Place) where
   -- in version 1 older stores that don't keep a load are all known
   pub all_known_in_one : (s.desc.now.version == 1) ≡ true → stores_keep s p ≡ false → list_all is_known (older_here s p) ≡ true
