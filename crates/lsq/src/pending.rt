@@ -57,13 +57,7 @@ pub(crate) fn shares(span: &Span, addr: u64, width: Width, fault: Option<Cause>)
 }
 
 // Whether a store is older than a load, and it isn't known what it writes of bytes that the load asks for.
-fn lacks_data_for(
-    store: &Store,
-    serial: u64,
-    addr: u32,
-    width: Width,
-    fault: Option<Cause>,
-) -> bool
+fn lacks_data_for(store: &Store, serial: u64, addr: u32, width: Width, fault: Option<Cause>) -> bool
     ensures { result ≡ (nat_lt store.now.serial serial
         && lacks_data_for (bytes_asked fault addr (bytes_in width)) store.now) }
 {
