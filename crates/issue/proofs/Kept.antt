@@ -28,10 +28,16 @@ not_true true h = refl
 not_true false h = absurd (cc)
 
 -- a load that passes no store isn't let go by one whose address isn't known
-refused : (passes lacks rest : Bool) → (not passes && lacks) ≡ true → ((passes || not lacks) && rest) ≡ false
-refused true lacks rest h = absurd (cc)
-refused false true rest h = refl
-refused false false rest h = absurd (cc)
+refused : (passes lacks meets visible : Bool) → (not passes && lacks) ≡ true → ((passes || not lacks) && not meets && visible) ≡ false
+refused true lacks meets visible h = absurd (cc)
+refused false true meets visible h = refl
+refused false false meets visible h = absurd (cc)
+
+-- nor is a load that meets a store without data
+pub meets_none : (known lacks visible : Bool) → lacks ≡ true → (known && not lacks && visible) ≡ false
+meets_none true true visible h = refl
+meets_none true false visible h = absurd (cc)
+meets_none false lacks visible h = refl
 
 module _ (s : Seen) (p : Place) where
   -- in version 1 older stores that don't keep a load are all known
@@ -49,7 +55,7 @@ module _ (s : Seen) (p : Place) where
         let a = address_of s.regs.now (before_of s p) e in
         goes_is s p.position e t.stands t.at
         ∙ let_is s p.position e t.stands t.at (passes_here s p) (load_fault s.ram.now a (byte_count e)) a (byte_count e)
-        ∙ refused (passes_here s p) (list_any lacks_address (older_here s p)) _ k
+        ∙ refused (passes_here s p) (list_any lacks_address (older_here s p)) _ _ k
 
     lacks_besides : (k : Kind) → kept_as k s p ≡ true → asks_besides k s.desc.now (around_of s) (before_of s p) p.entry.now ≡ false
     lacks_besides Load k = stores_refuse (s.desc.now.version == 1) refl k
