@@ -79,7 +79,8 @@ def programs():
     found = dict(PROGRAMS)
     for path in sorted(glob.glob(os.path.join(support.ROOT, "crates", "*", "src", "**", "*.rt"), recursive=True)):
         with open(path, encoding="utf-8") as file:
-            for name, numbers in re.findall(r"const (\w+): \[u32; \d+\] =\s*\[([^\]]*)\]", file.read()):
+            text = re.sub(r"//.*", "", file.read())
+            for name, numbers in re.findall(r"const (\w+): \[u32; \d+\] =\s*\[([^\]]*)\]", text):
                 found[name] = [int(number, 0) for number in numbers.replace("_", "").split(",") if number.strip()]
     return found
 
