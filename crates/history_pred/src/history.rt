@@ -82,7 +82,8 @@ impl History {
     /// A branch goes this way: its direction enters the history, and the oldest leaves it.
     pub fn shift(&mut self, taken: bool)
         ensures direction { self.new ≡ with_direction self.old taken }
-        ensures machine { InEach self.old (λ d. self.new ≡ record self.old { checkpoint = shifted d taken self.old.checkpoint }) }
+        ensures machine { InEach self.old
+            (λ d. self.new ≡ record self.old { checkpoint = shifted d taken self.old.checkpoint }) }
     {
         self.checkpoint.history = shifted(self.checkpoint.history, self.directions, taken);
     }
@@ -90,7 +91,8 @@ impl History {
     /// Pushes the address to which a call returns. Where the stack then has more than are kept, the oldest goes.
     pub fn push(&mut self, addr: u32)
         ensures address { self.new ≡ with_address self.old addr }
-        ensures machine { InEach self.old (λ d. self.new ≡ record self.old { checkpoint = pushed d addr self.old.checkpoint }) }
+        ensures machine { InEach self.old
+            (λ d. self.new ≡ record self.old { checkpoint = pushed d addr self.old.checkpoint }) }
     {
         self.checkpoint = pushed(&self.checkpoint, addr, self.returns);
     }

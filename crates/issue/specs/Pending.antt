@@ -28,13 +28,14 @@ older_here s p = older p.entry.now.serial s.lsq.now.stores
 abbrev pub stores_keep : Seen → Place → Bool
 stores_keep s p = if stores_in_one s.desc.now then not (list_all is_known (older_here s p)) else not (passes_here s p) && list_any lacks_address (older_here s p)
 
--- the entry in its place is kept whatever its operands are: a load by the older stores, a division by a divider that
+-- an entry of this kind is kept whatever its operands are: a load by the older stores, a division by a divider that
 -- isn't free
 abbrev pub kept_as : Kind → Seen → Place → Bool
 kept_as Load s p = stores_keep s p
 kept_as Div s p = not (is_free (around_of s))
 kept_as _ s p = false
 
+-- the entry in its place is kept whatever its operands are, by its kind
 abbrev pub is_kept : Seen → Place → Bool
 is_kept s p = kept_as p.entry.now.item.kind s p
 

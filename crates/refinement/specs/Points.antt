@@ -1,5 +1,5 @@
--- What the visibility point keeps between two moves, as the window changes (docs/architecture.md, "How they stand for
--- it").
+-- What the visibility point keeps between two moves, as the window changes (docs/architecture.md, "How the parts
+-- refine the window").
 use Rattle.std.specs.Prelude.{◌≡◌, ℕ, ◌<◌, true, false, List}
 use Rattle.std.specs.List.{All}
 use Rattle.window_model.specs.declared.Entry.{Entry}

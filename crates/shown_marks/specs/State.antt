@@ -1,5 +1,5 @@
--- What is looked at, when it stands for a machine, and an entry in its place (docs/architecture.md, "How they stand for
--- it").
+-- What is looked at, when it stands for a machine, and an entry in its place (docs/architecture.md, "How the parts
+-- refine the window").
 use Rattle.std.specs.Prelude.{◌≡◌, true, List, length, slice_get, Some}
 use Rattle.std.specs.List.{AllByRecursion as Each}
 use Rattle.machine_facts.specs.Sized.{HasParts, Together}
