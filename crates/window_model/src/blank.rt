@@ -48,7 +48,13 @@ impl Default for Entry {
     fn default() -> Self
         ensures { result ≡ record {
           serial = 0;
-          item = record { pc = 0; instr = instr.Illegal 0; kind = kind.Stop illegal; predicted = None; checkpoint = no_checkpoint };
+          item = record {
+            pc = 0;
+            instr = instr.Illegal 0;
+            kind = kind.Stop illegal;
+            predicted = None;
+            checkpoint = no_checkpoint;
+          };
           state = state.Done;
           outcome = None;
           resolved = false;
