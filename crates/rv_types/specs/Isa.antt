@@ -132,20 +132,29 @@ or_trap (Some cause) step = Traps cause
 abbrev pub loaded : Hart → Op → ℕ → ℕ
 loaded s op a = extend op (from_le (bytes_at s.ram a (size_of op)))
 
+-- a load, whose effect has the address: writes the value that memory has there
+abbrev pub load_step : Hart → Op → Option ℕ → Effect → Step
+load_step s op rd e =
+    or_trap (load_fault s.ram e.addr (size_of op)) (Goes (goes_to s rd (record e { value = loaded s op e.addr })) [])
+
+-- a store, whose effect has the address and the value: writes as many of its bytes as the operation says
+abbrev pub store_step : Hart → Op → Effect → Step
+store_step s op e =
+    let written = with_bytes s.ram e.addr (to_le (size_of op) e.stored) in
+    or_trap (store_fault s.ram e.addr (size_of op)) (Goes (record s { pc = e.next; ram = written }) [])
+
+-- any other that isn't a call, with the register that it writes: a jump goes to a multiple of 4 alone
+abbrev pub other_step : Hart → Option ℕ → Effect → Step
+other_step s rd e = if e.misaligned then Traps jump_misaligned else Goes (goes_to s rd e) []
+
 -- the step of an instruction: a trap changes nothing
 abbrev pub step_of : Hart → Instr → Step
-step_of s (Load op rd rs1 imm) =
-    let e = effect_in s (Load op rd rs1 imm) in
-    or_trap (load_fault s.ram e.addr (size_of op)) (Goes (goes_to s (unless_zero rd.number) (record e { value = loaded s op e.addr })) [])
-step_of s (Store op rs1 rs2 imm) =
-    let e = effect_in s (Store op rs1 rs2 imm) in
-    or_trap (store_fault s.ram e.addr (size_of op)) (Goes (record s { pc = e.next; ram = with_bytes s.ram e.addr (to_le (size_of op) e.stored) }) [])
+step_of s (Load op rd rs1 imm) = load_step s op (unless_zero rd.number) (effect_in s (Load op rd rs1 imm))
+step_of s (Store op rs1 rs2 imm) = store_step s op (effect_in s (Store op rs1 rs2 imm))
 step_of s Ecall = call s
 step_of s Ebreak = Traps breakpoint
 step_of s (Illegal w) = Traps illegal
-step_of s i =
-    let e = effect_in s i in
-    if e.misaligned then Traps jump_misaligned else Goes (goes_to s (writes_of i) e) []
+step_of s i = other_step s (writes_of i) (effect_in s i)
 
 -- the step of the word fetched; outside code it is a trap
 abbrev pub step_at : Option ℕ → Hart → Step
