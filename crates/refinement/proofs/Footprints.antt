@@ -130,7 +130,7 @@ footprint_woken t h2 ss b b2 e e2 v w =
     ∙ ap (λ l. footprint_by t l e) (look_woken t.hold h2 ss b b2 e v)
     ∙ ap (λ w. record (footprint_by t l e) { waiter = w }) (if_mapped (woken ss) (is_waiting e.state) (waiter_of t.version l.awaits e))
 
--- all in flight do
+-- the footprints of all entries in flight wake with those serials
 pub footprints_woken : (t : Terms) (h2 : Hold) (ss : List ℕ) (es es2 : List Entry) → AllZip (Wakes t.hold h2 ss) es es2 →
     each_from (footprint_of (record t { hold = h2 })) [] es2 ≡ map (wake ss) (each_from (footprint_of t) [] es)
 footprints_woken t h2 ss es es2 v =

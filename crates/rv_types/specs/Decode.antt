@@ -87,7 +87,7 @@ matches (Some m) n = n == m
 abbrev pub row : ℕ → Option ℕ → Option ℕ → (ℕ → Instr) → Row
 row opcode f3 f7 instr = record { opcode = opcode; funct3 = f3; funct7 = f7; instr = instr }
 
--- all instructions but ECALL and EBREAK, row by row
+-- the table of all instructions but ECALL and EBREAK
 abbrev pub table : List Row
 table =
     row 0b0110111 any any (λ w. Lui (rd w) (imm_u w))

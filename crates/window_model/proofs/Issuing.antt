@@ -150,7 +150,7 @@ load_comes Forwards d now e f v = Begins _ _ _ refl
 load_comes (Looks found ahead) d now e f v = Begins _ _ _ refl
 load_comes Waits d now e f v = Remains refl
 
--- an entry of any kind that is let begin remains as it is, or begins with an outcome
+-- as it begins, an entry of any kind remains as it is, or is busy with an outcome
 pub begin_comes : (k : Kind) (d : Desc) (now : Around) (b : List Entry) (e : Entry) → Comes e (begin_as k d now b e).entry
 begin_comes Load d now b e = load_comes (access_of d now b e) d now e _ _
 begin_comes _ d now b e = Begins _ _ _ refl
@@ -197,7 +197,7 @@ comes_goes : (e r : Entry) → Comes e r → Goes e r
 comes_goes e r (Remains q) = subst (Goes e) (sym q) (goes_same e)
 comes_goes e r (Begins cycle due o q) = subst (Goes e) (sym q) (record { item = refl; serial = refl; waits = λ h. absurd (cc) })
 
--- an entry that is let begin keeps its item and serial, and doesn't come to wait
+-- as it begins, an entry of any kind keeps its item and serial, and doesn't come to wait
 pub begin_goes : (k : Kind) (d : Desc) (now : Around) (b : List Entry) (e : Entry) → Goes e (begin_as k d now b e).entry
 begin_goes k d now b e = comes_goes e _ (begin_comes k d now b e)
 
