@@ -16,7 +16,7 @@ taught d p e = record {
   targets = (learn d e p.counters p.targets).targets;
 }
 
--- the events of that
+-- the events of what the predictor learns of an entry
 abbrev pub told : Desc → Tables → Entry → List Event
 told d p e = (learn d e p.counters p.targets).events
 

@@ -138,6 +138,7 @@ one_byte l ram m e b o st r le h = by_kind e.item.kind refl r
         ∙ store_byte m e b (byte_of ram b o) (subst (λ h. ComesTo e.outcome (known_of h (has_data e) (replayed_as Store m e))) c.address r) c.issued (λ t. c.datum (covered ∙ t)) le h
     by_kind _ q r = let n : is_store e.item.kind ≡ false = ap is_store q in byte_pick (finds l b e) ram b e o ∙ none_found (left_out l e) (covers b e) (byte_from b e) (byte_of ram b o) (rw n refl) ∙ h
 
+-- the n + 1 bytes from a place on are the byte there and the n bytes behind it
 pub slice_step : (bytes : List ℕ) (k n : ℕ) → k < length bytes → slice_range bytes k (k + suc n) ≡ get_or bytes k 0 ∷ slice_range bytes (k + 1) (k + 1 + n)
 slice_step bytes k n lt =
     let a : k + suc n - k ≡ suc n = omega arith in

@@ -41,6 +41,7 @@ stays_empty None [] d stored y more h = refl
 stays_empty (Some e) w d stored y more h = refl
 stays_empty None (e ∷ w) d stored y more h = absurd (cc)
 
+-- over an empty window Retire does nothing, however many turns it has
 pub turns_empty : (d : Desc) (n : ℕ) (stored : Bool) (y : Machine) → y.window ≡ [] → turns d n stored y ≡ stays y
 turns_empty d zero stored y h = refl
 turns_empty d (suc n) stored y h = stays_empty y.end y.window d stored y (turns d n) h

@@ -126,5 +126,6 @@ module _ (now : ℕ) (code : Code) (d : Desc) where
         registers = h.registers;
       }
 
+  -- Clear keeps a state consistent
   pub consistent_clear : (x : Machine) → ConsistentIn now d code x → ConsistentIn now d code (clear d x).machine
   consistent_clear = clear_spares d (ConsistentIn now d code) (λ x p t n h. kept x p t n h) (λ x p q t u n h. cut x p q t u n h)

@@ -55,10 +55,12 @@ complete_one d code s now cycle b e h st = by_due (completes_at cycle e.state) r
       link = refl;
     }
 
+-- Complete keeps a state consistent
 pub consistent_complete : (now : ℕ) (code : Code) (d : Desc) (x : Machine) → ConsistentIn now d code x → ConsistentIn now d code (complete x).machine
 consistent_complete now code d x h =
     subst (λ w. Holds d code (hart_of x) now w x.queue x.fetch_pc) (map_is_each (completed x.cycle) [] x.window)
     (each_holds d code (hart_of x) now now (λ b e. completed x.cycle e) (complete_one d code (bank_in (hart_of x)) now x.cycle) x.window x.queue x.fetch_pc h)
 
+-- Fill keeps a state consistent
 pub consistent_fill : (now : ℕ) (code : Code) (d : Desc) (x : Machine) → ConsistentIn now d code x → ConsistentIn now d code (fill d x).machine
 consistent_fill now code d x h = h

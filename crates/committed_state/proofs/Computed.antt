@@ -52,6 +52,7 @@ module _ (ram ram2 : Ram) (i : Instr) (p : SameShape ram ram2) where
   outcome_of Store f bytes bytes2 h = ap (outcome f 0) (same_fault store_misaligned store_outside ram ram2 f.addr (width_in i) p)
   outcome_of _ f bytes bytes2 h = refl
 
+  -- an instruction's outcome stays with its effect and, of a load without fault, with the bytes that it loads
   pub outcome_same : (k : Kind) (f f2 : Effect) (bytes bytes2 : List ℕ) → f2 ≡ f → (is_load k ≡ true → load_fault ram f.addr (width_in i) ≡ None → bytes2 ≡ bytes) → outcome_as k ram2 i f2 bytes2 ≡ outcome_as k ram i f bytes
   outcome_same k f f2 bytes bytes2 e h = ap (λ f. outcome_as k ram2 i f bytes2) e ∙ outcome_of k f bytes bytes2 h
 

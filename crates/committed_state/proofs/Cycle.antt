@@ -73,8 +73,10 @@ module _ (code : Code) (d : Desc) where
       let same = retire_cycle d y ∙ before_cycle d x in
       (committed_between x y z _ _ f (after_quiet d code z) r.committed, consistent_after z (subst (λ m. ConsistentIn m d code z) (sym same) r.holds))
 
+-- what a cycle retires is as many steps of the instruction set
 pub cycle_commits : CycleCommits
 cycle_commits d code x al h n = as_retired code x (cycle d code x).machine (cycle d code x).piece (cycle_does code d x al h n).0
 
+-- every cycle leads from a consistent state to a consistent one
 pub consistent_cycle : CycleKeeps
 consistent_cycle d code x al h n = (cycle_does code d x al h n).1

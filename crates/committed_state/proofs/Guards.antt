@@ -33,15 +33,19 @@ module _ (d : Desc) where
   abbrev P : Machine → Type 0
   P x = W x.window
 
+  -- Fill keeps that what has issued had untainted operands
   pub guarded_fill : (x : Machine) → W x.window → W (fill d x).machine.window
   guarded_fill x h = h
 
+  -- Complete keeps that what has issued had untainted operands
   pub guarded_complete : (x : Machine) → W x.window → W (complete x).machine.window
   guarded_complete x h = subst W (map_is_each (completed x.cycle) [] x.window) (each_on G Clears clears_same (guarded_on d.stt_model) (λ b e. completed x.cycle e) (λ b e u k. guarded_completed d.stt_model x.cycle b e k) [] [] x.window tt tt h)
 
+  -- Issue keeps that what has issued had untainted operands
   pub guarded_issue : (x : Machine) → W x.window → W (issue d x).machine.window
   guarded_issue x h = subst W (sym (map_each (λ (t : Begun). t.entry) (issue_entry d (around x)) [] x.window)) (each_on G Clears clears_same (guarded_on d.stt_model) (λ b e. (issue_entry d (around x) b e).entry) (λ b e u k. guarded_issued d.stt_model d (around x) refl b e k) [] [] x.window tt tt h)
 
+  -- Resolve keeps that what has issued had untainted operands
   pub guarded_resolve : (x : Machine) → W x.window → W (resolve d x).machine.window
   guarded_resolve = place_keep d W (along_front G []) (λ b e ys m h. resolved_on d.stt_model (reverse b) ys e m.done h)
 
@@ -49,6 +53,7 @@ module _ (d : Desc) where
   cleared_here : (x : Machine) (p : Place) → Cleared d x p → W x.window → W (reverse p.before ++ cleared_one p.entry ∷ p.younger)
   cleared_here x p t h = cleared_on d.stt_model (reverse p.before) p.younger p.entry (subst W t.window h)
 
+  -- Clear keeps that what has issued had untainted operands
   pub guarded_clear : (x : Machine) → W x.window → W (clear d x).machine.window
   guarded_clear =
       clear_keep d P cleared_here
@@ -56,12 +61,15 @@ module _ (d : Desc) where
       along_front G [] (reverse p.before ++ cleared_one p.entry ∷ reverse q.before) (q.entry ∷ q.younger)
       (subst W (sym (append_assoc (reverse p.before) (cleared_one p.entry ∷ reverse q.before) (q.entry ∷ q.younger))) (subst (λ ys. W (reverse p.before ++ cleared_one p.entry ∷ ys)) u.younger (cleared_here x p t h))))
 
+  -- Retire keeps that what has issued had untainted operands
   pub guarded_retire : (x : Machine) → W x.window → W (retire d x).machine.window
   guarded_retire = retire_keep d P (head_drops W (guarded_drops d.stt_model) d) (λ x end h. h)
 
+  -- Rename keeps that what has issued had untainted operands
   pub guarded_rename : (x : Machine) → W x.window → W (rename d x).machine.window
   guarded_rename = rename_keep d P (λ x i rest q f h. guarded_new d.stt_model d [] x.window x.next_serial i h)
 
+  -- Fetch keeps that what has issued had untainted operands
   pub guarded_fetch : (code : Code) (x : Machine) → W x.window → W (fetch d code x).machine.window
   guarded_fetch code = fetch_keep d P code (λ x pc q r h. h)
 

@@ -29,6 +29,7 @@ abbrev Numbered : ℕ → Machine → Type 0
 Numbered n x = x.cycle ≡ n
 
 module _ (d : Desc) where
+  -- the phases before Retire go in the cycle that has begun
   pub before_cycle : (x : Machine) → Numbered (x.cycle + 1) (at_retire d x)
   before_cycle x =
       let n = x.cycle + 1 in
@@ -45,16 +46,20 @@ module _ (d : Desc) where
   head_keeps n Store x e rest q h = h
   head_keeps n _ x e rest q h = h
 
+  -- Retire leaves the number of the cycle
   pub retire_cycle : (x : Machine) → Numbered x.cycle (retire d x).machine
   retire_cycle x = retire_keep d (Numbered x.cycle) (head_keeps x.cycle) (λ y end h. h) x refl
 
+  -- Issue leaves the number of the cycle
   pub issue_cycle : (x : Machine) → Numbered x.cycle (issue d x).machine
   issue_cycle x =
       by_after_load d x (λ y. (w : List Entry) (v : Divider) → Numbered x.cycle (record y { window = w; divider = v })) (λ c s m w v. refl)
       (first (may_at d (around x) LoadPort) x.window) (map (λ (b : Begun). b.entry) (each (issue_entry d (around x)) x.window)) (divider_after x (first (may_at d (around x) DivPort) x.window))
 
+  -- Rename leaves the number of the cycle
   pub rename_cycle : (x : Machine) → Numbered x.cycle (rename d x).machine
   rename_cycle x = rename_keep d (Numbered x.cycle) (λ y i rest q f h. h) x refl
 
+  -- Fetch leaves the number of the cycle
   pub fetch_cycle : (code : Code) (x : Machine) → Numbered x.cycle (fetch d code x).machine
   fetch_cycle code x = fetch_keep d (Numbered x.cycle) code (λ y pc q r h. h) x refl

@@ -122,6 +122,7 @@ module _ (now : ℕ) (code : Code) (d : Desc) where
         registers = h.registers;
       }
 
+  -- Rename keeps a state consistent
   pub consistent_rename : (x : Machine) → ConsistentIn now d code x → ConsistentIn now d code (rename d x).machine
   consistent_rename = rename_keep d (ConsistentIn now d code)
       (λ x i rest q f h. rename_holds (hart_of x) x.window i rest x.fetch_pc x.next_serial f (subst (λ q. Holds d code (hart_of x) now x.window q x.fetch_pc) q h))
@@ -151,5 +152,6 @@ module _ (now : ℕ) (code : Code) (d : Desc) where
       let made : IsItem code i = record { instr = refl; kind = refl; next = predicts (kind_at (code pc)) d x.targets x.checkpoint (guess (kind_at (code pc)) d x.counters x.checkpoint pc) i refl } in
       record { entries = h.entries; items = each_push (IsItem code) x.queue i h.items made; chain = chain_push (Some x.pc) x.window x.queue i c; registers = h.registers }
 
+  -- Fetch keeps a state consistent
   pub consistent_fetch : (x : Machine) → ConsistentIn now d code x → ConsistentIn now d code (fetch d code x).machine
   consistent_fetch = fetch_keep d (ConsistentIn now d code) code fetch_item

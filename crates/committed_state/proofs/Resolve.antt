@@ -115,5 +115,6 @@ module _ (now : ℕ) (code : Code) (d : Desc) where
       registers = h.registers;
     }
 
+  -- Resolve keeps a state consistent
   pub consistent_resolve : (x : Machine) → ConsistentIn now d code x → ConsistentIn now d code (resolve d x).machine
   consistent_resolve = resolve_keep d (ConsistentIn now d code) (λ x p t q h. cut x p t h) (λ x p t q h. kept x p t h q)

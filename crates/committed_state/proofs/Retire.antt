@@ -74,11 +74,13 @@ module _ (now : ℕ) (code : Code) (aligned : Aligned code) (d : Desc) where
         holds = h;
       }
 
+  -- what retires are steps of the instruction set, where the run hasn't ended
   pub retire_commits : (x : Machine) → ConsistentIn now d code x → x.end ≡ None → Retires now d code x (retire d x)
   retire_commits x h u =
       retire_by d Commits (λ n stored x s h u. no_turn now d code x h u)
       (λ n stored x e rest v q l t w more h u. by_call (is_call e.item.kind) n (stored || is_store e.item.kind) x e rest refl u (head_of x e rest q h) l t (is_cleared stored e w) more)
       (λ n stored x e rest c v q l t. traps n x e rest c q l t) x h u
 
+  -- Retire keeps a state consistent where the run hasn't ended
   pub consistent_retire : (x : Machine) → ConsistentIn now d code x → x.end ≡ None → ConsistentIn now d code (retire d x).machine
   consistent_retire x h u = (retire_commits x h u).holds

@@ -93,9 +93,11 @@ module _ (code : Code) (d : Desc) (aligned : Aligned code) where
       unended None q r = r
       unended (Some e) q r = absurd (cc)
 
+-- a run begins in a consistent state
 pub consistent_opening : (code : Code) (d : Desc) (entry : ℕ) (ram : Ram) → Consistent d code (opening d entry ram)
 consistent_opening code d entry ram = record { entries = tt; items = tt; chain = refl; registers = refl }
 
+-- what a run retires up to any cycle is as many steps of the instruction set
 pub run_commits : RunCommits
 run_commits d code entry ram k al = from_none code (start entry ram) (at d code entry ram k) (pieces d code k (opening d entry ram)) (run_from code d al k (opening d entry ram) (consistent_opening code d entry ram) refl).commits
 

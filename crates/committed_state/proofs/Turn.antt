@@ -56,6 +56,7 @@ hart_left s e c r h f = ap (hart_with s e) h ∙ ap (λ m. let t : Hart = record
 made : ℕ → Instr → Kind → Item → Item
 made pc i k t = record t { pc = pc; instr = i; kind = k }
 
+-- an item with this address and instruction, and the kind of that, is the item of both
 pub item_eq : (i : Item) (pc : ℕ) (j : Instr) → pc ≡ i.pc → i.instr ≡ j → i.kind ≡ kind_of j → i ≡ item_of pc j i
 unfolding made
 item_eq i pc j p a k = ap (λ n. made n i.instr i.kind i) (sym p) ∙ ap (λ u. made pc u i.kind i) a ∙ ap (λ u. made pc j u i) k
@@ -72,6 +73,7 @@ by_fault : (s : Hart) (p : Item) (i : _) (f : Option Cause) → at_once (item_of
 by_fault s p i None a h = head_goes s p i a h
 by_fault s p i (Some c) a h = head_traps s p i c a h
 
+-- the instruction set's step at the oldest entry is what its replay says, with or without fault
 pub step_as : (c : Option ℕ) (s : Hart) (e : Entry) → s.pc ≡ e.item.pc → e.item.instr ≡ instr_at c → e.item.kind ≡ kind_at c → at_once e.item.kind ≡ false →
     (f : Option Cause) → (replayed (bank_in s) e).fault ≡ f → step_at c s ≡ steps f (hart_after s e (replayed (bank_in s) e))
 step_as None s e q a k n f h = absurd (cc)
@@ -123,6 +125,7 @@ pub record Left (d : Desc) (code : Code) (s : Hart) (now : ℕ) (e : Entry) (res
   pub holds : Holds d code (head_hart s e) now rest queue fetch_pc
   pub step : isa_step code s ≡ Goes (head_hart s e) []
 
+-- the oldest entry, no call, without trap and cleared if it is a store, retires as one step of the instruction set
 pub head_leaves_so : (d : Desc) (code : Code) (s : Hart) (now : ℕ) (e : Entry) (rest : List Entry) (queue : List Item) (fetch_pc : Option ℕ) → Holds d code s now (e ∷ rest) queue fetch_pc → may_leave e ≡ true → trap_of e ≡ None → is_call e.item.kind ≡ false →
     (is_store e.item.kind ≡ true → e.cleared ≡ true) → Left d code s now e rest queue fetch_pc
 unfolding isa_step

@@ -30,9 +30,11 @@ use Rattle.core_cycle.proofs.Passing.{commits_after, kept_after, still_after}
 
 -- ---- fetching leaves the window as it is
 
+-- Fetch leaves the window as it is
 pub fetched_window : (d : Desc) (code : Code) (x : Machine) → (fetch d code x).machine.window ≡ x.window
 fetched_window d code x = fetch_keep d (λ y. y.window ≡ x.window) code (λ y pc q r k. k) x refl
 
+-- a point that has moved over a window has moved over the one that Fetch leaves
 pub fetched_advanced : (s s1 : Described) → s1 ≡ record s { machine = (fetch_of s).machine } → HasAdvanced s.point s.machine.window → HasAdvanced s1.point s1.machine.window
 fetched_advanced s s1 e a =
     subst (λ (s : Described). HasAdvanced s.point s.machine.window) (sym e) (subst (HasAdvanced s.point) (sym (fetched_window s.desc (word_at s.code) s.machine)) a)
@@ -94,12 +96,15 @@ module _ (s s1 s2 : Described) (p : Fronts s s1 s2) where
   fronted : phases_before s1 ≡ phases_before (starts s)
   fronted = ap phases_before p.begins
 
+  -- the phases before Retire leave the machine at which Retire begins
   pub machine_fronted : s2.machine ≡ at_retire s.desc s.machine
   machine_fronted = ap (λ (s : Described). s.machine) p.goes ∙ ap (λ (a : After). a.machine) fronted
 
+  -- until Retire the end is as it was
   pub end_stays : s2.machine.end ≡ s.machine.end
   end_stays = ap (λ (x : Machine). x.end) machine_fronted ∙ (before_quiet s.desc s.machine).ended
 
+  -- until Retire the count of the retired is as it was
   pub count_stays : s2.machine.retired ≡ s.machine.retired
   count_stays = ap (λ (x : Machine). x.retired) machine_fronted ∙ (before_quiet s.desc s.machine).retired
 
@@ -108,12 +113,15 @@ module _ (s s1 s2 : Described) (p : Fronts s s1 s2) where
 
   -- what Retire leaves of the machine, before the phases after it go
   module _ (s3 : Described) (q : Leaves s2 s3) where
+    -- the description is as it was once Retire has gone
     pub desc_left : s3.desc ≡ s.desc
     desc_left = ap (λ (s : Described). s.desc) q ∙ desc_fronted
 
+    -- the code is as it was once Retire has gone
     pub code_left : s3.code ≡ s.code
     code_left = ap (λ (s : Described). s.code) q ∙ code_fronted
 
+    -- the machine that Retire leaves in the cycle
     pub machine_left : s3.machine ≡ (retire s.desc (at_retire s.desc s.machine)).machine
     machine_left = ap (λ (s : Described). s.machine) q ∙ ap (λ (r : Retired). r.machine) retired
 
@@ -121,6 +129,7 @@ module _ (s s1 s2 : Described) (p : Fronts s s1 s2) where
     pub settled_left : Timely s.desc s.machine → Each WaitsOrDone s3.machine.window
     settled_left t = subst (λ (x : Machine). Each WaitsOrDone x.window) (sym machine_left) (none_busy s.desc s.machine t)
 
+    -- until Rename the next serial is as it was
     pub serial_stays : s3.machine.next_serial ≡ s.machine.next_serial
     serial_stays =
         let x = begins_cycle s.machine in
@@ -142,12 +151,15 @@ module _ (s s1 s2 : Described) (p : Fronts s s1 s2) where
           ∙ ap (λ code. after_retire s.desc (word_at code) s3.machine) code_left
           ∙ ap (after_retire s.desc (word_at s.code)) machine_left
 
+      -- a cycle leaves the description
       pub desc_backed : s4.desc ≡ s.desc
       desc_backed = ap (λ (s : Described). s.desc) k ∙ desc_left
 
+      -- a cycle leaves the code
       pub code_backed : s4.code ≡ s.code
       code_backed = ap (λ (s : Described). s.code) k ∙ code_left
 
+      -- the phases of a cycle leave the machine that the cycle leads to
       pub machine_is : s4.machine ≡ (cycle s.desc (word_at s.code) s.machine).machine
       machine_is = ap (λ (s : Described). s.machine) k ∙ ap (λ (a : After). a.machine) backed ∙ ap (λ (c : Cycled). c.machine) (whole s)
 

@@ -26,17 +26,20 @@ module _ (s s1 s2 s3 s4 s5 : Described) (e : Resolved s s1 s2 s3 s4 s5) where
   desc_is : s3.desc ≡ s.desc
   desc_is = ap (λ (t : Described). t.desc) e.moved ∙ ap (λ (t : Described). t.desc) e.completed ∙ ap (λ (t : Described). t.desc) e.filled
 
+  -- Resolve goes over the machine that Fill and Complete leave, wherever the point has moved
   pub resolves : resolve s3.desc s3.machine ≡ resolve s.desc (complete (fill s.desc s.machine).machine).machine
   resolves =
       let machine = ap (λ (t : Described). t.machine) e.moved ∙ ap (λ (t : Described). t.machine) e.completed ∙ ap (λ (a : After). a.machine) completes in
       ap₂ resolve desc_is machine
 
+  -- Clear goes over the machine that Fill, Complete and Resolve leave, wherever the point has moved
   pub clears : clear s5.desc s5.machine ≡ clear s.desc (resolve s.desc (complete (fill s.desc s.machine).machine).machine).machine
   clears =
       let desc = ap (λ (t : Described). t.desc) e.moved_again ∙ ap (λ (t : Described). t.desc) e.resolved ∙ desc_is in
       let machine = ap (λ (t : Described). t.machine) e.moved_again ∙ ap (λ (t : Described). t.machine) e.resolved ∙ ap (λ (a : After). a.machine) resolves in
       ap₂ clear desc machine
 
+  -- the machine that the phases before Retire leave, with a point that may have moved
   pub fronts_machine : (s6 s7 : Described) → s6 ≡ record s5 { machine = (clear s5.desc s5.machine).machine } → s7 ≡ record s6 { point = s7.point } →
       s7 ≡ record s { machine = (phases_before s).machine; point = s7.point }
   fronts_machine s6 s7 e6 e7 =
@@ -50,6 +53,7 @@ module _ (s s1 s2 s3 s4 s5 : Described) (e : Resolved s s1 s2 s3 s4 s5) where
       ∙ ap with_last e.completed
       ∙ ap with_last e.filled
 
+  -- the events that the phases before Retire add to the row, in their order
   pub fronts_row : (r r1 r2 r3 r4 : Row) → r1 ≡ with_events r (fill s.desc s.machine).events → r2 ≡ with_events r1 (complete s1.machine).events →
       r3 ≡ with_events r2 (resolve s3.desc s3.machine).events → r4 ≡ with_events r3 (clear s5.desc s5.machine).events → r4 ≡ with_events r (phases_before s).events
   fronts_row r r1 r2 r3 r4 q1 q2 q3 q4 =

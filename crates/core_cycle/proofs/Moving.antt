@@ -30,21 +30,25 @@ no_more old new es e same =
     nil_from_length es (omega (arith, n, m, same))
 
 module _ (p : Point) (x : Machine) (old new : Row) (same : length new.events ≡ length old.events) (a : HasAdvanced p x.window) where
+  -- a Complete without events leaves the point where it has moved over the window
   pub complete_silent : new ≡ record old { events = old.events ++ (complete x).events } → HasAdvanced p (complete x).machine.window
   complete_silent e =
       let stays = complete_nothing x (none_done x (no_more old new (complete x).events e same)) in
       subst (HasAdvanced p) (sym (ap (λ (b : After). b.machine.window) stays)) a
 
+  -- a Resolve without events leaves the point where it has moved over the window
   pub resolve_silent : (d : Desc) → new ≡ record old { events = old.events ++ (resolve d x).events } → HasAdvanced p (resolve d x).machine.window
   resolve_silent d e =
       let stays = resolve_nothing d x (none_resolves d x (no_more old new (resolve d x).events e same)) in
       subst (HasAdvanced p) (sym (ap (λ (b : After). b.machine.window) stays)) a
 
+  -- a Clear without events leaves the point where it has moved over the window
   pub clear_silent : (d : Desc) → new ≡ record old { events = old.events ++ (clear d x).events } → HasAdvanced p (clear d x).machine.window
   clear_silent d e =
       let stays = clear_nothing d x.cycle x (no_more old new (clear d x).events e same) in
       subst (HasAdvanced p) (sym (ap (λ (b : After). b.machine.window) stays)) a
 
+  -- a Rename without events leaves the point where it has moved over the window
   pub rename_silent : (d : Desc) → new ≡ record old { events = old.events ++ (rename d x).events } → HasAdvanced p (rename d x).machine.window
   rename_silent d e =
       let stays = rename_nothing d x.cycle x (no_more old new (rename d x).events e same) in
@@ -63,5 +67,6 @@ retire_goes_on h rob v w left m s a =
 
 -- ---- the core's point, once the machine is another
 
+-- a point that has moved over a machine's window has done so once the parts hold that machine
 pub described_advanced : (s s1 : Described) (x : Machine) → s1 ≡ record s { machine = x } → HasAdvanced s.point x.window → HasAdvanced s1.point s1.machine.window
 described_advanced s s1 x e a = subst (λ (s : Described). HasAdvanced s.point s.machine.window) (sym e) a

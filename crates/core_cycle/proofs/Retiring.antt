@@ -44,6 +44,7 @@ takes_by ram width (Some o) f s n = sym f ∙ n
 done_address : (e : Entry) → HasParts e → is_store e.item.kind ≡ true → is_done e.state ≡ true → has_address e ≡ true
 done_address e p s d = (both (has_address e) (has_data e) (p s ∙ ap not (done_waits e.state d))).0
 
+-- memory takes what each entry writes, where each fits memory and has its parts and outcome
 pub each_takes : (ram : Ram) (es : List Entry) → Each (FitsMemory ram) es → Each HasOutcome es → Each HasParts es → Each (TakesStore ram) es
 each_takes ram [] m o p = tt
 each_takes ram (e ∷ es) m o p =

@@ -26,6 +26,7 @@ all_below p s (e ∷ es) a le h =
     let t = All-head (λ e. e.serial < p.serial → passes p.model e ≡ true) e es h (omega (arith, l, le)) in
     ap₂ (λ a b. a && b) t (all_below p s es (All-tail (λ e. e.serial < s) e es a) le (All-tail (λ e. e.serial < p.serial → passes p.model e ≡ true) e es h))
 
+-- a point that tells each entry's visibility, and can move on from where it is, has moved over the window
 pub has_moved : (p : Point) (e : Entry) (es : List Entry) → IsPoint p (e ∷ es) → CanAdvance p (e ∷ es) → HasMoved p (e ∷ es)
 has_moved p e es i can = record {
   each = i;
@@ -40,6 +41,7 @@ has_moved p e es i can = record {
 
 -- ---- entries that go on, and pass exactly where they did
 
+-- two entries have one serial, and pass alike under the model
 abbrev pub Alike : SttModel → Entry → Entry → Type 0
 Alike model e f = (f.serial ≡ e.serial) × (passes model f ≡ passes model e)
 
@@ -71,6 +73,7 @@ alike_next model s [] (f ∷ es2) z = elim z [ ]
 alike_next model s (e ∷ es) [] z = elim z [ ]
 alike_next model s (e ∷ es) (f ∷ es2) z = ap (λ n. next_after (n + 1) es2) z.0.0 ∙ alike_next model (e.serial + 1) es es2 z.1
 
+-- a point that has moved over a window has moved over each one whose entries have these serials and pass alike
 pub alike_advanced : (p : Point) (w w2 : List Entry) → AllZip (Alike p.model) w w2 → HasAdvanced p w → HasAdvanced p w2
 alike_advanced p [] [] z a = tt
 alike_advanced p [] (f ∷ es2) z a = elim z [ ]

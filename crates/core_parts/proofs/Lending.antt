@@ -34,6 +34,7 @@ lent_names h v w s = subst (λ (v : Described). NamesWriters h.writes v.machine.
 pub lent_name_roots : (h : Held) (v : Described) → Whole h → described h ≡ v → NamesRoots v.machine.next_serial h.writes v.machine.window
 lent_name_roots h v w s = subst (λ (v : Described). NamesRoots v.machine.next_serial h.writes v.machine.window) s (λ r. names_root (in_flight h) r w.refines)
 
+-- the stations that are lent hold the entries that wait, with what their sources await
 pub lent_waiting : (h : Held) (v : Described) → Whole h → described h ≡ v → HoldsWaiting v.desc.version (hold_of v.desc v.point) h.stations v.machine.window
 lent_waiting h v w s = subst (λ (v : Described). HoldsWaiting v.desc.version (hold_of v.desc v.point) h.stations v.machine.window) s (holds_waiting (in_flight h) w.refines)
 
@@ -49,9 +50,11 @@ ready_by h w a i e b c = tells_ready h.desc (in_flight h) i e w.refines (held_by
 part_by : (h : Held) → Whole h → HasAdvanced h.point h.rob.entries → TellsPart h.desc h.stations h.rob.entries
 part_by h w a part i e b c = tells_part part h.desc (in_flight h) i e w.refines (held_by h w a) b c
 
+-- the stations that are lent tell who is ready, once the point has moved
 pub lent_ready : (h : Held) (v : Described) → Whole h → described h ≡ v → HasAdvanced v.point v.machine.window → TellsReady v.desc h.stations v.machine.window
 lent_ready h v w s = subst (λ (v : Described). HasAdvanced v.point v.machine.window → TellsReady v.desc h.stations v.machine.window) s (ready_by h w)
 
+-- the stations that are lent tell which part of a store is ready, once the point has moved
 pub lent_parts : (h : Held) (v : Described) → Whole h → described h ≡ v → HasAdvanced v.point v.machine.window → TellsPart v.desc h.stations v.machine.window
 lent_parts h v w s = subst (λ (v : Described). HasAdvanced v.point v.machine.window → TellsPart v.desc h.stations v.machine.window) s (part_by h w)
 
@@ -91,9 +94,11 @@ older_by p window a s e h below =
     let shown : nat_le e.serial p.serial ≡ true = tells_visible p window 0 e a h in
     grind (arith, nat_tests)
 
+-- once the point has moved, it tells which entries of the window are visible
 pub point_visible : (model : SttModel) (q p : Point) (window : List Entry) → q ≡ p → q.model ≡ model → HasAdvanced p window → TellsVisible model q window
 point_visible model q p window e m a = visible_by model q window m (subst (λ p. HasAdvanced p window) (sym e) a)
 
+-- once the point has moved, whatever is older than the window is visible by it
 pub point_older : (q p : Point) (window : List Entry) → q ≡ p → HasAdvanced p window → ShowsOlder q window
 point_older q p window e a = older_by q window (subst (λ p. HasAdvanced p window) (sym e) a)
 

@@ -118,6 +118,7 @@ pub record Sizes : Type 0 where
   pub alus : ℕ
   pub model : SttModel
 
+-- the sizes of what the parts hold
 abbrev pub sizes : Held → Sizes
 sizes h = record {
   entries = h.rob.room;

@@ -32,7 +32,7 @@ impl<R: RenameTaint> Parts<R> {
 
     /// The stations: they hold the entries that wait and what these want and await, as far as results are held back by
     /// the visibility point; and they tell which are ready, and of a store which part is, where the point has moved
-    /// over the window.
+    /// over the window. Kept for who looks at parts from outside.
     pub fn stations(&self) -> &Stations
         ensures waiting { HoldsWaiting self.now.desc.version (hold_of self.now.desc self.now.point) result.now
             self.now.machine.window }

@@ -26,6 +26,7 @@ drop_next [] i x h = absurd (cc)
 drop_next (y ∷ xs) zero x h = cc
 drop_next (y ∷ xs) (suc i) x h = drop_next xs i x h
 
+-- what is left from a place on is the item there, and what is left from the next place on
 pub drop_step : {A : Type 0} (xs : List A) (i n : ℕ) (x : A) → n ≡ i + 1 → slice_get xs i ≡ Some x → drop i xs ≡ x ∷ drop n xs
 drop_step xs i n x e h =
     let same : suc i ≡ n = omega (arith, e) in

@@ -94,5 +94,6 @@ all_left base [] m (mark ∷ marks) = refl
 all_left base (e ∷ window) m [] = refl
 all_left base (e ∷ window) m (mark ∷ marks) = refl
 
+-- where no entry leaves, the marks are as they were
 pub none_leaves : (base n : ℕ) (window : List Entry) (m : Marks) (marks : List EntryMarks) → n ≡ 0 → left base n window m marks ≡ m
 none_leaves base n window m marks none = ap (λ n. left base n window m marks) none ∙ all_left base window m marks

@@ -44,12 +44,15 @@ module _ (x : Machine) (m : Marks) where
       ap (λ (y : Entry). if is_call y.item.kind && call_shows x m then Some (shown_by y) else None) same
 
   module _ (window : List Entry) (e : Entry) (here : slice_get window 0 ≡ Some e) where
+    -- a call at the head that shows something marked is what shows of the head
     pub head_tells : (s : Shown) → (is_call e.item.kind && call_shows x m) ≡ true → s ≡ shown_by e → Some s ≡ head_shown window x m
     head_tells s q p = ap Some p ∙ ap (λ b. if b then Some (shown_by e) else None) (sym q) ∙ sym (head_on window e here)
 
+    -- nothing shows of a head that is no call, or whose call shows nothing marked
     pub head_silent : (is_call e.item.kind && call_shows x m) ≡ false → None ≡ head_shown window x m
     head_silent q = ap (λ b. if b then Some (shown_by e) else None) (sym q) ∙ sym (head_on window e here)
 
+  -- nothing shows of the head of an empty window
   pub no_head : (window : List Entry) → length window ≡ 0 → None ≡ head_shown window x m
   no_head [] h = refl
   no_head (y ∷ window) h = absurd (omega (arith, h))

@@ -94,6 +94,7 @@ turns_went : (d : Desc) (n : ℕ) (stored : Bool) (x : Machine) → Went x.windo
 turns_went d zero stored x = stayed _ _ refl
 turns_went d (suc n) stored x = running_went d (turns d n) (turns_went d n) x.end stored x
 
+-- the window that Retire leaves is the one before without its oldest entries, each of which may leave
 pub retire_went : (d : Desc) (x : Machine) → Went x.window (retire d x).machine.window
 unfolding retire
 retire_went d x = turns_went d d.core_retire_width false x

@@ -34,6 +34,7 @@ kept_mark false true g h = absurd (cc)
 kept_mark false false g h = refl
 
 module _ (cycle base : ℕ) (m : Marks) where
+  -- an entry that doesn't issue, whole or by a part, keeps its marks
   pub keeps : (before : List Entry) (marks : List EntryMarks) (e : Entry) (own : EntryMarks) →
       (is_at cycle e.issued || is_at (cycle + 1) e.data_due) ≡ false → issued_marks cycle base m before marks e own ≡ own
   keeps before marks e own h =

@@ -67,7 +67,7 @@ leads_on d from to (e ∷ w) (e2 ∷ w2) q (b ∷ ways) v h =
       subst (λ m. Leads d m w2 q ways to) (ap₂ (after_item d) (sym v.0.item) (sym (v.0.counts b))) rest,
     )
 
--- behind others
+-- entries that go on behind others lead to where they led
 pub leads_behind : (d : Desc) (from to : Checkpoint) (front w w2 : List Entry) (q : List Item) (ways : List Bool) → AllZip GoesOn w w2 → Leads d from (front ++ w) q ways to → Leads d from (front ++ w2) q ways to
 leads_behind d from to [] w w2 q ways v h = leads_on d from to w w2 q ways v h
 leads_behind d from to (e ∷ front) w w2 q [] v h = absurd h

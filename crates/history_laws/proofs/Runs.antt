@@ -54,7 +54,7 @@ module _ (d : Desc) (gone : List Entry) (ways : List Bool) (y z : Machine) (h : 
   fetched_left : Left d gone (take (length (gone ++ y.window) + length y.queue) ways ++ guesses d y.counters (drop (length y.queue) z.queue)) z
   fetched_left = subst (λ ways. Left d gone ways z) same fetched.left
 
--- nothing is fetched
+-- a step in which nothing is fetched
 none_fetched : (d : Desc) (gone : List Entry) (ways : List Bool) (y : Machine) → Left d gone ways y → Fetches d gone ways y y
 none_fetched d gone ways y h = record { items = []; queue = sym (append-nil y.queue); counters = refl; left = subst (λ ways. Left d gone ways y) (sym (append-nil ways)) h }
 

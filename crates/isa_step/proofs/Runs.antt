@@ -11,16 +11,19 @@ use Rattle.isa_step.specs.Outcome.{outcome}
 
 -- ---- A step by its outcome
 
+-- a step whose outcome is to go on leads to that state, with that piece
 pub goes : (s s' : Hart) (p : List ℕ) (step : Step) → record { hart = s'; piece = p; stepped = Next } ≡ outcome s step → step ≡ Goes s' p
 goes s s' p (Goes t q) e = let a = ap (λ o. o.hart) e in let b = ap (λ o. o.piece) e in cc
 goes s s' p (Exits v t) e = let a = ap (λ o. o.stepped) e in absurd (cc)
 goes s s' p (Traps cause) e = let a = ap (λ o. o.stepped) e in absurd (cc)
 
+-- a step whose outcome is an exit ends the run with that value and state, and puts nothing out
 pub exits : (s s' : Hart) (p : List ℕ) (v : ℕ) (step : Step) → record { hart = s'; piece = p; stepped = Exit v } ≡ outcome s step → (step ≡ Exits v s') × (p ≡ [])
 exits s s' p v (Goes t q) e = let a = ap (λ o. o.stepped) e in absurd (cc)
 exits s s' p v (Exits w t) e = let a = ap (λ o. o.stepped) e in let b = ap (λ o. o.hart) e in (cc, ap (λ o. o.piece) e)
 exits s s' p v (Traps cause) e = let a = ap (λ o. o.stepped) e in absurd (cc)
 
+-- a step whose outcome is a trap leaves the state, and puts nothing out
 pub traps : (s s' : Hart) (p : List ℕ) (c : Cause) (step : Step) → record { hart = s'; piece = p; stepped = Trap c } ≡ outcome s step → (step ≡ Traps c) × (s' ≡ s) × (p ≡ [])
 traps s s' p c (Goes t q) e = let a = ap (λ o. o.stepped) e in absurd (cc)
 traps s s' p c (Exits w t) e = let a = ap (λ o. o.stepped) e in absurd (cc)
@@ -69,6 +72,7 @@ ends_at code s n i h = let e : n - i ≡ 0 = omega arith in ap (isa code s) e
 
 -- ---- What is left of a run, behind so many steps of the whole
 
+-- the rest of a run leads to the last state, count of steps and end of the whole, behind so many steps
 pub record Rest (whole rest : Run) (done : ℕ) : Type 0 where
   pub last : rest.last ≡ whole.last
   pub steps : done + rest.steps ≡ whole.steps

@@ -13,6 +13,7 @@ between sets hit second miss false true true n l u h = inr (ltb-true hit second 
 between sets hit second miss false true false n l u h = absurd (cc)
 between sets hit second miss false false high n l u h = absurd (cc)
 
+-- every value of the type of descriptions meets all its ranges
 pub every_desc : (d : Desc) → IsDesc d
 every_desc d =
     let known : IsKnown d.version = (d.some_version, d.known_version) in

@@ -36,5 +36,6 @@ by_test n true power z p h = inl (eqb-true n 0 z)
 by_test n false true z p h = inr (power_from_test n p)
 by_test n false false z p h = absurd (cc)
 
+-- what passes the test for 0 or a power of two is 0 or a power of two
 pub zero_or_power_from_test : (n : ℕ) → IsTrue (n == 0 || is_power_of_two n) → IsZeroOrPower n
 zero_or_power_from_test n h = by_test n _ _ refl refl h

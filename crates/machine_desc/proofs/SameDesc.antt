@@ -196,5 +196,6 @@ same_desc d e h =
 same_ok : (c c' : Contents) (r : Result Contents DescFault) → r ≡ Ok c → r ≡ Ok c' → c ≡ c'
 same_ok c c' r h k = cc
 
+-- a text describes at most one description
 pub one_description : (bytes : List ℕ) (d e : Desc) → Describes bytes d → Describes bytes e → d ≡ e
 one_description bytes d e h k = same_desc d e (same_ok _ _ (description_of bytes) h k)

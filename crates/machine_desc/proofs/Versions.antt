@@ -35,6 +35,7 @@ by_first : (in_1 in_2 n : ℕ) (one : Bool) → in_1 ≤ in_2 → n ≤ (if one 
 by_first in_1 in_2 n true wider h = omega (arith, wider, h)
 by_first in_1 in_2 n false wider h = h
 
+-- a number within the range of its version is within that of the newest
 pub most_up_to : (in_1 in_2 version n : ℕ) → in_1 ≤ in_2 → n ≤ most in_1 in_2 version → n ≤ in_2
 most_up_to in_1 in_2 version n wider h = by_first in_1 in_2 n (version == 1) wider h
 

@@ -35,6 +35,7 @@ joined m n a c p q = let l = length-append a c in omega arith
 
 -- ---- lines arrive, entries become done
 
+-- Fill leaves cycle, next serial and count, and has at most one event for each miss
 pub fill_adds : (d : Desc) (x : Machine) → Adds (length x.misses) x (fill d x)
 fill_adds d x = record {
   events =
@@ -47,6 +48,7 @@ fill_adds d x = record {
   retired = refl;
 }
 
+-- Complete leaves cycle, next serial and count, and has at most one event for each entry
 pub complete_adds : (x : Machine) → Adds (length x.window) x (complete x)
 complete_adds x = record {
   events =
@@ -79,6 +81,7 @@ resolve_at_adds d (Some p) x =
     let a = place_adds d p x (squashes p.entry) l.counters l.targets in
     record { events = joined 2 1 l.events _ (learn_few p.entry.item.kind d p.entry x.counters x.targets) a.events; cycle = a.cycle; serials = a.serials; retired = a.retired }
 
+-- Resolve leaves cycle, next serial and count, and has at most three events
 pub resolve_adds : (d : Desc) (x : Machine) → Adds 3 x (resolve d x)
 resolve_adds d x = resolve_at_adds d (first (may_resolve d) x.window) x
 
@@ -103,6 +106,7 @@ head_turn _ d e rest x = record { cycle = refl; serials = refl; retired = omega 
 then_turns : (n : ℕ) (x : Machine) (r s : Retired) → Turns 1 x r → Turns n r.machine s → Turns (suc n) x (record { machine = s.machine; events = r.events ++ s.events; piece = r.piece ++ s.piece })
 then_turns n x r s p q = record { cycle = q.cycle ∙ p.cycle; serials = q.serials ∙ p.serials; retired = omega (arith, p.retired, q.retired) }
 
+-- Retire leaves cycle and next serial, and counts at most as many as its width
 pub retire_turns : (d : Desc) (x : Machine) → Turns d.core_retire_width x (retire d x)
 retire_turns d x =
     retire_by d (λ n stored x r. Turns n x r) (λ n stored x s. record { cycle = refl; serials = refl; retired = omega arith })

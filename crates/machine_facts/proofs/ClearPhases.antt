@@ -132,6 +132,7 @@ module _ (d : Desc) (x : Machine) (h : Timely d x) (p : Place) (t : Cleared d x 
     zero = h.zero;
   }
 
+-- Clear keeps that all that is under way ends in a later cycle
 pub timely_clear : (d : Desc) (x : Machine) → IsDesc d → Timely d x → Timely d (clear d x).machine
 timely_clear d x i = clear_keep d (Timely d) (λ x p t h. timely_clears d x h p t) (λ x p q t u h. timely_violates d x h p t q u) x
 
@@ -168,6 +169,7 @@ at_adds : (d : Desc) (o : Option Place) (x : Machine) → Adds 4 x (clear_at d o
 at_adds d None x = record { events = omega arith; cycle = refl; serials = refl; retired = refl }
 at_adds d (Some p) x = with_adds d p (violated_by p) x
 
+-- Clear leaves cycle, next serial and count, and has at most four events
 pub clear_adds : (d : Desc) (x : Machine) → Adds 4 x (clear d x)
 clear_adds d x = by_passing (loads_pass d)
   where

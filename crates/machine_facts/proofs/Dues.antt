@@ -119,6 +119,7 @@ module _ (d : Desc) (now : Around) (i : IsDesc d) (sets : length now.second ≡ 
   lines_soon _ (One line) = line_soon line
   lines_soon _ (Two low high l) = let p = line_soon low in let q = line_soon high in (omega (arith, p.0, q.0), omega (arith, p.1, q.1))
 
+  -- the lines that an entry's access looks up come soon, if it looks up any
   pub looks_soon : (b : List Entry) (e : Entry) → LooksSoon d now (access_of d now b e)
   looks_soon = by_load d now (LooksSoon d now) tt (λ a n some room. lines_soon (lines_of d a n) (lines_are d a n some)) (λ a n some r. tt) (λ c. tt)
 

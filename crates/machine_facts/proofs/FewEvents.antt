@@ -88,6 +88,7 @@ few_events d code x i s =
     small : (n m w r u f : ℕ) → n ≤ m + (w + 7) + (r + 2) + (u + 7 + (f + f)) → m ≤ 8 → w ≤ 192 → r ≤ 4 → u ≤ 4 → f ≤ 4 → n ≤ 232
     small n m w r u f h a b c e g = omega arith
 
+-- a cycle's number is one more than that of the cycle before
 pub cycle_number : (d : Desc) (code : Code) (x : Machine) → (cycle d code x).machine.cycle ≡ x.cycle + 1
 unfolding cycle
 cycle_number d code x =
@@ -96,6 +97,7 @@ cycle_number d code x =
     let z = (retire d y).machine in
     (after_adds d code z.end z).cycle ∙ (retire_turns d y).cycle ∙ (before_adds d x1).cycle
 
+-- a cycle keeps that at most four instructions a cycle were renamed, and at most four have retired
 pub counts_cycle : (d : Desc) (code : Code) (x : Machine) → IsDesc d → Counted x → Counted (cycle d code x).machine
 unfolding cycle
 counts_cycle d code x i h =
@@ -116,8 +118,10 @@ counts_cycle d code x i h =
     less : (y x z k yc zc kc xc w : ℕ) → yc ≡ xc + 1 → zc ≡ yc → kc ≡ zc → w ≤ 4 → x ≤ 4 * xc → y ≡ x → z ≤ y + w → k ≡ z → k ≤ 4 * kc
     less y x z k yc zc kc xc w a b c e f g h j = omega arith
 
+-- as a run begins nothing is renamed and nothing has retired
 pub counts_opening : (d : Desc) (entry : ℕ) (ram : Ram) → Counted (opening d entry ram)
 counts_opening d entry ram = record { serials = omega arith; retired = omega arith }
 
+-- in each state of a run at most four instructions a cycle were renamed, and at most four have retired
 pub counts_at : (d : Desc) (code : Code) (entry : ℕ) (ram : Ram) (k : ℕ) → IsDesc d → Counted (at d code entry ram k)
 counts_at d code entry ram k i = run_keep d Counted code (λ x. counts_cycle d code x i) k (opening d entry ram) (counts_opening d entry ram)

@@ -75,6 +75,7 @@ parts d x s = record {
   registers = s.registers;
 }
 
+-- a machine whose window, queue and tables have their sizes has its sizes
 pub whole : (d : Desc) (x : Machine) → Fits d x → Sized d x
 whole d x f = record {
   entries = f.window.entries;

@@ -155,6 +155,7 @@ issue_few d x =
     let i = issued_few d now [] x.window in
     omega arith
 
+-- Issue leaves cycle, next serial and count, and has at most seven events more than there are ALUs
 pub issue_adds : (d : Desc) (x : Machine) → Adds (d.units_alus + 7) x (issue d x)
 issue_adds d x =
     let few = issue_few d x in

@@ -44,6 +44,7 @@ use Rattle.window_model.proofs.Resolving.{resolved_one, resolved_goes}
 
 -- ---- the first state of a run
 
+-- a run begins with a machine of these sizes
 pub sized_opening : (d : Desc) (entry : ℕ) (ram : Ram) → IsDesc d → Sized d (opening d entry ram)
 sized_opening d entry ram i = whole d (opening d entry ram) (record {
   window = record { entries = omega arith; loads_fit = omega arith; stores_fit = omega arith; waiting_fit = omega arith; call_alone = λ h. omega arith };
@@ -59,11 +60,13 @@ sized_opening d entry ram i = whole d (opening d entry ram) (record {
 
 -- ---- the cycle begins, lines arrive, entries become done
 
+-- a machine keeps its sizes as a cycle begins
 pub sized_begin : (d : Desc) (x : Machine) → IsDesc d → Sized d x → Sized d (record x { cycle = x.cycle + 1 })
 sized_begin d x i s =
     let f = parts d x s in
     whole d (record x { cycle = x.cycle + 1 }) (record { window = f.window; entries = f.entries; queue = f.queue; predictor = f.predictor; cache = f.cache; second = f.second; misses = f.misses; dependence = f.dependence; registers = f.registers })
 
+-- a machine keeps its sizes over Fill
 pub sized_fill : (d : Desc) (x : Machine) → IsDesc d → Sized d x → Sized d (fill d x).machine
 sized_fill d x i s =
     let f = parts d x s in
@@ -93,6 +96,7 @@ complete_entry d ram cycle e h = by_due (completes cycle e) refl
     by_due false q = h
     by_due true q = record { kind = h.kind; memory = h.memory; outcome = h.outcome; parts = λ st. h.parts st ∙ ap not (not_waiting e.state cycle q); together = h.together }
 
+-- a machine keeps its sizes over Complete
 pub sized_complete : (d : Desc) (x : Machine) → IsDesc d → Sized d x → Sized d (complete x).machine
 sized_complete d x i s =
     let f = parts d x s in
@@ -115,6 +119,7 @@ module _ (d : Desc) where
   predictor_if true a c p q = p
   predictor_if false a c p q = q
 
+  -- what the predictor learns of an entry leaves its sizes and ranges
   pub learns_in : (k : Kind) (e : Entry) (c : List ℕ) (t : List (Option Target)) → PredictorFits d c t → PredictorFits d (learn_as k d e c t).counters (learn_as k d e c t).targets
   learns_in Branch e c t h = record { counters = length-set c _ _ ∙ h.counters; targets = h.targets }
   learns_in _ e c t h = predictor_if (is_faulty e) _ _ h (record { counters = h.counters; targets = length-set t _ _ ∙ h.targets })
@@ -162,6 +167,7 @@ module _ (d : Desc) where
       registers = f.registers;
     })
 
+-- a machine keeps its sizes over Resolve
 pub sized_resolve : (d : Desc) (x : Machine) → IsDesc d → Sized d x → Sized d (resolve d x).machine
 sized_resolve d x i = resolve_keep d (Sized d) (λ x p t q s. squashed d x (parts d x s) p t) (λ x p t q s. kept d x (parts d x s) p t) x
 
@@ -205,6 +211,7 @@ after_same d x o w v f e g =
     by_after_load d x (λ y. SharedFits d y.cache y.second y.misses → Sized d (record y { window = w; divider = v }))
     (λ cache second misses s. whole d _ (record { window = f; entries = e; queue = g.queue; predictor = g.predictor; cache = s.cache; second = s.second; misses = s.misses; dependence = g.dependence; registers = g.registers })) o s
 
+-- a machine keeps its sizes over Issue
 pub sized_issue : (d : Desc) (x : Machine) → IsDesc d → Sized d x → Sized d (issue d x).machine
 sized_issue d x i s =
     let f = parts d x s in
@@ -269,5 +276,6 @@ fetch_item d code x pc q r s =
       registers = f.registers;
     })
 
+-- a machine keeps its sizes over Fetch
 pub sized_fetch : (d : Desc) (code : Code) (x : Machine) → IsDesc d → Sized d x → Sized d (fetch d code x).machine
 sized_fetch d code x i s = fetch_keep d (Sized d) code (fetch_item d code) x s

@@ -103,8 +103,10 @@ module _ (d : Desc) (ram : Ram) where
   retire_lies : (x : Machine) → Lies d ram x → Lies d ram (retire d x).machine
   retire_lies = heads_keep d (Lies d ram) leaves ends
 
+-- a machine keeps its sizes over Retire
 pub sized_retire : (d : Desc) (x : Machine) → IsDesc d → Sized d x → Sized d (retire d x).machine
 sized_retire d x i s = (retire_lies d x.ram x (record { sized = s; shape = same_shape x.ram })).sized
 
+-- Retire leaves base and size of memory
 pub memory_stays_retire : (d : Desc) (x : Machine) → Sized d x → SameShape x.ram (retire d x).machine.ram
 memory_stays_retire d x s = (retire_lies d x.ram x (record { sized = s; shape = same_shape x.ram })).shape

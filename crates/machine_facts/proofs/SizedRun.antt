@@ -18,11 +18,13 @@ use Rattle.machine_facts.proofs.ClearPhases.{sized_clear}
 use Rattle.machine_facts.proofs.SizedRetire.{sized_retire, memory_stays_retire}
 use Rattle.window_model.proofs.Memory.{same_shape, shape_then}
 
+-- a machine keeps its sizes over a cycle
 pub sized_cycle : (d : Desc) (code : Code) (x : Machine) → IsDesc d → Sized d x → Sized d (cycle d code x).machine
 sized_cycle d code x i s =
     cycle_keep d (Sized d) code (λ x. sized_issue d x i) (λ x. sized_rename d x i) (λ x. sized_fetch d code x i) (λ x. sized_resolve d x i) (λ x. sized_clear d x i) (λ x. sized_retire d x i)
     (λ x. sized_begin d x i) (λ x. sized_fill d x i) (λ x. sized_complete d x i) x s
 
+-- every state of a run has its sizes
 pub sized_at : (d : Desc) (code : Code) (entry : ℕ) (ram : Ram) (k : ℕ) → IsDesc d → Sized d (at d code entry ram k)
 sized_at d code entry ram k i = run_keep d (Sized d) code (λ x. sized_cycle d code x i) k (opening d entry ram) (sized_opening d entry ram i)
 
@@ -36,6 +38,7 @@ sized_at_retire d x i s =
 
 -- ---- memory stays where it is
 
+-- a cycle leaves base and size of memory
 pub memory_stays_cycle : (d : Desc) (code : Code) (x : Machine) → IsDesc d → Sized d x → SameShape x.ram (cycle d code x).machine.ram
 memory_stays_cycle d code x i s =
     let y = at_retire d x in
@@ -50,6 +53,7 @@ record Lies (d : Desc) (ram : Ram) (x : Machine) : Type 0 where
   sized : Sized d x
   shape : SameShape ram x.ram
 
+-- base and size of memory stay all over a run
 pub memory_stays_at : (d : Desc) (code : Code) (entry : ℕ) (ram : Ram) (k : ℕ) → IsDesc d → SameShape ram (at d code entry ram k).ram
 memory_stays_at d code entry ram k i =
     (run_keep d (Lies d ram) code (λ x h. record { sized = sized_cycle d code x i h.sized; shape = shape_then ram x.ram (cycle d code x).machine.ram h.shape (memory_stays_cycle d code x i h.sized) }) k

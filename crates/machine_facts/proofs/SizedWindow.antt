@@ -20,6 +20,7 @@ use Rattle.machine_facts.proofs.Parts.{WindowFits}
 alone_still : (c2 c n2 n : ℕ) → c2 ≤ c → n2 ≤ n → (1 ≤ c → n ≤ 1) → 1 ≤ c2 → n2 ≤ 1
 alone_still c2 c n2 n h k f g = let e = f (omega arith) in omega arith
 
+-- a window with no more entries of any sort than one that fits fits as well
 pub thinner : (d : Desc) (w w2 : List Entry) → Thins w2 w → WindowFits d w → WindowFits d w2
 thinner d w w2 t h =
     let n = thins_length w2 w t in

@@ -37,6 +37,7 @@ use Rattle.window_model.proofs.Issuing.{by_after_load, issue_evolves}
 
 -- ---- the first state, and the next cycle
 
+-- as a run begins all that is under way ends in a later cycle
 pub timely_opening : (d : Desc) (entry : ℕ) (ram : Ram) → IsDesc d → Timely d (opening d entry ram)
 timely_opening d entry ram i = record { serials = omega arith; dues = tt; parts = tt; cleared = tt; misses = tt; lines = tt; divider = omega arith; fetches = λ h. absurd (cc); zero = refl }
 
@@ -56,6 +57,7 @@ timely_begin d x i h = record {
 
 -- ---- lines arrive, and entries become done
 
+-- behind Fill misses end in a later cycle, if before it they ended in this one at the earliest
 pub timely_fill : (past_misses past : ℕ) (d : Desc) (x : Machine) → IsDesc d → x.cycle ≡ past_misses + 1 → TimelyFrom past_misses past d x → TimelyFrom x.cycle past d (fill d x).machine
 timely_fill past_misses past d x i q h = record {
   serials = h.serials;
@@ -69,6 +71,7 @@ timely_fill past_misses past d x i q h = record {
   zero = h.zero;
 }
 
+-- behind Complete all that is under way ends in a later cycle, if before it entries ended in this one at the earliest
 pub timely_complete : (past : ℕ) (d : Desc) (x : Machine) → IsDesc d → x.cycle ≡ past + 1 → TimelyFrom x.cycle past d x → Timely d (complete x).machine
 timely_complete past d x i q h = record {
   serials = rises_on 0 x.next_serial x.window _ (map_evolves (completed x.cycle) (completed_goes x.cycle) x.window) h.serials;
@@ -155,6 +158,7 @@ module _ (d : Desc) where
       zero = h.zero;
     }
 
+-- Resolve keeps that all that is under way ends in a later cycle
 pub timely_resolve : (d : Desc) (x : Machine) → IsDesc d → Timely d x → Timely d (resolve d x).machine
 timely_resolve d x i = resolve_keep d (Timely d) (λ x p t q h. squashed d x h p t) (λ x p t q h. kept d x h p t) x
 

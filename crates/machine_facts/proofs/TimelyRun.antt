@@ -20,6 +20,7 @@ record Both (d : Desc) (x : Machine) : Type 0 where
   sized : Sized d x
   timely : Timely d x
 
+-- a cycle keeps that all that is under way ends in a later cycle
 pub timely_cycle : (d : Desc) (code : Code) (x : Machine) → IsDesc d → Sized d x → Timely d x → Timely d (cycle d code x).machine
 timely_cycle d code x i s h =
     let x1 : Machine = record x { cycle = x.cycle + 1 } in
@@ -32,6 +33,7 @@ timely_cycle d code x i s h =
     (λ x b. record { sized = sized_retire d x i b.sized; timely = timely_retire d x i b.timely }) x
     (record { sized = sized_complete d (fill d x1).machine i (sized_fill d x1 i (sized_begin d x i s)); timely = timely_complete x.cycle d (fill d x1).machine i refl arrived })).timely
 
+-- in each state of a run all that is under way ends in a later cycle
 pub timely_at : (d : Desc) (code : Code) (entry : ℕ) (ram : Ram) (k : ℕ) → IsDesc d → Timely d (at d code entry ram k)
 timely_at d code entry ram k i =
     (run_keep d (Both d) code (λ x b. record { sized = sized_cycle d code x i b.sized; timely = timely_cycle d code x i b.sized b.timely }) k

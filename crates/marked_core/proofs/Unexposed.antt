@@ -282,7 +282,7 @@ module _ (d : Desc) (code : Code) (x : Machine) (m : Marks) where
   abbrev found : Watched
   found = let l = to_clear d (begins_cycle x) m in watch_retire d l.machine l.marks
 
-  -- what Issue finds
+  -- Issue finds no exposed entry where nothing has shown up to Clear
   found_unexposed : shown_to_clear d (begins_cycle x) m ≡ None → Unexposed found.machine.window found.marks.window
   found_unexposed h =
       let r = to_resolve d (begins_cycle x) m in

@@ -36,11 +36,14 @@ none_passes p (n ∷ ms) h = at (p n) (none_passes p ms) h
 
 -- ---- the laws of freeing registers
 
+-- the register that is freed is the first whose line arrives
 pub due_first : ArrivesFirst
 due_first cycle misses m h = first_passes (is_due cycle) misses m h
 
+-- the registers that stay are one list, whether the first that is due is freed or not
 pub due_rest : LeavesTheRest
 due_rest cycle misses = others_stay (is_due cycle) misses
 
+-- where no register is due no line arrives, and all registers stay
 pub due_none : ArrivesNone
 due_none cycle misses h = none_passes (is_due cycle) misses h

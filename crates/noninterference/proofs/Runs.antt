@@ -114,6 +114,7 @@ module _ (d : Desc) (code : Code) (entry : ℕ) (m m2 : Ram) (total : ℕ) (agre
 abbrev with_end : List Row → Option End → ℕ → ℕ → Trace
 with_end rs e n c = record { rows = rs; end = e; retired = n; cycles = c }
 
+-- under a model that protects, each memory that agrees on the bytes that the path loads gives one trace
 pub same_trace : Noninterference
 same_trace d code entry m m2 n protected aligned agree =
     let x = opening d entry m in

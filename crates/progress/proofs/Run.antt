@@ -87,6 +87,7 @@ module _ (d : Desc) (code : Code) where
 pub measure_is_bounded : MeasureIsBounded
 measure_is_bounded d code entry ram k i = measure_at_most d (at d code entry ram k) i (timely_at d code entry ram k i)
 
+-- within the bound of cycles something retires, where the run hasn't ended
 pub retires_within_bound : RetiresWithinBound
 retires_within_bound d code entry ram k i a p =
     let x = at d code entry ram k in

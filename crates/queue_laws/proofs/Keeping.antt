@@ -95,6 +95,7 @@ split_by first old rest h k =
 
 -- ---- the laws
 
+-- the stores older than a serial are those that an entry with it looks back on
 pub older_stands : HoldsOlder
 older_stands q old rest serial s h k =
     reversed (filter (λ s. nat_lt s.serial serial) q.stores) old (stores_kept (λ n. nat_lt n serial) q.stores (old ++ rest) s.stores ∙ ap stores_in (split_by serial old rest h k))

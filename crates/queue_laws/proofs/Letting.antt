@@ -145,6 +145,7 @@ window_complete : (before : List Entry) → list_all (λ (s : Shown). is_some s.
 window_complete [] = refl
 window_complete (e ∷ before) = one_complete (is_store e.item.kind) (all_complete before) e (filter (λ (e : Entry). is_store e.item.kind) before) (window_complete before)
 
+-- older stores are all known where both parts of each have issued
 pub known_is : KnownAsComplete
 known_is ss before h = both_known ss ∙ ap (list_all (λ (s : Shown). is_some s.span && is_some s.stored)) h ∙ window_complete before
 
@@ -157,5 +158,6 @@ of_bytes model passes v down ss before bytes h t =
     sym (window_lets model passes bytes before (all_have ss before h)) ∙ ap₂ (all_let passes bytes) (sym t) (sym h) ∙ queue_lets passes bytes v ss
     ∙ ap (none_of passes (list_any lacks_address ss) (list_any (lacks_data_for bytes) ss)) (sym (hides_youngest v down (filter (λ s. not (is_some s.stored)) ss)))
 
+-- the queue lets a load go exactly where the machine does
 pub lets_are : LetsAsAsked
 lets_are model passes v down ss before fault a n h t = of_bytes model passes v down ss before (bytes_asked fault a n) h t

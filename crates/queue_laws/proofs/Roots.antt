@@ -56,5 +56,6 @@ any_tainted : (model : SttModel) (before : List Entry) → any (tainted_stores m
 any_tainted model [] = refl
 any_tainted model (e ∷ before) = any_one (is_store e.item.kind) (address_tainted model before e) (tainted_stores model before) (any_store_hidden model before) (any_tainted model before)
 
+-- the youngest root isn't visible where some older store has a tainted address
 pub hidden_is : HiddenAsTainted
 hidden_is model v down ss before h = hides_youngest v down ss ∙ ap any h ∙ any_tainted model before

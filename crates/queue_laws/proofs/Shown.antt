@@ -43,7 +43,7 @@ abbrev pub reaches_shown : ℕ → Option Area → Bool
 reaches_shown a None = false
 reaches_shown a (Some k) = not (is_some k.fault) && nat_le k.addr a && nat_lt a (k.addr + k.bytes)
 
--- as the outcome does
+-- an outcome reaches a byte where its access without fault has it
 reach_of : (a n : ℕ) (o : Option Outcome) → is_some o ≡ true → (not (is_some (fault_of o)) && nat_le (addr_of o) a && nat_lt a (addr_of o + n)) ≡ reaches a n o
 reach_of a n (Some o) h = refl
 reach_of a n None h = absurd (cc)

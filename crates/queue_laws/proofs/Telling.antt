@@ -127,12 +127,14 @@ some_found a (Some e) = refl
 
 -- ---- the laws
 
+-- a load that older stores let go finds its bytes in the queue and memory
 pub bytes_are : BytesAsLoaded
 bytes_are model passes ram ss before a zero h t = refl
 bytes_are model passes ram ss before a (suc n) h t =
     let p = byte_let model passes a (range (a + 1) n) before t in
     ap₂ (λ b bs. b ∷ bs) (ap (byte_or_memory ram a) (forwarded_is a ss before h p.0) ∙ byte_of_found ram a (find (covers a) before)) (bytes_are model passes ram ss before (a + 1) n h p.1)
 
+-- a load that older stores let go is told whether they cover all its bytes
 pub covered_is : CoveredAsAsked
 covered_is model passes ss before a zero h t = refl
 covered_is model passes ss before a (suc n) h t =

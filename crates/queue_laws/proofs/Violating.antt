@@ -175,6 +175,7 @@ computed q before younger store s k =
     (ap (λ ws. all_computed (stores_in before ++ (ws ++ stores_in younger))) (sym (store_alone store k)) ∙ ap all_computed (sym (stores_around before store younger))
     ∙ all_have q.stores (before ++ store ∷ younger) s.stores)
 
+-- the queue's oldest load that a store violates is the one that the machine finds
 pub violates : Violates
 violates q before younger store s t r k =
     by_own (λ o. option_and_then (λ s. violated s q.loads) o ≡ option_map (λ p. p.entry.serial) (first (λ between e. violates_entry store e) younger)) q before younger store s t r k

@@ -18,7 +18,7 @@ use Rattle.lsq.specs.Queues.{Queues}
 
 -- ---- what queue and window both show of a store
 
--- where a store writes
+-- where a store writes: its address, and how many bytes
 pub record Area : Type 0 where
   pub addr : ℕ
   pub bytes : ℕ
@@ -36,7 +36,7 @@ pub record Shown : Type 0 where
 abbrev pub area_of : Span → Area
 area_of k = record { addr = k.addr; bytes = bytes_in k.width; fault = k.fault }
 
--- of a store of the queue: so it holds none of which a part has issued and that lacks its outcome
+-- what is looked at of a store of the queue, none of which lacks its outcome once a part of it has issued
 abbrev pub shown_store : Store → Shown
 shown_store s = record { serial = s.serial; span = option_map area_of s.span; stored = s.stored; computed = true }
 
@@ -44,7 +44,7 @@ shown_store s = record { serial = s.serial; span = option_map area_of s.span; st
 abbrev pub area_in : Entry → Area
 area_in e = record { addr = addr_of e.outcome; bytes = byte_count e; fault = fault_of e.outcome }
 
--- of a store of the window
+-- what is looked at of a store of the window
 abbrev pub shown_entry : Entry → Shown
 shown_entry e = record {
   serial = e.serial;
@@ -111,11 +111,11 @@ pub record ShownClearing : Type 0 where
   pub known_from : Option ℕ
   pub cleared : Bool
 
--- of a store in the queue
+-- what is tracked of a store in the queue
 abbrev pub shown_cleared : Store → ShownClearing
 shown_cleared s = record { serial = s.serial; known_from = option_map (λ (k : Span). k.known_from) s.span; cleared = s.cleared }
 
--- of a store in the window
+-- what is tracked of a store in the window
 abbrev pub shown_clearing : Entry → ShownClearing
 shown_clearing e = record { serial = e.serial; known_from = e.addr_due; cleared = e.cleared }
 
@@ -135,11 +135,11 @@ pub record Told : Type 0 where
   pub known : Bool
   pub cleared : Bool
 
--- of a store in the queue
+-- what is told of a store in the queue
 abbrev pub told_of : StoreInfo → Told
 told_of i = record { serial = i.serial; known = i.known; cleared = i.cleared }
 
--- of a store in the window
+-- what is told of a store in the window
 abbrev pub told_in : Entry → Told
 told_in e = record { serial = e.serial; known = has_address e; cleared = e.cleared }
 
@@ -149,15 +149,15 @@ all_complete es = list_all (λ e. not (is_store e.item.kind) || has_address e &&
 
 -- ---- serials
 
--- all are older than this serial
+-- every entry of the list is older than this serial
 abbrev pub Older : ℕ → List Entry → Type 0
 Older serial es = All (λ e. e.serial < serial) es
 
--- none is
+-- no entry of the list is older than this serial
 abbrev pub NotOlder : ℕ → List Entry → Type 0
 NotOlder serial es = All (λ e. serial ≤ e.serial) es
 
--- none has this serial
+-- no entry of the list has this serial
 abbrev pub Others : ℕ → List Entry → Type 0
 Others serial es = All (λ e. e.serial ≢ serial) es
 
@@ -168,7 +168,7 @@ abbrev pub hides : (ℕ → Bool) → Option ℕ → Bool
 hides visible None = false
 hides visible (Some root) = not (visible root)
 
--- of each store among these entries, youngest first, whether its address is tainted
+-- whether the address of each store among these entries is tainted, youngest first
 abbrev pub tainted_stores : SttModel → List Entry → List Bool
 tainted_stores model [] = []
 tainted_stores model (e ∷ before) = if is_store e.item.kind then address_tainted model before e ∷ tainted_stores model before else tainted_stores model before

@@ -59,6 +59,7 @@ no_line_later n before cycle misses h l m = each_then _ _ (λ (r : Miss) k. not_
 abbrev pub NoneDone : ℕ → List Entry → Type 0
 NoneDone cycle window = Lacks (completes cycle) window
 
+-- where Complete has no event, no entry becomes Done
 pub none_done : (x : Machine) → (complete x).events ≡ [] → NoneDone x.cycle x.window
 none_done x h = none_left (completes x.cycle) x.window (map_empty (λ (e : Entry). event.Done e.serial) _ h)
 
@@ -67,6 +68,7 @@ stays_busy cycle [] h = refl
 stays_busy cycle (e ∷ es) h =
     ap (λ b. (if b then record e { state = Done } else e) ∷ map (completed cycle) es) h.0 ∙ ap (λ w. e ∷ w) (stays_busy cycle es h.1)
 
+-- where no entry becomes Done, Complete does nothing
 pub complete_nothing : (x : Machine) → NoneDone x.cycle x.window → complete x ≡ nothing x
 complete_nothing x h =
     let left : List Entry → List Entry → After = λ done window. record { machine = record x { window = window }; events = map (λ (e : Entry). event.Done e.serial) done } in
@@ -97,9 +99,11 @@ none_resolved : (d : Desc) (o : Option Place) (x : Machine) → (resolve_at d o 
 none_resolved d None x h = refl
 none_resolved d (Some p) x h = absurd (learns p.entry.item.kind d p.entry x.counters x.targets (both_empty (learn d p.entry x.counters x.targets).events _ h).0)
 
+-- where Resolve has no event, it finds no entry to resolve
 pub none_resolves : (d : Desc) (x : Machine) → (resolve d x).events ≡ [] → first (may_resolve d) x.window ≡ None
 none_resolves d x h = none_resolved d (first (may_resolve d) x.window) x h
 
+-- where Resolve finds no entry, it does nothing
 pub resolve_nothing : (d : Desc) (x : Machine) → first (may_resolve d) x.window ≡ None → resolve d x ≡ nothing x
 resolve_nothing d x h = ap (λ o. resolve_at d o x) h
 
@@ -115,6 +119,7 @@ none_cleared : (d : Desc) (c : ℕ) (o : Option Place) (x : Machine) → (clear_
 none_cleared d c None x h = refl
 none_cleared d c (Some p) x h = absurd (clear_tells d p (violated_by p) x h)
 
+-- where Clear has no event, it does nothing in any cycle
 pub clear_nothing : (d : Desc) (c : ℕ) (x : Machine) → (clear d x).events ≡ [] → clear d (at_cycle c x) ≡ nothing (at_cycle c x)
 clear_nothing d c x = by_passing (loads_pass d)
   where

@@ -24,10 +24,12 @@ lines_sooner m n cycle ms l h = All-weaker _ _ (λ (r : Miss) k. due_sooner m n 
 
 -- ---- a walk goes on, and the least is now m
 
+-- the entries up to a position aren't Done before cycle m, where those before it aren't before a later one
 pub entries_more : (m n cycle i : ℕ) (es : List Entry) (e : Entry) → i < length es → m ≤ n → All (λ e. NotDoneBefore n cycle e.state) (take i es) → NotDoneBefore m cycle (get_or es i e).state →
     All (λ e. NotDoneBefore m cycle e.state) (take (i + 1) es)
 entries_more m n cycle i es e l h p q = All-more (λ (e : Entry). NotDoneBefore m cycle e.state) es i e l (entries_sooner m n cycle (take i es) h p) q
 
+-- the lines up to a place don't come before cycle m, where those before it don't come before a later one
 pub lines_more : (m n cycle i : ℕ) (ms : List Miss) (r : Miss) → i < length ms → m ≤ n → All (λ r. NotDueBefore n cycle r.due) (take i ms) → NotDueBefore m cycle (get_or ms i r).due →
     All (λ r. NotDueBefore m cycle r.due) (take (i + 1) ms)
 lines_more m n cycle i ms r l h p q = All-more (λ (r : Miss). NotDueBefore m cycle r.due) ms i r l (lines_sooner m n cycle (take i ms) h p) q

@@ -42,6 +42,7 @@ none_begin d now before (e ∷ es) h =
     let s = both_empty (issue_entry d now before e).events (events_of d now (e ∷ before) es) h in
     (s.0, none_begin d now (e ∷ before) es s.1)
 
+-- where Issue has no event, no entry begins
 pub none_begins : (d : Desc) (x : Machine) → (issue d x).events ≡ [] → NoneBegins d (around x) [] x.window
 none_begins d x h = none_begin d (around x) [] x.window h
 
@@ -160,6 +161,7 @@ module _ (d : Desc) (x : Machine) where
   abbrev left : Machine → List Entry → Option Place → List Event → After
   left y window division events = record { machine = record y { window = window; divider = divider_after x division }; events = events }
 
+  -- where no entry begins, Issue does nothing
   pub issue_nothing : NoneBegins d now [] x.window → issue d x ≡ nothing x
   issue_nothing h =
       let y = after_load d (first (may_at d now LoadPort) x.window) x in

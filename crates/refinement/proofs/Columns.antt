@@ -9,7 +9,7 @@ use Rattle.std.specs.Option.{option_map, option_to_list}
 use Rattle.std.specs.Prelude.{if◌then◌else◌, map, slice_set, ◌==◌}
 use Rattle.refinement.specs.Footprint.{Footprint, column}
 
--- serials rise
+-- the serials of footprints rise
 abbrev pub Rises : List Footprint → Type 0
 Rises [] = Unit {0}
 Rises (k ∷ ks) = All (λ (d : Footprint). k.serial < d.serial) ks × Rises ks
@@ -28,7 +28,7 @@ module _ {T X : Type 0} (f : T → X) (g : Footprint → X) where
   taken (suc n) (x ∷ xs) [] h = absurd (cc)
   taken (suc n) (x ∷ xs) (k ∷ ks) h = let head : f x ≡ g k = cc in let tail : map f xs ≡ column (λ k. Some (g k)) ks = cc in ap₂ (λ y ys. y ∷ ys) head (taken n xs ks tail)
 
-  -- without the oldest
+  -- a part without its oldest item is the column without the oldest footprint
   pub dropped : (xs : List T) (k : Footprint) (ks : List Footprint) → map f xs ≡ column (λ k. Some (g k)) (k ∷ ks) → map f (drop 1 xs) ≡ column (λ k. Some (g k)) ks
   dropped [] k ks h = absurd (cc)
   dropped (x ∷ xs) k ks h = cc

@@ -20,10 +20,10 @@ use Rattle.refinement.proofs.Lists.{keeps_all, keeps_none, map_same, map_twice, 
 use Rattle.refinement.proofs.Serials.{goes_same}
 use Rattle.refinement.proofs.Waking.{Gives, Wakes, awaited_woken, gives_go, strike_each, woken, strike_nothing}
 use Rattle.refinement.proofs.Youngest.{root_without, unretired_in, unretired_out, unretired_roots, unretired_written}
-use Rattle.refinement.specs.Footprint.{Footprint, Found, StoreFootprint, Terms, footprint_by, footprint_of, load_footprint, look_back, store_footprint, unretired_sources, unretired_write, waiter_footprint}
+use Rattle.refinement.specs.Footprint.{Footprint, Found, StoreFootprint, Terms, footprint_by, footprint_of, load_footprint, look_back, store_footprint, unretired_sources, unretired_write}
 use Rattle.refinement.specs.Roots.{base_root, root_of_source, unretired, youngest_root}
 use Rattle.refinement.specs.Stations.{GoesOn}
-use Rattle.refinement.specs.Waiters.{Hold, Waiter, awaited, awaited_of, gives_at, write_of}
+use Rattle.refinement.specs.Waiters.{Hold, Waiter, awaited, awaited_of, gives_at, waiter_of, write_of}
 use Rattle.refinement.specs.Writers.{writer_of_source}
 
 -- ---- serials
@@ -66,7 +66,7 @@ writes_numbered t b es = each_has t (Numbered (λ (w : Write). w.serial) (λ k. 
 
 -- the waiter of an entry has its serial
 pub waiters_numbered : (t : Terms) (b es : List Entry) → Each (Numbered (λ (w : Waiter). w.serial) (λ k. k.waiter)) (each_from (footprint_of t) b es)
-waiters_numbered t b es = each_has t (Numbered (λ (w : Waiter). w.serial) (λ k. k.waiter)) (λ l e. if_numbered (λ (w : Waiter). w.serial) (is_waiting e.state) (waiter_footprint t l.awaits e)) b es
+waiters_numbered t b es = each_has t (Numbered (λ (w : Waiter). w.serial) (λ k. k.waiter)) (λ l e. if_numbered (λ (w : Waiter). w.serial) (is_waiting e.state) (waiter_of t.version l.awaits e)) b es
 
 -- the load of an entry has its serial
 pub loads_numbered : (t : Terms) (b es : List Entry) → Each (Numbered (λ (l : ShownLoad). l.serial) (λ k. k.load)) (each_from (footprint_of t) b es)
@@ -128,9 +128,9 @@ footprint_woken t h2 ss b b2 e e2 v w =
     ap (λ (i : Item). footprint_by t (record { roots = map (root_of_source b2) (two (reads_of i.instr)); writers = map (writer_of_source b2) (two (reads_of i.instr)); awaits = map (awaited h2 b2) (two (reads_of i.instr)) }) e2) w.gives.on.item
     ∙ w.same t (look_back h2 b2 e)
     ∙ ap (λ l. footprint_by t l e) (look_woken t.hold h2 ss b b2 e v)
-    ∙ ap (λ w. record (footprint_by t l e) { waiter = w }) (if_mapped (woken ss) (is_waiting e.state) (waiter_footprint t l.awaits e))
+    ∙ ap (λ w. record (footprint_by t l e) { waiter = w }) (if_mapped (woken ss) (is_waiting e.state) (waiter_of t.version l.awaits e))
 
--- all in flight do
+-- the footprints of all entries in flight wake with those serials
 pub footprints_woken : (t : Terms) (h2 : Hold) (ss : List ℕ) (es es2 : List Entry) → AllZip (Wakes t.hold h2 ss) es es2 →
     each_from (footprint_of (record t { hold = h2 })) [] es2 ≡ map (wake ss) (each_from (footprint_of t) [] es)
 footprints_woken t h2 ss es es2 v =

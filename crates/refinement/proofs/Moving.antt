@@ -32,7 +32,7 @@ Passes p e = e.serial < p.serial → passes p.model e ≡ true
 abbrev Unresolved : Entry → Type 0
 Unresolved e = is_waiting e.state ≡ true → e.resolved ≡ false
 
--- with nothing in flight
+-- the first point stands for the empty window
 pub point_opens : (model : SttModel) (next : ℕ) → PointStands (first_point model) next []
 point_opens model next = record {
   can = record { passed = All-nil (Passes (first_point model)); near = λ _. omega arith };
@@ -120,7 +120,7 @@ point_renames point next window e s is u =
     new_passes true g lt = let past = s.past g in absurd (omega (arith, past, is, lt))
     new_passes false g lt = all_passes point.model e g
 
--- the oldest retires
+-- the point stands for the window without its oldest entry
 pub point_retires : (point : Point) (next : ℕ) (window : List Entry) → PointStands point next window → PointStands point next (drop 1 window)
 point_retires point next [] s = s
 point_retires point next (e ∷ es) s = record {
@@ -174,17 +174,17 @@ point_issues point next window i e e2 s h w issued =
     let u = all_at Unresolved window i e s.unresolved h w in
     sets point next window i e e2 s h issued.on.serial (λ p. passes_issued point.model e e2 w u issued ∙ p) (λ w. issued.resolved ∙ u)
 
--- an entry becomes Done
+-- the point stands for the window once an entry is Done
 pub point_completes : (point : Point) (next : ℕ) (window : List Entry) (i : ℕ) (e : Entry) → PointStands point next window →
     slice_get window i ≡ Some e → PointStands point next (slice_set window i (record e { state = Done }))
 point_completes point next window i e s h = sets point next window i e (record e { state = Done }) s h refl (passes_done point.model e) (λ w. absurd (cc))
 
--- an entry is resolved
+-- the point stands for the window once an entry is resolved
 pub point_resolves : (point : Point) (next : ℕ) (window : List Entry) (i : ℕ) (e : Entry) → PointStands point next window →
     slice_get window i ≡ Some e → is_waiting e.state ≡ false → PointStands point next (slice_set window i (record e { resolved = true }))
 point_resolves point next window i e s h w = sets point next window i e (record e { resolved = true }) s h refl (passes_resolved point.model e) (λ v. absurd (cc))
 
--- an entry is cleared
+-- the point stands for the window once an entry is cleared
 pub point_clears : (point : Point) (next : ℕ) (window : List Entry) (i : ℕ) (e : Entry) → PointStands point next window →
     slice_get window i ≡ Some e → PointStands point next (slice_set window i (cleared_one e))
 point_clears point next window i e s h =
@@ -192,7 +192,7 @@ point_clears point next window i e s h =
 
 -- ---- a branch or JALR that isn't resolved, and a store that isn't cleared
 
--- neither is safe
+-- an entry that isn't settled isn't safe
 unsettled_as : (k : Kind) (e : Entry) → settled_as k e.resolved e.cleared ≡ false → safe_as k e ≡ false
 unsettled_as Branch e u = ap (λ r. r && not (is_faulty e)) u
 unsettled_as Jalr e u = ap (λ r. r && not (is_faulty e)) u

@@ -29,12 +29,12 @@ use Rattle.refinement.proofs.Moving.{point_clears, point_issues}
 use Rattle.refinement.proofs.Serials.{all_on, goes_same, oldest_on, rise_on}
 use Rattle.refinement.proofs.Stations.{station_place}
 use Rattle.refinement.proofs.Waking.{Gives}
-use Rattle.refinement.specs.Footprint.{Footprint, StoreFootprint, Terms, column, footprint_of, load_footprint, load_in, look_back, store_footprint, store_in, unretired_sources, unretired_write, waiter_footprint}
+use Rattle.refinement.specs.Footprint.{Footprint, StoreFootprint, Terms, column, footprint_of, load_footprint, load_in, look_back, store_footprint, store_in, unretired_sources, unretired_write}
 use Rattle.refinement.specs.Refines.{Columns, footprints, parts, terms}
 use Rattle.refinement.specs.Roots.{base_root, root_of_source, source_roots}
 use Rattle.refinement.specs.Stations.{GoesOn, left_held, station_of}
 use Rattle.refinement.specs.Steps.{ClearsAt, IssuesAt, with_cleared, with_issued}
-use Rattle.refinement.specs.Waiters.{Hold, Waiter, awaited, gives_at, oldest_of, waiter_in, wants_of}
+use Rattle.refinement.specs.Waiters.{Hold, Waiter, awaited, gives_at, oldest_of, waiter_in, waiter_of, wants_of}
 use Rattle.refinement.specs.Writers.{writer_of_source}
 use Rattle.refinement.specs.Noted as queues
 
@@ -214,6 +214,7 @@ loads_of_read : (b : Bool) (w : Width) (e : Entry) (q : Queues) →
 loads_of_read true w e q = refl
 loads_of_read false w e q = refl
 
+-- the parts go on to refine the window as an entry issues, whole or by a part
 pub refines_issued : IssuesAt
 refines_issued p i e e2 w s h waits issued on_so tracks_so =
     let t = terms p in
@@ -227,7 +228,7 @@ refines_issued p i e e2 w s h waits issued on_so tracks_so =
     let new = slice_set p.window i e2 in
     let go = zip_set GoesOn goes_same p.window i e e2 h on in
     let at : slice_get ks i ≡ Some k = each_at (footprint_of t) [] p.window i e h in
-    let x = waiter_footprint t (look_back t.hold b e).awaits e in
+    let x = waiter_of t.version (look_back t.hold b e).awaits e in
     let rises = footprint_rise t [] p.window s.rise in
     let noted = queues.noted w e2 p.queues in
     let reads = p.tracked && has_read e2 in
@@ -263,6 +264,7 @@ store_cleared t f root e true (Some x) h = let is : store_in t f x ≡ store_foo
 store_cleared t f root e false None h = refl
 store_cleared t f root e false (Some x) h = absurd (cc)
 
+-- the parts go on to refine the window as a store is cleared
 pub refines_cleared : ClearsAt
 refines_cleared p i e s h =
     let t = terms p in

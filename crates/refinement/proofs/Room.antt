@@ -30,7 +30,7 @@ few {X = X} field (k ∷ ks) = by_field (field k) (few field ks)
     by_field None h = omega (arith, h)
     by_field (Some x) h = omega (arith, h)
 
--- sources for each entry
+-- there are sources for each entry
 pub counts_sources : (p : InFlight) → Refines p → length p.sources ≡ length p.window
 counts_sources p s = as_many (unretired_sources (oldest_of p.next p.window)) (λ k. k.sources) p.sources (footprints p) s.columns.sources ∙ each_length (terms p) [] p.window
 

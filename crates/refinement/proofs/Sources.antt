@@ -34,7 +34,7 @@ sources_are p i e x s h k =
     some_same : (a b : Sources) → Some a ≡ Some b → a ≡ b
     some_same a b h = cc
 
--- all roots, by position
+-- the roots of the footprints, position by position
 roots_kept : (t : Terms) (b es : List Entry) → map (λ (x : Sources). x.roots) (column (λ k. Some k.sources) (each_from (footprint_of t) b es)) ≡ each_from source_roots b es
 roots_kept t b [] = refl
 roots_kept t b (e ∷ es) = ap (λ rs. source_roots b e ∷ rs) (roots_kept t (e ∷ b) es)

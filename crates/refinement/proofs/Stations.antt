@@ -11,12 +11,12 @@ use Rattle.window_model.specs.declared.Entry.{Entry}
 use Rattle.refinement.proofs.Columns.{column_at, place}
 use Rattle.refinement.proofs.Each.{each_at, each_take}
 use Rattle.refinement.proofs.Lists.{take_set}
-use Rattle.refinement.specs.Footprint.{Terms, column, footprint_of, look_back, waiter_footprint}
+use Rattle.refinement.specs.Footprint.{Terms, column, footprint_of, look_back}
 use Rattle.refinement.specs.InFlight.{InFlight, hold_in}
 use Rattle.refinement.specs.Refines.{Refines, footprints, terms}
 use Rattle.refinement.specs.Stations.{station_of}
 use Rattle.refinement.specs.Telling.{CountsStations, StationsOlder, StationsYounger, HoldsWaiters, HasStation}
-use Rattle.refinement.specs.Waiters.{waiter_in, waiter_of, waiters_from}
+use Rattle.refinement.specs.Waiters.{awaits_of, waiter_footprint, waiter_in, waiter_of, waiters_from}
 
 -- ---- stations
 
@@ -26,7 +26,7 @@ waiting_count t b [] = refl
 waiting_count t b (e ∷ es) = by_wait (is_waiting e.state) (waiting_count t (e ∷ b) es)
   where
     by_wait : (w : Bool) → length (column (λ k. k.waiter) (each_from (footprint_of t) (e ∷ b) es)) ≡ count (λ e. is_waiting e.state) es →
-        length (cons_option (if w then Some (waiter_footprint t (look_back t.hold b e).awaits e) else None) (column (λ k. k.waiter) (each_from (footprint_of t) (e ∷ b) es))) ≡ cond w 1 0 + count (λ e. is_waiting e.state) es
+        length (cons_option (if w then Some (waiter_of t.version (look_back t.hold b e).awaits e) else None) (column (λ k. k.waiter) (each_from (footprint_of t) (e ∷ b) es))) ≡ cond w 1 0 + count (λ e. is_waiting e.state) es
     by_wait true h = omega (arith, h)
     by_wait false h = omega (arith, h)
 
@@ -40,14 +40,9 @@ station_place t es i =
 -- the stations hold the entries that wait
 waiters_are : (t : Terms) (b es : List Entry) → column (λ k. k.waiter) (each_from (footprint_of t) b es) ≡ waiters_from t.version t.hold b es
 waiters_are t b [] = refl
-waiters_are t b (e ∷ es) = by_wait (is_waiting e.state) (waiters_are t (e ∷ b) es)
-  where
-    by_wait : (w : Bool) → column (λ k. k.waiter) (each_from (footprint_of t) (e ∷ b) es) ≡ waiters_from t.version t.hold (e ∷ b) es →
-        cons_option (if w then Some (waiter_of t.version t.hold b e) else None) (column (λ k. k.waiter) (each_from (footprint_of t) (e ∷ b) es))
-        ≡ (if w then waiter_of t.version t.hold b e ∷ waiters_from t.version t.hold (e ∷ b) es else waiters_from t.version t.hold (e ∷ b) es)
-    by_wait true h = ap (λ ws. waiter_of t.version t.hold b e ∷ ws) h
-    by_wait false h = h
+waiters_are t b (e ∷ es) = ap (λ ws. cons_option (waiter_footprint t.version (awaits_of t.hold b e) e) ws) (waiters_are t (e ∷ b) es)
 
+-- the stations are those of the entries that wait
 pub holds_waiting : HoldsWaiters
 holds_waiting p s = s.columns.waiters ∙ waiters_are (terms p) [] p.window
 
@@ -55,12 +50,12 @@ holds_waiting p s = s.columns.waiters ∙ waiters_are (terms p) [] p.window
 
 -- an entry that waits has its station
 pub has_station : (p : InFlight) (i : ℕ) (e : Entry) → Refines p → slice_get p.window i ≡ Some e → is_waiting e.state ≡ true →
-    option_map waiter_in (slice_get p.held (station_of i p.window)) ≡ Some (waiter_of p.version (hold_in p) (before_at p.window i) e)
+    option_map waiter_in (slice_get p.held (station_of i p.window)) ≡ Some (waiter_of p.version (awaits_of (hold_in p) (before_at p.window i) e) e)
 has_station p i e s h w =
     let t = terms p in
     let k = footprint_of t (before_at p.window i) e in
     sym (slice_get-map waiter_in p.held (station_of i p.window)) ∙ ap₂ slice_get s.columns.waiters (station_place t p.window i)
-    ∙ column_at waiter_in (λ k. k.waiter) (footprints p) i k (waiter_footprint t (look_back t.hold (before_at p.window i) e).awaits e) (each_at (footprint_of t) [] p.window i e h) (ap (λ b. if b then Some (waiter_footprint t (look_back t.hold (before_at p.window i) e).awaits e) else None) w)
+    ∙ column_at waiter_in (λ k. k.waiter) (footprints p) i k (waiter_of t.version (look_back t.hold (before_at p.window i) e).awaits e) (each_at (footprint_of t) [] p.window i e h) (ap (λ b. if b then Some (waiter_of t.version (look_back t.hold (before_at p.window i) e).awaits e) else None) w)
 
 some_within : {X Y : Type 0} (f : X → Y) (xs : List X) (i : ℕ) (y : Y) → option_map f (slice_get xs i) ≡ Some y → i < length xs
 some_within f [] i y h = absurd (cc)
@@ -74,6 +69,7 @@ station_within p i e s h w = some_within waiter_in p.held (station_of i p.window
 pub station_for : HasStation
 station_for p i e s h w = record { within = station_within p i e s h w; is = has_station p i e s h w }
 
+-- a walk from the oldest entry on counts the stations
 pub counts_stations : CountsStations
 counts_stations window i e h =
     ap (count_by (λ e. is_waiting e.state)) (take_more window i e (slice_get_within window i e h) ∙ ap (λ d. take i window ++ d ∷ []) (get_or_from_slice_get window i e e h))
@@ -83,6 +79,7 @@ counts_stations window i e h =
     by_wait true n = refl
     by_wait false n = omega arith
 
+-- what becomes of an entry changes no older one's station
 pub stations_older : StationsOlder
 stations_older window i m e le = ap (count_by (λ e. is_waiting e.state)) (take_set window i m e le)
 

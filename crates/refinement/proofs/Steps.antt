@@ -35,7 +35,7 @@ use Rattle.refinement.proofs.Table.{names_root, names_writer}
 use Rattle.refinement.proofs.Waking.{Wakes, given, held_woken, struck_given, wakes_done, wakes_moved, woken}
 use Rattle.refinement.proofs.Writers.{writer_place}
 use Rattle.refinement.proofs.Youngest.{unretired_all_twice, unretired_in, unretired_twice}
-use Rattle.refinement.specs.Footprint.{Footprint, StoreFootprint, Terms, column, footprint_of, load_footprint, load_in, look_back, store_footprint, store_in, unretired_sources, unretired_write, waiter_footprint}
+use Rattle.refinement.specs.Footprint.{Footprint, StoreFootprint, Terms, column, footprint_of, load_footprint, load_in, look_back, store_footprint, store_in, unretired_sources, unretired_write}
 use Rattle.refinement.specs.InFlight.{InFlight, hold_in}
 use Rattle.refinement.specs.Points.{PointStands}
 use Rattle.refinement.specs.Refines.{Columns, Parts, Refines, footprints, parts, terms}
@@ -43,9 +43,10 @@ use Rattle.refinement.specs.Roots.{base_root, root_of_source, source_roots, unre
 use Rattle.refinement.specs.Stations.{GoesOn, released, struck_each}
 use Rattle.refinement.specs.Steps.{CompletesAt, DropsFrom, OpensEmpty, PointMoves, PointStops, RenamesIn, ResolvesAt, RetiresHead, below_serial, queued, with_entry, without_head}
 use Rattle.refinement.specs.Telling.{source_by}
-use Rattle.refinement.specs.Waiters.{Hold, Waiter, gives_at, oldest_of, waiter_in, wants_of, write_of}
+use Rattle.refinement.specs.Waiters.{Hold, Waiter, gives_at, oldest_of, waiter_in, waiter_of, wants_of, write_of}
 use Rattle.refinement.specs.Writers.{named, serial_in, source_writers, writer_of_source}
 
+-- empty parts refine the empty window with which a run begins
 pub refines_empty : OpensEmpty
 refines_empty d = record {
   rise = λ i j e lt within. absurd (omega (arith, within));
@@ -104,6 +105,7 @@ fresh_store t root e a d c =
 fresh_load : (t : Terms) (e : Entry) → e.issued ≡ None → record { serial = e.serial; reading = if t.tracked then None else None } ≡ load_footprint t e
 fresh_load t e i = ap (λ (i : Option ℕ). record { serial = e.serial; reading = if t.tracked then option_map (λ cycle. record { area = area_in e; cycle = cycle }) i else None }) (sym i)
 
+-- the parts go on to refine the window as an entry is renamed
 pub refines_renamed : RenamesIn
 refines_renamed p e s awaits place h fresh rs ws aw =
     let t = terms p in
@@ -124,7 +126,7 @@ refines_renamed p e s awaits place h fresh rs ws aw =
       columns = subst (λ f. Columns t f (parts q) (footprints q)) (sym (oldest_push p.next p.window e is)) (subst (Columns t f (parts q)) (sym (each_join (footprint_of t) [] p.window (e ∷ []))) (record {
         sources = pushed (unretired_sources f) (λ k. Some k.sources) p.sources (Some s) ks k h.columns.sources (ap₂ (λ r w. Some (record { roots = r; writers = w })) own theirs);
         writes = pushed (unretired_write f) (λ k. k.write) p.writes (write_of e s.roots) ks k h.columns.writes write;
-        waiters = pushed_if waiter_in (λ k. k.waiter) (is_waiting e.state) p.held _ (waiter_footprint t (look_back t.hold (reverse p.window) e).awaits e) ks k h.columns.waiters
+        waiters = pushed_if waiter_in (λ k. k.waiter) (is_waiting e.state) p.held _ (waiter_of t.version (look_back t.hold (reverse p.window) e).awaits e) ks k h.columns.waiters
             (λ w. ap (λ a. record { serial = e.serial; awaits = a; wants = wants_of p.version e }) aw) refl;
         loads = ap (map (load_in t)) (loads_queued e.item.kind e.serial (base_root s.roots) p.queues)
             ∙ pushed_if (load_in t) (λ k. k.load) (is_load e.item.kind) p.queues.loads _ (load_footprint t e) ks k h.columns.loads (λ l. fresh_load t e fresh.unissued) refl;
@@ -170,6 +172,7 @@ wakes_on p point ss window s v at =
       point = at;
     }
 
+-- the parts go on to refine the window as an entry becomes Done
 pub refines_done : CompletesAt
 refines_done p i e s h n =
     let done : Entry = record e { state = Done } in
@@ -179,12 +182,14 @@ refines_done p i e s h n =
 wakes_same : (h : Hold) (e : Entry) → Wakes h h [] e e
 wakes_same h e = record { gives = gives_same h e; same = λ t l. refl }
 
+-- the parts go on to refine the window as an entry is resolved
 pub refines_resolved : ResolvesAt
 refines_resolved p i e s h w =
     let e2 : Entry = record e { resolved = true } in
     let wakes : Wakes (hold_in p) (hold_in p) [] e e2 = record { gives = record { on = record { serial = refl; item = refl }; gives = sym (or_false (gives_at (hold_in p) e)) }; same = λ t l. refl } in
     wakes_on p p.point [] (slice_set p.window i e2) s (zip_set (Wakes (hold_in p) (hold_in p) []) (wakes_same (hold_in p)) p.window i e e2 h wakes) (point_resolves p.point p.next p.window i e s.point h w)
 
+-- the parts go on to refine the window as the point moves over it
 pub refines_moved : PointMoves
 refines_moved p s =
     let moved = moved_over p.window p.point in
@@ -193,6 +198,7 @@ refines_moved p s =
     (wakes_moved (hold_in p) h2 p.window (record { holds = refl; on = point_moves_on p.point p.next p.window s.point s.rise }) s.rise)
     (point_advances p.point p.next p.window s.point s.rise s.next)
 
+-- the point stops at a branch or JALR that isn't resolved, and at a store that isn't cleared
 pub stops_at : PointStops
 stops_at p i e s h u = point_stops p.point p.next p.window i e s.point h u
 
@@ -221,6 +227,7 @@ footprints_first t first es r =
     let s = splits first es r in
     each_take (footprint_of t) [] es (length (below first es)) ∙ ap (each_from (footprint_of t) []) (ap (take (length (below first es))) s.whole ∙ take_first (below first es) s.gone)
 
+-- the parts go on to refine the window as all entries from a serial on are dropped
 pub refines_dropped : DropsFrom
 refines_dropped p first i e s h older l =
     let t = terms p in
@@ -297,7 +304,7 @@ holds_without t next p x es r b gives s =
       sources = dropped (unretired_sources n) (λ k. k.sources) p.sources k rest s.sources;
       writes = ap (map (unretired_write n)) (retired_is n p.writes have)
           ∙ filtered (unretired_write n) (λ k. k.write) (λ (w : Write). w.serial) (λ (w : Write). w.serial) (λ w. refl) (λ m. nat_lt n m) p.writes (k ∷ rest) (writes_numbered t [] (x ∷ es)) s.writes ∙ ap (column (λ k. k.write)) older;
-      waiters = s.waiters ∙ ap (λ b. cons_option (if b then Some (waiter_footprint t (look_back t.hold [] x).awaits x) else None) (column (λ k. k.waiter) rest)) (done_waits x.state done.1);
+      waiters = s.waiters ∙ ap (λ b. cons_option (if b then Some (waiter_of t.version (look_back t.hold [] x).awaits x) else None) (column (λ k. k.waiter) rest)) (done_waits x.state done.1);
       loads = filtered (load_in t) (λ k. k.load) (λ (l : QueuedLoad). l.serial) (λ (l : ShownLoad). l.serial) (λ w. refl) (λ m. not (m == n)) p.queues.loads (k ∷ rest) (loads_numbered t [] (x ∷ es)) s.loads ∙ ap (column (λ k. k.load)) cut;
       stores = filtered (store_in t n) (λ k. k.store) (λ (s : QueuedStore). s.serial) (λ (s : StoreFootprint). s.serial) (λ w. refl) (λ m. not (m == n)) p.queues.stores (k ∷ rest) (stores_numbered t [] (x ∷ es)) s.stores ∙ ap (column (λ k. k.store)) cut;
     }))
@@ -311,6 +318,7 @@ holds_without t next p x es r b gives s =
         let rest = filter (λ (k : Footprint). p k.serial) (each_from (footprint_of t) (x ∷ []) es) in
         ap (λ b. cond b (footprint_of t [] x ∷ rest) rest) h ∙ footprint_pass t p (x ∷ []) es a
 
+-- the parts go on to refine the window as its oldest entry retires
 pub refines_retired : RetiresHead
 refines_retired p head s h d = by_window p.window s.rise s.next s.columns (point_retires p.point p.next p.window s.point) h
   where

@@ -43,6 +43,7 @@ along_at P before [] i e k h = absurd (cc)
 along_at P before (x ∷ es) zero e k h = let a : x ≡ e = cc in subst (P before) a k.0
 along_at P before (x ∷ es) (suc i) e k h = along_at P (x ∷ before) es i e k.1 h
 
+-- a point that has moved over a window tells which of its entries are visible
 pub tells_visible : TellsVisible
 tells_visible point [] i e m h = absurd (cc)
 tells_visible point (x ∷ es) i e m h = along_at (Tells point) [] (x ∷ es) i e m.each h

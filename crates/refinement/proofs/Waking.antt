@@ -16,9 +16,9 @@ use Rattle.window_model.specs.declared.Item.{Item}
 use Rattle.window_model.specs.declared.Progress.TheVariants.{Done}
 use Rattle.refinement.proofs.Lists.{map_same, map_twice, map_id}
 use Rattle.refinement.proofs.Serials.{goes_same}
-use Rattle.refinement.specs.Footprint.{Found, Terms, footprint_by, waiter_footprint}
+use Rattle.refinement.specs.Footprint.{Found, Terms, footprint_by}
 use Rattle.refinement.specs.Stations.{GoesOn, MovesOn, released, struck_each, struck_if_given}
-use Rattle.refinement.specs.Waiters.{Hold, Waiter, awaited, awaited_of, gives_at, waiter_in}
+use Rattle.refinement.specs.Waiters.{Hold, Waiter, awaited, awaited_of, gives_at, waiter_in, waiter_of}
 
 -- ---- serials that are struck
 
@@ -154,7 +154,7 @@ wakes_done h es i e r k w =
         on = record { serial = refl; item = refl };
         gives = done_gives (not (h.holds && is_load e.item.kind && not (nat_le e.serial h.point))) (is_done e.state) e.serial;
       };
-      same = λ t l. ap (λ b. record (footprint_by t l e) { waiter = if b then Some (waiter_footprint t l.awaits e) else None }) (sym w);
+      same = λ t l. ap (λ b. record (footprint_by t l e) { waiter = if b then Some (waiter_of t.version l.awaits e) else None }) (sym w);
     })
     (λ d f. record {
       gives = record { on = goes_same d; gives = other_gives (gives_at h e2) (gives_at h d) d.serial e.serial f };

@@ -71,7 +71,7 @@ unretired_twice f g (Some s) le = by_f (nat_le f s) refl
     by_f true e = refl
     by_f false e = let t : nat_le g s ≡ false = grind (arith, nat_tests) in ap (λ b. if b then Some s else None) (sym t)
 
--- several serials, told twice
+-- serials of which those that have retired are taken off twice
 pub unretired_all_twice : (f g : ℕ) (os : List (Option ℕ)) → f ≤ g → map (unretired g) (map (unretired f) os) ≡ map (unretired g) os
 unretired_all_twice f g [] le = refl
 unretired_all_twice f g (o ∷ os) le = ap₂ (λ o os. o ∷ os) (unretired_twice f g o le) (unretired_all_twice f g os le)

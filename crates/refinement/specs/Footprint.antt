@@ -5,7 +5,7 @@ use Rattle.std.specs.Prelude.{ℕ, Bool, true, not, ◌&&◌, ◌||◌, List, []
 use Rattle.std.specs.List.{cons_option}
 use Rattle.std.specs.Option.{option_map}
 use Rattle.window_model.specs.declared.Entry.{Entry}
-use Rattle.window_model.specs.Order.{has_address, has_data, is_load, is_store, is_waiting}
+use Rattle.window_model.specs.Order.{has_address, has_data, is_load, is_store}
 use Rattle.window_model.specs.Retire.{stored_of}
 use Rattle.rename_taint.specs.declared.Write.{Write}
 use Rattle.rob_ring.specs.declared.beside.Sources.{Sources}
@@ -14,7 +14,7 @@ use Rattle.lsq.specs.declared.store.Span.{Span}
 use Rattle.lsq.specs.declared.store.Store.{Store}
 use Rattle.queue_laws.specs.Window.{Area, ShownLoad, area_in, area_of, reading_of, shown_reader}
 use Rattle.refinement.specs.Roots.{base_root, source_roots, unretired}
-use Rattle.refinement.specs.Waiters.{Hold, Waiter, awaits_of, wants_of, write_of}
+use Rattle.refinement.specs.Waiters.{Hold, Waiter, awaits_of, waiter_footprint, write_of}
 use Rattle.refinement.specs.Writers.{source_writers}
 
 -- ---- what an entry looks back on
@@ -60,10 +60,6 @@ pub record Terms : Type 0 where
   pub hold : Hold
   pub tracked : Bool
 
--- the station of an entry that waits
-abbrev pub waiter_footprint : Terms → List (Option ℕ) → Entry → Waiter
-waiter_footprint t awaits e = record { serial = e.serial; awaits = awaits; wants = wants_of t.version e }
-
 -- what the queue holds of a load
 abbrev pub load_footprint : Terms → Entry → ShownLoad
 load_footprint t e = record { serial = e.serial; reading = if t.tracked then (shown_reader e).reading else None }
@@ -86,7 +82,7 @@ footprint_by t l e = record {
   serial = e.serial;
   sources = record { roots = l.roots; writers = l.writers };
   write = write_of e l.roots;
-  waiter = if is_waiting e.state then Some (waiter_footprint t l.awaits e) else None;
+  waiter = waiter_footprint t.version l.awaits e;
   load = if is_load e.item.kind then Some (load_footprint t e) else None;
   store = if is_store e.item.kind then Some (store_footprint t (base_root l.roots) e) else None;
 }

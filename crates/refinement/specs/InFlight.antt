@@ -32,6 +32,6 @@ pub record InFlight : Type 0 where
   -- how far entries are visible
   pub point : Point
 
--- what holds results back
+-- what holds results back: whether they are, and up to which serial entries are visible
 abbrev pub hold_in : InFlight → Hold
 hold_in p = record { holds = p.holds; point = p.point.serial }

@@ -24,7 +24,7 @@ use Rattle.visibility.specs.Point.{Point, HasAdvanced, is_hidden}
 use Rattle.refinement.specs.InFlight.{InFlight, hold_in}
 use Rattle.refinement.specs.Refines.{Refines}
 use Rattle.refinement.specs.Roots.{youngest_root, unretired}
-use Rattle.refinement.specs.Waiters.{Hold, awaited, awaited_of, gives_at, oldest_of, waiter_in, waiter_of, waiters_from, wants_of}
+use Rattle.refinement.specs.Waiters.{Hold, awaited, awaited_of, awaits_of, gives_at, oldest_of, waiter_in, waiter_of, waiters_from, wants_of}
 use Rattle.refinement.specs.Writers.{in_flight, writer_of}
 use Rattle.refinement.specs.Stations.{station_of}
 
@@ -91,7 +91,7 @@ HoldsWaiters = (p : InFlight) → Refines p → map waiter_in p.held ≡ waiters
 -- an entry's station is where the older ones that wait are counted, with what its sources await
 pub record StationFor (p : InFlight) (i : ℕ) (e : Entry) : Type 0 where
   pub within : station_of i p.window < length p.held
-  pub is : option_map waiter_in (slice_get p.held (station_of i p.window)) ≡ Some (waiter_of p.version (hold_in p) (before_at p.window i) e)
+  pub is : option_map waiter_in (slice_get p.held (station_of i p.window)) ≡ Some (waiter_of p.version (awaits_of (hold_in p) (before_at p.window i) e) e)
 
 -- an entry that waits has its station
 abbrev pub HasStation : Type 0

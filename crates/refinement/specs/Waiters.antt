@@ -1,6 +1,7 @@
 -- What holds results back, and what an entry that waits awaits and wants (docs/machine.md, "Issue"). `before` is always
 -- a list of the older entries, youngest first.
 use Rattle.std.specs.Prelude.{ℕ, Bool, true, false, not, ◌&&◌, ◌==◌, nat_le, List, [], ◌∷◌, map, Option, Some, None, if◌then◌else◌}
+use Rattle.std.specs.List.{cons_option}
 use Rattle.std.specs.Option.{option_map}
 use Rattle.rv_types.specs.Regs.{two, writes_of}
 use Rattle.window_model.specs.declared.Entry.{Entry}
@@ -70,12 +71,15 @@ pub record Waiter : Type 0 where
 abbrev pub waiter_in : Station → Waiter
 waiter_in s = record { serial = s.serial; awaits = s.awaits; wants = s.wants }
 
--- the station that an entry is to have
-abbrev pub waiter_of : ℕ → Hold → List Entry → Entry → Waiter
-waiter_of version h before e = record { serial = e.serial; awaits = awaits_of h before e; wants = wants_of version e }
+-- the station that an entry is to have, by what its sources await
+abbrev pub waiter_of : ℕ → List (Option ℕ) → Entry → Waiter
+waiter_of version awaits e = record { serial = e.serial; awaits = awaits; wants = wants_of version e }
 
--- the stations of the entries that wait, where the older ones are `before`
+-- what an entry leaves in the stations: its own, if it waits
+abbrev pub waiter_footprint : ℕ → List (Option ℕ) → Entry → Option Waiter
+waiter_footprint version awaits e = if is_waiting e.state then Some (waiter_of version awaits e) else None
+
+-- what the entries of a list leave in the stations, where the older ones are `before`
 abbrev pub waiters_from : ℕ → Hold → List Entry → List Entry → List Waiter
 waiters_from version h before [] = []
-waiters_from version h before (e ∷ es) =
-    if is_waiting e.state then waiter_of version h before e ∷ waiters_from version h (e ∷ before) es else waiters_from version h (e ∷ before) es
+waiters_from version h before (e ∷ es) = cons_option (waiter_footprint version (awaits_of h before e) e) (waiters_from version h (e ∷ before) es)

@@ -19,6 +19,7 @@ module _ (p : Entry → Bool) (es : List Entry) (P : ℕ → Type 0) (step : (k 
       let e = told_at p false es i (omega (arith, lt, le)) (none i (omega arith) lt) in
       over (i + 1) n j (omega (arith, same)) le (λ k low high. none k (omega (arith, low)) high) (step i e.0 e.1 e.2 h)
 
+  -- what entries that don't pass the test leave as it is holds at the next entry that does, if it holds before
   pub to_next : (i j : ℕ) → IsNext p es i j → P i → P j
   to_next i j next h =
       let low = next.low in

@@ -89,14 +89,15 @@ impl RobRing {
         let _ = self.items.try_push_back(entry);
     }
 
-    /// The oldest entry, None where there is none.
+    /// The oldest entry, None where there is none. Kept for who looks at a window from outside: the phases lend
+    /// entries.
     pub fn head(&self) -> Option<Entry>
         ensures { result ≡ slice_get self.now.entries 0 }
     {
         self.items.front().copied()
     }
 
-    /// The entry at a position.
+    /// The entry at a position, as a copy. Kept for who looks at a window from outside: the phases lend entries.
     pub fn at(&self, i: u32) -> Entry
         requires { i < length self.now.entries }
         ensures { slice_get self.now.entries i ≡ Some result }
@@ -112,7 +113,8 @@ impl RobRing {
         self.items.get(i as usize).unwrap()
     }
 
-    /// Puts an entry in the place of the one at a position.
+    /// Puts an entry in the place of the one at a position, whatever becomes of it. Kept for who makes a window from
+    /// outside: each phase has a call of its own, which changes what that phase may.
     pub fn set(&mut self, i: u32, entry: Entry)
         requires { i < length self.old.entries }
         ensures { self.new ≡ record self.old { entries = slice_set self.old.entries i entry } }

@@ -18,6 +18,7 @@ use Rattle.run_inputs.specs.inner.Input.{ImageRefused}
 pub counts_after : (old mid new : Shelf) → SameCounts old mid → SameCounts mid new → SameCounts old new
 counts_after old mid new s t n = t n ∙ s n
 
+-- files whose contents stay from one time to the next, and from that to a third, have kept them
 pub contents_after : (old mid new : Shelf) → SameContents old mid → SameContents mid new → SameContents old new
 contents_after old mid new s t n = t n ∙ s n
 

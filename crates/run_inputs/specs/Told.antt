@@ -9,6 +9,7 @@ pub record World : Type 0 where
   pub files : Shelf
   pub out : Told
 
+-- files and a sink as they tell at one time
 abbrev pub world : Shelf → Told → World
 world files out = record { files = files; out = out }
 

@@ -21,6 +21,7 @@ look_up-fields (r ∷ rows) w = ap (λ rest. if field w 0 7 == r.opcode && match
 not_system : (w op : ℕ) → field w 0 7 ≡ op → (op == 115) ≡ false → ((w == 0x73) ≡ false) × ((w == 0x100073) ≡ false)
 not_system w op e ne = (grind (arith, nat_tests), grind (arith, nat_tests))
 
+-- a word with these fields is decoded by the table's row for them, if it is no system call
 pub decode_row : (w op f3 f7 : ℕ) → field w 0 7 ≡ op → field w 12 3 ≡ f3 → field w 25 7 ≡ f7 → (op == 115) ≡ false → decode w ≡ look table op f3 f7 w
 unfolding decode
 decode_row w op f3 f7 e e3 e7 ne =

@@ -70,19 +70,24 @@ pub record Row : Type 0 where
   pub funct7 : Option ℕ
   pub instr : ℕ → Instr
 
+-- a field that may be anything
 abbrev pub any : Option ℕ
 any = None
 
+-- a field that has to be this
 abbrev pub is : ℕ → Option ℕ
 is n = Some n
 
+-- whether a field is what a row demands
 abbrev pub matches : Option ℕ → ℕ → Bool
 matches None n = true
 matches (Some m) n = n == m
 
+-- a row of the table: opcode, the two fields, and the instruction that the word then is
 abbrev pub row : ℕ → Option ℕ → Option ℕ → (ℕ → Instr) → Row
 row opcode f3 f7 instr = record { opcode = opcode; funct3 = f3; funct7 = f7; instr = instr }
 
+-- the table of all instructions but ECALL and EBREAK
 abbrev pub table : List Row
 table =
     row 0b0110111 any any (λ w. Lui (rd w) (imm_u w))

@@ -24,6 +24,7 @@ abbrev pub pass_fault : Hart → Instr → Step → Step
 pass_fault s i (Traps cause) = if nat_le 4 cause.number then Goes (passed s i) [] else Traps cause
 pass_fault s i step = step
 
+-- the step at a word, in which a load or store that would trap is passed over
 abbrev pub pass_at : Option ℕ → Hart → Step
 pass_at None s = Traps outside_code
 pass_at (Some w) s = pass_fault s (decode w) (step_of s (decode w))
@@ -34,6 +35,7 @@ pass_step code s = pass_at (code s.pc) s
 
 -- ---- What a run loads
 
+-- the list where there is no fault, an empty one where there is
 abbrev pub unless_fault : Option Cause → List ℕ → List ℕ
 unless_fault None xs = xs
 unless_fault (Some cause) xs = []
@@ -44,10 +46,12 @@ loads_of s (Load op rd rs1 imm) =
     let a = (effect_in s (Load op rd rs1 imm)).addr in unless_fault (load_fault s.ram a (size_of op)) (range a (size_of op))
 loads_of s i = []
 
+-- the addresses of the bytes that the instruction of a word loads, none where there is no word
 abbrev pub loads_at : Option ℕ → Hart → List ℕ
 loads_at None s = []
 loads_at (Some w) s = loads_of s (decode w)
 
+-- what the rest of a run loads behind a step, nothing where that stops the run
 abbrev pub then_reads : Step → (Hart → List ℕ) → List ℕ
 then_reads (Goes s' piece) rest = rest s'
 then_reads (Exits v s') rest = []

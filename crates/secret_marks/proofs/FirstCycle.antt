@@ -26,6 +26,7 @@ by_end : (end : Option End) (o : Option FirstShown) (first : Option ℕ) → opt
 by_end (Some e) o first q = refl
 by_end None o first q = q
 
+-- what shows first is found in the first cycle in which something shows
 pub told_first : FirstShownWhereFirstShows
 told_first d code zero x m = refl
 told_first d code (suc n) x m =

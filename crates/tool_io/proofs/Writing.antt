@@ -55,9 +55,11 @@ pub record WroteUpTo (all rest : List ℕ) (s t : Told) : Type 0 where
   pub wrote : Wrote text s t
   pub whole : text ++ rest ≡ all
 
+-- before anything is written, all of the text is left
 pub up_to_start : (all : List ℕ) (s : Told) → WroteUpTo all all s s
 up_to_start all s = record { text = []; wrote = wrote_nothing s; whole = refl }
 
+-- once the next piece is written too, less of the text is left
 pub up_to_more : (all a rest : List ℕ) (s t u : Told) → WroteUpTo all (a ++ rest) s t → Wrote a t u → WroteUpTo all rest s u
 up_to_more all a rest s t u p q = record {
   text = p.text ++ a;
@@ -65,12 +67,14 @@ up_to_more all a rest s t u p q = record {
   whole = append_assoc p.text a rest ∙ p.whole;
 }
 
+-- where the next piece is written in part, the text is
 pub up_to_part : (all a rest : List ℕ) (s t u : Told) → WroteUpTo all (a ++ rest) s t → WrotePart a t u → WrotePart all s u
 up_to_part all a rest s t u p q =
     let r : WrotePart ((p.text ++ a) ++ rest) s u = part_more _ rest _ _ (wrote_then_part p.text a s t u p.wrote q) in
     let P : List ℕ → Type 0 = λ x. WrotePart x s u in
     subst P (append_assoc p.text a rest ∙ p.whole) r
 
+-- once nothing of the text is left, all of it is written
 pub up_to_end : (all : List ℕ) (s t : Told) → WroteUpTo all [] s t → Wrote all s t
 up_to_end all s t p =
     let e : p.text ≡ all = sym (append-nil p.text) ∙ p.whole in

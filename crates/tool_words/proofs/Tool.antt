@@ -32,6 +32,7 @@ found_as_written ws (Err e) h = (tt, h tool_is_free)
 pub yes : (b : Bool) (v n : ℕ) → b ≡ true → v ≡ n → Some n ≡ (if b then Some v else None)
 yes b v n e k = rw (e, k) refl
 
+-- no number is read where a test isn't passed
 pub no : (b : Bool) (v : ℕ) → (b ≡ true → ⊥) → None ≡ (if b then Some v else None)
 no true v h = absurd (h refl)
 no false v h = refl
@@ -104,6 +105,7 @@ pub words_are : (ws : List Text) (m : ArgMatches) (o : Option CommandText) → f
 unfolding command_of
 words_are ws m o none rows e = rw (none, ← rows) (sym e)
 
+-- words in which a fault was found ask for nothing
 pub none_of : {X : Type 0} (ks : Kinds) (c : Option X) → (ks ≡ [] → ⊥) → if_none ks c ≡ None
 none_of [] c h = absurd (h refl)
 none_of (k ∷ ks) c h = refl

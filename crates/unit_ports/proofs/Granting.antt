@@ -101,6 +101,7 @@ both_left false false q l = same q
 some_left : (l n a : ℕ) → l ≡ n - a → nat_lt 0 l ≡ nat_lt a n
 some_left l n a h = grind (arith, nat_tests)
 
+-- every port is left as a cycle begins
 pub left_first : OpensWithAll
 left_first d now cycle l h = record { each_port = each }
   where
@@ -112,6 +113,7 @@ left_first d now cycle l h = record { each_port = each }
     each DataPort = refl
     each LoadPort = refl
 
+-- an entry that is no store asks at the port of its kind where it may issue
 pub left_more : LeavesAsCounted
 left_more d now before e l h s =
     let p = port_for e.item.kind in
@@ -122,6 +124,7 @@ left_more d now before e l h s =
           (own e.item.kind q d before e (may_issue d now before e) h) (s.each_port q);
     }
 
+-- a store asks at two ports, for each of its parts where that may issue
 pub left_by_store : StoresAskAtBoth
 left_by_store d now before e l h s =
     let a = may_at d now AddressPort before e in
@@ -133,6 +136,7 @@ left_by_store d now before e l h s =
           (fewer_one (may_at d now q before e) (left_at q l) (ports d q) (asking d now q before) (s.each_port q));
     }
 
+-- an entry that may issue at a port gets one exactly where the definition grants it
 pub granted_is : GrantsAsCounted
 granted_is d now port before e l s =
     let t = some_left (left_at port l) (ports d port) (asking d now port before) (s.each_port port) in

@@ -171,6 +171,7 @@ moved_past p old e es r h q =
 
 -- ---- under a model that doesn't protect it stays
 
+-- under a model that doesn't protect every entry lets younger ones be visible
 pub all_passes : (model : SttModel) (e : Entry) → protects model ≡ false → passes model e ≡ true
 all_passes Spectre e h = absurd (cc)
 all_passes Futuristic e h = absurd (cc)
@@ -207,6 +208,8 @@ module _ (p : Point) where
       by_stop None h = none h
       by_stop (Some f) h = found f h
 
+  -- what holds of the point where it goes if the model protects, and of the point as it was if not, holds of it once
+  -- moved
   pub by_model : (P : Point → Type 0) (window : List Entry) → (protects p.model ≡ true → P (at window true)) → (protects p.model ≡ false → P p) → P (moved_over window p)
   by_model P window goes stays = either (protects p.model) refl
     where

@@ -21,6 +21,7 @@ pub record MayClear (d : Desc) (b : List Entry) (e : Entry) : Type 0 where
   pub known : has_address e ≡ true
   pub clean : address_tainted d.stt_model b e ≡ false
 
+-- a store that may be cleared isn't cleared yet, and has a known, untainted address
 pub clear_parts : (d : Desc) (b : List Entry) (e : Entry) → may_clear d b e ≡ true → MayClear d b e
 clear_parts d b e h =
     let p = both (is_store e.item.kind && not e.cleared && has_address e) _ h in
@@ -28,6 +29,7 @@ clear_parts d b e h =
     let r = both (is_store e.item.kind) _ q.0 in
     record { store = r.0; fresh = not_true e.cleared r.1; known = q.1; clean = not_true _ p.1 }
 
+-- an entry that is cleared keeps its item and serial, and doesn't come to wait
 pub cleared_goes : (e : Entry) → Goes e (cleared_one e)
 cleared_goes e = record { item = refl; serial = refl; waits = λ h. h }
 
@@ -61,6 +63,7 @@ module _ (d : Desc) (P : Machine → Type 0)
       by_place (may_clear d) x.window (λ o. P (clear_at d o x).machine) h
       (λ p f. by_violated x p (record { loads_pass = a; window = stands_at (may_clear d) x.window p f; parts = clear_parts d p.before p.entry f.has }) h)
 
+  -- what is kept where a store is cleared alone, and where a violated load goes with it, Clear keeps
   pub clear_keep : (x : Machine) → P x → P (clear d x).machine
   clear_keep x h = by_passing (loads_pass d) refl
     where

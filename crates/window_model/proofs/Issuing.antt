@@ -35,17 +35,20 @@ use Rattle.window_model.proofs.Counts.{Goes, goes_same, goes_then, Evolves}
 
 -- ---- what entries that may issue are
 
+-- what an entry that may issue is: it waits, its operands are there, and its kind lets it go
 pub record MayIssue (d : Desc) (now : Around) (b : List Entry) (e : Entry) : Type 0 where
   pub waits : is_waiting e.state ≡ true
   pub ready : ready d b e ≡ true
   pub kind : may_issue_as e.item.kind d now b e ≡ true
 
+-- an entry that may issue waits, is ready, and its kind lets it go
 pub may_parts : (d : Desc) (now : Around) (b : List Entry) (e : Entry) → may_issue d now b e ≡ true → MayIssue d now b e
 may_parts d now b e h =
     let p = both (is_waiting e.state && ready d b e) _ h in
     let q = both (is_waiting e.state) (ready d b e) p.0 in
     record { waits = q.0; ready = q.1; kind = p.1 }
 
+-- a load that may issue has an untainted address
 pub load_clean : (k : Kind) (d : Desc) (now : Around) (b : List Entry) (e : Entry) → may_issue_as k d now b e ≡ true → is_load k ≡ true → address_tainted d.stt_model b e ≡ false
 load_clean Load d now b e h l = not_true _ (both _ _ h).0
 load_clean _ d now b e h l = absurd (cc)
@@ -55,6 +58,7 @@ pub load_behind : (k : Kind) (d : Desc) (now : Around) (b : List Entry) (e : Ent
 load_behind Load d now b e h l = (both _ _ h).1
 load_behind _ d now b e h l = absurd (cc)
 
+-- a division that may issue has no tainted operand
 pub division_clean : (k : Kind) (d : Desc) (now : Around) (b : List Entry) (e : Entry) → may_issue_as k d now b e ≡ true → is_division k ≡ true → any_tainted d.stt_model b e ≡ false
 division_clean Div d now b e h l = not_true _ (both _ _ h).0
 division_clean _ d now b e h l = absurd (cc)
@@ -146,6 +150,7 @@ load_comes Forwards d now e f v = Begins _ _ _ refl
 load_comes (Looks found ahead) d now e f v = Begins _ _ _ refl
 load_comes Waits d now e f v = Remains refl
 
+-- as it begins, an entry of any kind remains as it is, or is busy with an outcome
 pub begin_comes : (k : Kind) (d : Desc) (now : Around) (b : List Entry) (e : Entry) → Comes e (begin_as k d now b e).entry
 begin_comes Load d now b e = load_comes (access_of d now b e) d now e _ _
 begin_comes _ d now b e = Begins _ _ _ refl
@@ -178,6 +183,7 @@ module _ (d : Desc) (now : Around) (b : List Entry) (e : Entry) (P : Entry → T
       by_grant true q = begins s (may_parts d now b e (sym (may_own d now b e s) ∙ (both (may_at d now (port_of e.item.kind) b e) _ q).0))
       by_grant false q = remains
 
+  -- what holds of an entry that remains, that begins whole and of which parts go holds of what Issue makes of it
   pub by_issue : P (issue_entry d now b e).entry
   by_issue = subst (λ (t : Begun). P t.entry) (sym (entry_parts d now b e)) (by_kind (is_store e.item.kind) refl)
     where
@@ -191,6 +197,7 @@ comes_goes : (e r : Entry) → Comes e r → Goes e r
 comes_goes e r (Remains q) = subst (Goes e) (sym q) (goes_same e)
 comes_goes e r (Begins cycle due o q) = subst (Goes e) (sym q) (record { item = refl; serial = refl; waits = λ h. absurd (cc) })
 
+-- as it begins, an entry of any kind keeps its item and serial, and doesn't come to wait
 pub begin_goes : (k : Kind) (d : Desc) (now : Around) (b : List Entry) (e : Entry) → Goes e (begin_as k d now b e).entry
 begin_goes k d now b e = comes_goes e _ (begin_comes k d now b e)
 
@@ -213,9 +220,11 @@ parts_go now b e true false = address_goes now (effect_of now.regs b e) e
 parts_go now b e false true = data_goes now (effect_of now.regs b e) e
 parts_go now b e false false = goes_same e
 
+-- what Issue makes of an entry has its item and serial, and doesn't come to wait
 pub issue_goes : (d : Desc) (now : Around) (b : List Entry) (e : Entry) → Goes e (issue_entry d now b e).entry
 issue_goes d now b e = by_issue d now b e (Goes e) (goes_same e) (λ s m. begin_goes e.item.kind d now b e) (λ s a c g h. parts_go now b e a c)
 
+-- the window that Issue leaves has evolved from the one before
 pub issue_evolves : (d : Desc) (now : Around) (b es : List Entry) → Evolves es (map (λ (t : Begun). t.entry) (each_from (issue_entry d now) b es))
 issue_evolves d now b [] = tt
 issue_evolves d now b (e ∷ es) = (issue_goes d now b e, issue_evolves d now (e ∷ b) es)
@@ -232,6 +241,7 @@ module _ (d : Desc) (now : Around) (line : ℕ) (L : Line → Type 0)
   by_register (Some m) h = joins m h
   by_register None h = takes h
 
+  -- what holds of a line that hits, that joins a register and that takes one holds of each line looked up
   pub by_line : L (look_up d now line)
   by_line = by_cache (has_line d now.cache line) refl
     where
@@ -244,6 +254,7 @@ pub data OneOrTwo : List ℕ → Type 0 where
   One : (line : ℕ) → OneOrTwo (line ∷ [])
   Two : (low high : ℕ) → low < high → OneOrTwo (low ∷ high ∷ [])
 
+-- an access of at least one byte has one line, or two of which the first is the lower
 pub lines_are : (d : Desc) (a n : ℕ) → 0 < n → OneOrTwo (lines_of d a n)
 lines_are d a n some = by_same (line_of d a == line_of d (a + n - 1)) refl
   where
@@ -263,6 +274,7 @@ request_few (Hits line) = omega arith
 request_few (Joins line due) = omega arith
 request_few (Takes r) = omega arith
 
+-- lines that are looked up take at most one miss register each
 pub requests_few : (found : List Line) → length (requests found) ≤ length found
 requests_few [] = omega arith
 requests_few (l ∷ found) =
@@ -307,6 +319,7 @@ module _ (d : Desc) (now : Around) (P : Access → Type 0) (forwards : P Forward
       by_room true h = looks a n some (grind (arith, nat_tests))
       by_room false h = waits a n some (grind (arith, nat_tests))
 
+  -- what holds in each case of an access without fault holds of each access without fault
   pub by_served : (b : List Entry) (a n : ℕ) → 0 < n → P (access_at d now b a n None)
   by_served b a n some = if_then (all_covered b a n && not (any_store_hidden d.stt_model b))
     where
@@ -320,6 +333,7 @@ module _ (d : Desc) (now : Around) (P : Access → Type 0) (forwards : P Forward
     by_fault b a n (Some c) some = faults c
     by_fault b a n None some = by_served b a n some
 
+    -- what holds in each case of an access, a fault among them, holds of the access of a load
     pub by_load : (b : List Entry) (e : Entry) → P (access_of d now b e)
     by_load b e =
         let a = (effect_of now.regs b e).addr in

@@ -24,6 +24,7 @@ found_if t b e es q false h more k =
     let f = more k in
     record { older = e ∷ f.older; all = ap (λ w. e ∷ w) f.all; back = f.back; has = f.has }
 
+-- the place that a walk answers is one of these entries, and meets the test
 pub found : (t : List Entry → Entry → Bool) (b es : List Entry) (q : Place) → first_from t b es ≡ Some q → Found t b es q
 found t b [] q h = absurd (cc)
 found t b (e ∷ es) q h = found_if t b e es q (t b e) refl (found t (e ∷ b) es q) h

@@ -41,5 +41,6 @@ module _ (d : Desc) (W : List Entry → Type 0) (cuts : (front back : List Entry
   marked : (x : Machine) (p : Place) → Taken d x p → W x.window → W (reverse p.before ++ resolved_one p.entry ∷ p.younger)
   marked x p f h = marks p.before p.entry p.younger f.parts (subst W f.window h)
 
+  -- what holds of a window with a resolved entry, and up to any place, Resolve keeps
   pub place_keep : (x : Machine) → W x.window → W (resolve d x).machine.window
   place_keep = resolve_keep d (λ x. W x.window) (λ x p f q h. cut_behind W cuts (reverse p.before) (resolved_one p.entry) p.younger (marked x p f h)) (λ x p f q h. marked x p f h)

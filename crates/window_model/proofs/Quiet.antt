@@ -22,6 +22,7 @@ use Rattle.window_model.proofs.Placing.{resolve_keep}
 use Rattle.window_model.proofs.Clearing.{clear_keep}
 use Rattle.window_model.proofs.Walks.{rename_keep, fetch_keep}
 
+-- from one machine to the next the instruction set's state, the count of the retired and the end are as they were
 pub record Quiet (x y : Machine) : Type 0 where
   pub hart : hart_of y ≡ hart_of x
   pub retired : y.retired ≡ x.retired
@@ -30,31 +31,39 @@ pub record Quiet (x y : Machine) : Type 0 where
 pub quiet_same : (x : Machine) → Quiet x x
 quiet_same x = record { hart = refl; retired = refl; ended = refl }
 
+-- state, count and end that each of two steps leaves both together leave
 pub quiet_then : (x y z : Machine) → Quiet x y → Quiet y z → Quiet x z
 quiet_then x y z p q = record { hart = q.hart ∙ p.hart; retired = q.retired ∙ p.retired; ended = q.ended ∙ p.ended }
 
+-- Fill leaves the instruction set's state, the count of the retired and the end
 pub fill_quiet : (d : Desc) (x : Machine) → Quiet x (fill d x).machine
 fill_quiet d x = record { hart = refl; retired = refl; ended = refl }
 
+-- Complete leaves the instruction set's state, the count of the retired and the end
 pub complete_quiet : (x : Machine) → Quiet x (complete x).machine
 complete_quiet x = record { hart = refl; retired = refl; ended = refl }
 
+-- Resolve leaves the instruction set's state, the count of the retired and the end
 pub resolve_quiet : (d : Desc) (x : Machine) → Quiet x (resolve d x).machine
 resolve_quiet d x = resolve_keep d (Quiet x) (λ y p t q k. record { hart = k.hart; retired = k.retired; ended = k.ended }) (λ y p t q k. record { hart = k.hart; retired = k.retired; ended = k.ended }) x (quiet_same x)
 
+-- Clear leaves the instruction set's state, the count of the retired and the end
 pub clear_quiet : (d : Desc) (x : Machine) → Quiet x (clear d x).machine
 clear_quiet d x =
     clear_keep d (Quiet x) (λ y p t k. record { hart = k.hart; retired = k.retired; ended = k.ended })
     (λ y p q t v k. record { hart = k.hart; retired = k.retired; ended = k.ended }) x (quiet_same x)
 
+-- Issue leaves the instruction set's state, the count of the retired and the end
 pub issue_quiet : (d : Desc) (x : Machine) → Quiet x (issue d x).machine
 issue_quiet d x =
     by_after_load d x (λ y. (w : List Entry) (v : Divider) → Quiet x (record y { window = w; divider = v }))
     (λ c s m w v. record { hart = refl; retired = refl; ended = refl }) (first (may_at d (around x) LoadPort) x.window) _ _
 
+-- Rename leaves the instruction set's state, the count of the retired and the end
 pub rename_quiet : (d : Desc) (x : Machine) → Quiet x (rename d x).machine
 rename_quiet d x = rename_keep d (Quiet x) (λ y i rest q f k. record { hart = k.hart; retired = k.retired; ended = k.ended }) x (quiet_same x)
 
+-- Fetch leaves the instruction set's state, the count of the retired and the end
 pub fetch_quiet : (d : Desc) (code : Code) (x : Machine) → Quiet x (fetch d code x).machine
 fetch_quiet d code x = fetch_keep d (Quiet x) code (λ y pc q r k. record { hart = k.hart; retired = k.retired; ended = k.ended }) x (quiet_same x)
 
@@ -64,10 +73,12 @@ fetch_quiet d code x = fetch_keep d (Quiet x) code (λ y pc q r k. record { hart
 abbrev pub at_retire : Desc → Machine → Machine
 at_retire d x = (before_retire d (begins_cycle x)).machine
 
+-- the machine after a cycle: the phases before Retire go, then Retire, then those after it
 pub cycle_is : (d : Desc) (code : Code) (x : Machine) → (cycle d code x).machine ≡ (after_retire d code (retire d (at_retire d x)).machine).machine
 unfolding cycle
 cycle_is d code x = refl
 
+-- the phases before Retire leave the instruction set's state, the count of the retired and the end
 pub before_quiet : (d : Desc) (x : Machine) → Quiet x (at_retire d x)
 before_quiet d x =
     let x1 = begins_cycle x in
@@ -87,5 +98,6 @@ behind d code None x =
     let z = (rename d y).machine in
     quiet_then x y (fetch d code z).machine (issue_quiet d x) (quiet_then y z (fetch d code z).machine (rename_quiet d y) (fetch_quiet d code z))
 
+-- the phases after Retire leave the instruction set's state, the count of the retired and the end
 pub after_quiet : (d : Desc) (code : Code) (x : Machine) → Quiet x (after_retire d code x).machine
 after_quiet d code x = behind d code x.end x

@@ -107,6 +107,7 @@ rise_with older younger e e2 q r =
 
 -- ---- the entries that are looked back on have smaller serials
 
+-- the entries that an entry looks back on have smaller serials
 abbrev pub Falls : Fact
 Falls before e = All (λ b. b.serial < e.serial) before
 
@@ -120,6 +121,7 @@ falls_from before (e ∷ es) a r = (
       (rise_tail e es r),
 )
 
+-- where serials rise, each entry looks back on smaller ones
 pub falls : (es : List Entry) → Rise es → Along Falls [] es
 falls es r = falls_from [] es (All-nil (λ b. All (λ e. b.serial < e.serial) es)) r
 
@@ -148,6 +150,7 @@ pub record Splits (serial : ℕ) (es : List Entry) : Type 0 where
   pub older : All (λ e. e.serial < serial) (below serial es)
   pub younger : All (λ e. serial ≤ e.serial) gone
 
+-- where serials rise, those below any serial are the oldest entries, and all others come behind them
 pub splits : (serial : ℕ) (es : List Entry) → Rise es → Splits serial es
 splits serial [] r = record { gone = []; whole = refl; older = All-nil (λ e. e.serial < serial); younger = All-nil (λ e. serial ≤ e.serial) }
 splits serial (e ∷ es) r = by_test (nat_lt e.serial serial) refl (splits serial es (rise_tail e es r))

@@ -49,6 +49,7 @@ call_tells e rest x (Goes s piece) c = record { events = omega arith; window = r
 call_tells e rest x (Exits v s) c = record { events = omega arith; window = refl }
 call_tells e rest x (Traps cause) c = absurd c
 
+-- a head of any kind leaves the rest of the window, with no more events than its kind may have
 pub head_tells : (k : Kind) (d : Desc) (e : Entry) (rest : List Entry) (x : Machine) → Leaves (told_by k) rest (head_leaves k d e rest x)
 head_tells Store d e rest x = record {
   events =

@@ -30,6 +30,7 @@ module _ (W : List Entry → Type 0) (drops : (e : Entry) (rest : List Entry) �
   call_drops x e rest (Exits v s) q h = drops e rest (subst W q h)
   call_drops x e rest (Traps c) q h = h
 
+  -- what holds of a window and of what is left without its head holds of the window behind a head of any kind
   pub head_drops : (k : Kind) (x : Machine) (e : Entry) (rest : List Entry) → x.window ≡ e ∷ rest → W x.window → W (head_leaves k d e rest x).machine.window
   head_drops Call x e rest q h = call_drops x e rest (call (hart_of x)) q h
   head_drops Store x e rest q h = drops e rest (subst W q h)
@@ -78,6 +79,7 @@ module _ (d : Desc) (Q : ℕ → Bool → Machine → Retired → Type 0)
       by_end None u m = by_head n stored x.window x u refl m
       by_end (Some e) u m = stops (suc n) stored x (HasEnded e u)
 
+  -- what holds of no turn, of an end, and of a turn with what follows it, holds of what Retire does
   pub retire_by : (x : Machine) → Q d.core_retire_width false x (retire d x)
   unfolding retire
   retire_by x = by_turns d.core_retire_width false x
@@ -95,10 +97,13 @@ module _ (d : Desc) (Q : ℕ → Machine → After → Type 0)
       by_fit true f = renames n x i rest q f (m (rename_one d i rest x).machine)
       by_fit false f = stops (suc n) x
 
+  -- what holds of no item, and of a renamed one with what follows it, holds of each number of items that Rename may
+  -- take
   pub by_renamed : (n : ℕ) (x : Machine) → Q n x (rename_up_to d n x)
   by_renamed zero x = stops zero x
   by_renamed (suc n) x = by_front n x.queue x refl (by_renamed n)
 
+  -- what holds of no item, and of a renamed one with what follows it, holds of what Rename does
   pub rename_by : (x : Machine) → Q d.core_fetch_width x (rename d x)
   unfolding rename
   rename_by x = by_renamed d.core_fetch_width x
@@ -116,10 +121,12 @@ module _ (d : Desc) (code : Code) (Q : ℕ → Machine → After → Type 0)
       by_room true r = fetches n x pc q r (m (fetch_one d (item_at d code x pc) x).machine)
       by_room false r = stops (suc n) x
 
+  -- what holds of no item, and of a fetched one with what follows it, holds of each number of items that Fetch may take
   pub by_fetched : (n : ℕ) (x : Machine) → Q n x (fetch_up_to d code n x)
   by_fetched zero x = stops zero x
   by_fetched (suc n) x = by_pc n x.fetch_pc x refl (by_fetched n)
 
+  -- what holds of no item, and of a fetched one with what follows it, holds of what Fetch does
   pub fetch_by : (x : Machine) → Q d.core_fetch_width x (fetch d code x)
   unfolding fetch
   fetch_by x = by_fetched d.core_fetch_width x

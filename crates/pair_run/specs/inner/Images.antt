@@ -13,6 +13,7 @@ use Rattle.machine_desc.specs.declared.Desc.{Desc}
 use Rattle.run_inputs.specs.Loaded.{Fits}
 use Rattle.pair_run.specs.declared.starting.Start.{Start}
 
+-- a description, and the two images that run under it
 pub record Images : Type 0 where
   pub desc : Desc
   pub one : Image
