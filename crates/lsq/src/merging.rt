@@ -47,6 +47,7 @@ pub(crate) fn reaches(span: &Span, addr: u64) -> bool
 }
 
 // Whether what a store writes may reach one of the four bytes from an address on: most stores are passed by this test.
+#[inline(always)]
 pub(crate) fn is_near(span: &Span, addr: u64) -> bool
     requires { addr < 2 ^ 32 }
     ensures { result ≡ is_near addr span.now }

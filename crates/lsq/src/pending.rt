@@ -45,6 +45,7 @@ fn reaches_one(span: &Span, addr: u64, width: Width) -> bool
 }
 
 // Whether what a store writes reaches a byte that a load asks for.
+#[inline(always)]
 #[tactic(auto, using(crate::proofs::Awaiting::one_is))]
 pub(crate) fn shares(span: &Span, addr: u64, width: Width, fault: Option<Cause>) -> bool
     requires { addr < 2 ^ 32 }
