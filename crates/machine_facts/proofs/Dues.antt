@@ -25,6 +25,7 @@ use Rattle.window_model.specs.Rename.{renamed, at_once}
 use Rattle.window_model.proofs.Lists.{each_then, each_map, each_join, each_filter, OfSome, find_each}
 use Rattle.window_model.proofs.Issuing.{Comes, Remains, Begins, by_issue, begin_comes, begin_goes, gone_parts, OneOrTwo, One, Two, by_line, by_load, lines_are, looked}
 use Rattle.machine_facts.proofs.Requests.{AllFresh, all_fresh}
+use Rattle.machine_facts.specs.Laws.{OneDivisionIsLongest}
 use Rattle.machine_facts.specs.Timely.{IsSoon, DueSoon, IsDue, PartDue, PartsDue, IsPending, StaysCleared, Apart, latency, longest_division}
 
 -- ---- the cycle goes on
@@ -73,6 +74,10 @@ dues_left d past cycle w q h = each_map (IsDue d cycle cycle) (completed cycle) 
 -- a division takes 3 to 35 cycles
 time_in : (regs : List ℕ) (b : List Entry) (e : Entry) → (0 < time_of regs b e) × (time_of regs b e ≤ longest_division)
 time_in regs b e = (omega arith, omega arith)
+
+pub one_is_longest : OneDivisionIsLongest
+unfolding lib.Count.count_leading_zeros
+one_is_longest = (λ op a. omega arith, refl)
 
 -- what holds of a miss register, if one is found, holds of the one that is
 of_found : (d : Desc) (now : Around) (o : Option Miss) (m : Miss) → o ≡ Some m → OfSome (IsPending d now.cycle now.cycle) o → IsPending d now.cycle now.cycle m

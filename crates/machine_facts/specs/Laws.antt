@@ -1,7 +1,10 @@
 -- What the phases, a cycle and every run keep (docs/theorems.md, "What every state keeps").
-use Rattle.std.specs.Prelude.{ℕ, ◌+◌, ◌≤◌, length}
+use Rattle.std.specs.Prelude.{◌≡◌, ℕ, ◌+◌, ◌-◌, ◌^◌, ◌≤◌, length}
 use Rattle.std.specs.List.{AllByRecursion as Each}
 use Rattle.rv_types.specs.Memory.{Code, Ram}
+use Rattle.rv_types.specs.Value.{div_time}
+use Rattle.rv_types.specs.declared.Op.{Op}
+use Rattle.rv_types.specs.declared.Op.TheVariants.{Divu}
 use Rattle.machine_desc.specs.declared.Desc.{Desc}
 use Rattle.machine_desc.specs.Ranges.{IsDesc}
 use Rattle.window_model.specs.Shape.{SameShape}
@@ -12,7 +15,7 @@ use Rattle.window_model.specs.Clear.{clear}
 use Rattle.window_model.specs.Retire.{retire}
 use Rattle.window_model.specs.Cycle.{at, cycle}
 use Rattle.machine_facts.specs.Sized.{Sized}
-use Rattle.machine_facts.specs.Timely.{Timely, Counted, WaitsOrDone}
+use Rattle.machine_facts.specs.Timely.{Timely, Counted, WaitsOrDone, longest_division}
 use Rattle.machine_facts.specs.Checkpoints.{FitCheckpoints}
 
 -- every state of a run has its sizes
@@ -22,6 +25,10 @@ StatesAreSized = (d : Desc) (code : Code) (entry : ℕ) (ram : Ram) (k : ℕ) �
 -- in every state of a run serials rise, all that is under way ends soon, and fetching stops only for a reason
 abbrev pub StatesAreTimely : Type 0
 StatesAreTimely = (d : Desc) (code : Code) (entry : ℕ) (ram : Ram) (k : ℕ) → IsDesc d → Timely d (at d code entry ram k)
+
+-- no division takes longer than the longest, and one takes as long
+abbrev pub OneDivisionIsLongest : Type 0
+OneDivisionIsLongest = ((op : Op) (a : ℕ) → div_time op a ≤ longest_division) × (div_time Divu (2 ^ 32 - 1) ≡ longest_division)
 
 -- in every state of a run history and stack are as large as the description says
 abbrev pub StatesFitCheckpoints : Type 0

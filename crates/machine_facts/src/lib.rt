@@ -7,6 +7,7 @@
 ghost use Rattle.machine_facts.specs.Laws.{
   CycleKeepsShape,
   NoStoreIsBusy,
+  OneDivisionIsLongest,
   RetireKeepsShape,
   RowsAreShort,
   StatesAreCounted,
@@ -25,6 +26,7 @@ ghost use Rattle.machine_facts.specs.InTurn.{AccessesGoInTurn, AccessesLeaveInTu
 pub fn states_keep()
     ensures sized { StatesAreSized }
     ensures timely { StatesAreTimely }
+    ensures division { OneDivisionIsLongest }
     ensures checkpoints { StatesFitCheckpoints }
     ensures no_busy_store { NoStoreIsBusy }
     ensures counted { StatesAreCounted }

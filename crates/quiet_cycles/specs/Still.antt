@@ -1,5 +1,5 @@
 -- Cycles in which nothing happens, and what is due after them (docs/machine.md, "Cycles in which nothing happens").
-use Rattle.std.specs.Prelude.{◌≡◌, ℕ, zero, suc, ◌+◌, ◌<◌, ◌≤◌, List, [], ◌∷◌, All}
+use Rattle.std.specs.Prelude.{◌≡◌, ◌⊎◌, ℕ, zero, suc, ◌+◌, ◌<◌, ◌≤◌, List, [], ◌∷◌, All, Any}
 use Rattle.rv_types.specs.Memory.{Code}
 use Rattle.machine_desc.specs.declared.Desc.{Desc}
 use Rattle.window_model.specs.declared.Progress.{Progress}
@@ -50,3 +50,20 @@ pub record NothingDueBefore (n : ℕ) (x : Machine) : Type 0 where
   pub lines : All (λ m. NotDueBefore n x.cycle m.due) x.misses
   -- the divider doesn't become free before cycle n
   pub divider : NotDueBefore n x.cycle x.divider.free_from
+
+-- ---- what is due in cycle n
+
+-- what is due later than this cycle is due in cycle n
+abbrev pub IsDueIn : ℕ → ℕ → ℕ → Type 0
+IsDueIn n cycle due = (cycle < due) × (due ≡ n)
+
+-- what an entry of this progress is busy with is due in cycle n, later than this cycle
+abbrev pub IsDoneIn : ℕ → ℕ → Progress → Type 0
+IsDoneIn n cycle (Busy due) = IsDueIn n cycle due
+IsDoneIn n cycle _ = ⊥
+
+-- later than this cycle, in cycle n, an entry becomes Done, a line comes, or the divider becomes free
+abbrev pub SomethingDueIn : ℕ → Machine → Type 0
+SomethingDueIn n x =
+    Any (λ e. IsDoneIn n x.cycle e.state) x.window ⊎ Any (λ m. IsDueIn n x.cycle m.due) x.misses
+    ⊎ IsDueIn n x.cycle x.divider.free_from

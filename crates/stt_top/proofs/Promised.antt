@@ -6,7 +6,7 @@ use Rattle.elf_loader.specs.Image.{ImageText}
 use Rattle.elf_loader.proofs.Images.{at_words}
 use Rattle.machine_desc.specs.declared.Desc.{Desc}
 use Rattle.machine_desc.proofs.EveryDesc.{every_desc}
-use Rattle.window_model.specs.Cycle.{trace, pieces}
+use Rattle.window_model.specs.Cycle.{at, trace, pieces}
 use Rattle.window_model.specs.Committed.{Aligned, Committed, TrapsNext}
 use Rattle.committed_state.proofs.Run.{run_commits}
 use Rattle.progress.specs.Laws.{Allows}
@@ -28,7 +28,7 @@ use Rattle.stt_top.specs.Outcome.{status_of}
 use Rattle.stt_top.specs.Work.{TaskText, isa_task, report_task, trace_task, pair_task, Work, ComesTo, run_work}
 use Rattle.run_inputs.specs.Told.{World}
 use Rattle.stt_top.specs.Top.{Ends, Statuses}
-use Rattle.stt_top.specs.Promises.{Commits, MovesOn, Hides, Compares, Keeps, Promises, TracesAgree, retired_run, state_at}
+use Rattle.stt_top.specs.Promises.{Commits, MovesOn, Hides, Compares, Keeps, Promises, TracesAgree, retired_run}
 use Rattle.stt_top.proofs.Tasks.{SuitedTask, task_suited}
 use Rattle.stt_top.proofs.Statuses.{statuses_at}
 
@@ -36,7 +36,7 @@ use Rattle.stt_top.proofs.Statuses.{statuses_at}
 
 -- the law of committed state, of an image
 committed : (d : Desc) (image : ImageText) (n : ℕ) → Aligned image.code
-    → Committed image.code (start image.entry image.ram) (state_at d image n).retired (state_at d image n) (pieces d image.code n (opening_of d image))
+    → Committed image.code (start image.entry image.ram) (at d image.code image.entry image.ram n).retired (at d image.code image.entry image.ram n) (pieces d image.code n (opening_of d image))
 committed d image n al = run_commits d image.code image.entry image.ram n al
 
 -- the report of the machine's run is that of the instruction set's run

@@ -7,7 +7,6 @@ use Rattle.elf_loader.specs.Image.{ImageText, image_of}
 use Rattle.machine_desc.specs.declared.Desc.{Desc}
 use Rattle.machine_desc.specs.Questions.{takes_any_address}
 use Rattle.machine_desc.specs.Ranges.{bound}
-use Rattle.window_model.specs.State.{Machine}
 use Rattle.window_model.specs.Cycle.{at}
 use Rattle.window_model.specs.Path.{reads_of_trace}
 use Rattle.window_model.specs.Taint.{protects}
@@ -40,14 +39,11 @@ pub record Commits (d : Desc) (image : ImageText) (n : ℕ) (out out' : Told) : 
 
 -- ---- Progress of a run
 
--- the machine after k cycles, fewer where the run ended
-abbrev pub state_at : Desc → ImageText → ℕ → Machine
-state_at d image k = at d image.code image.entry image.ram k
-
 -- within every `bound d` cycles one more instruction retires, or the run ends; so of n cycles, a budget of m times
 -- that, m retire, or the run ends before
 pub record MovesOn (d : Desc) (image : ImageText) (n : ℕ) : Type 0 where
-  pub one : (k : ℕ) → (state_at d image (k + bound d)).end ≡ None → (state_at d image k).retired < (state_at d image (k + bound d)).retired
+  pub one : (k : ℕ) → let state = at d image.code image.entry image.ram in
+      (state (k + bound d)).end ≡ None → (state k).retired < (state (k + bound d)).retired
   pub many : (m : ℕ) → n ≡ m * bound d → (trace_of d image n).end ≡ None → m ≤ (trace_of d image n).retired
 
 -- ---- Noninterference of two runs

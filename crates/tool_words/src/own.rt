@@ -19,7 +19,8 @@ fn refused_by(error: &io::Error) -> Refused
     }
 }
 
-// The words behind the first, which is the program's name.
+// The words behind the first, which is the program's name. The kit's `args` says nothing of the words that it gives:
+// not how many, nor which bytes, nor in which order, nor what an error stands for. So no clause stands here.
 fn behind_name(rt: &(impl Env + AllocGlobal), alloc: Global) -> io::Result<Vec<String>> {
     let mut words = Vec::new(alloc);
     for word in env::args(rt)?.skip(1) {
@@ -28,7 +29,8 @@ fn behind_name(rt: &(impl Env + AllocGlobal), alloc: Global) -> io::Result<Vec<S
     Ok(words)
 }
 
-/// The words after the program's name. Errors: `Words` where one of them isn't UTF-8; `Memory`.
+/// The words after the program's name. Errors: `Words` where one of them isn't UTF-8; `Memory`. That these are all
+/// words, in their order, is tested on the built programs (`tools/hostile/tests/test_statuses.py`).
 pub fn own_words(rt: &(impl Env + AllocGlobal), alloc: Global) -> Result<Vec<String>, Refused> {
     match behind_name(rt, alloc) {
         Ok(words) => Ok(words),
