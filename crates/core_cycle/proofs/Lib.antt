@@ -8,3 +8,4 @@ pub mod Opening
 pub mod Passing
 pub mod Cycling
 pub mod Fronts
+pub mod Going
