@@ -9,3 +9,4 @@ pub mod Passing
 pub mod Cycling
 pub mod Fronts
 pub mod Soonest
+pub mod Going

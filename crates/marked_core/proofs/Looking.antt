@@ -1,24 +1,17 @@
 -- A run until something shows, cycle by cycle.
-use Rattle.std.proofs.Common.{◌≡◌, ℕ, suc, ◌+◌, ◌-◌, ◌<◌, Bool, false, Option, Some, None, ap, ap₂, sym, ◌∙◌, arith}
-use Rattle.std.specs.Prelude.{is_some}
+use Rattle.std.proofs.Common.{◌≡◌, ℕ, ◌+◌, ◌-◌, ◌<◌, Option, Some, None, ap, ap₂, sym, ◌∙◌, arith}
 use Rattle.rv_types.specs.Memory.{Code}
-use Rattle.rv_types.specs.declared.End.{End}
 use Rattle.machine_desc.specs.declared.Desc.{Desc}
 use Rattle.machine_facts.proofs.FewEvents.{cycle_number}
 use Rattle.window_model.specs.State.{Machine}
 use Rattle.window_model.specs.Cycle.{after_cycles, cycle}
+use Rattle.core_cycle.proofs.Going.{goes_on, one_more}
 use Rattle.secret_marks.specs.declared.FirstShown.{FirstShown}
 use Rattle.secret_marks.specs.declared.Shown.{Shown}
 use Rattle.secret_marks.specs.Marks.{Marks}
 use Rattle.secret_marks.specs.Shown.{first_shown, in_cycle, shown_cycle}
 use Rattle.secret_marks.specs.Watch.{watch_cycle}
 use Rattle.secret_marks.proofs.Cycle.{watched_machine}
-use Rattle.marked_core.proofs.Watching.{goes_on}
-
--- whether a run has ended, by what the core answers of it
-pub running_at : (end told : Option End) (b : Bool) → told ≡ end → b ≡ is_some told → b ≡ false → end ≡ None
-running_at end None b t e q = sym t
-running_at end (Some k) b t e q = absurd (cc)
 
 -- the run stands after i of n cycles from a machine with marks, in which nothing has shown: the other cycles show and
 -- leave what all n do
@@ -26,9 +19,6 @@ pub record Looks (d : Desc) (code : Code) (n i : ℕ) (x : Machine) (m : Marks) 
   pub shown : first_shown d code (n - i) y k ≡ first_shown d code n x m
   pub last : after_cycles d code (n - i) y ≡ after_cycles d code n x
   pub count : y.cycle ≡ x.cycle + i
-
-one_more : (n i : ℕ) → i < n → n - i ≡ suc (n - (i + 1))
-one_more n i h = omega arith
 
 module _ (d : Desc) (code : Code) (n i : ℕ) (x : Machine) (m : Marks) (y : Machine) (k : Marks) (l : Looks d code n i x m y k) where
   -- what shows in the next of the cycles

@@ -16,6 +16,7 @@ use Rattle.window_model.proofs.Quiet.{after_quiet, at_retire, before_quiet}
 use Rattle.core_parts.specs.Described.{Described}
 use Rattle.core_cycle.proofs.Cycling.{Backs, Fronts, Leaves, code_left, desc_left, machine_fronted, machine_left}
 use Rattle.core_cycle.proofs.Fronts.{Resolved, clears, resolves}
+use Rattle.core_cycle.proofs.Going.{goes_on, stops}
 use Rattle.secret_marks.specs.declared.Shown.{Shown}
 use Rattle.secret_marks.specs.Marks.{Marks, after_issue_marks, after_retire_marks, cut, extended}
 use Rattle.secret_marks.specs.Shown.{head_shown, operands_shown, or_else, resolved_shown, shown_cycle}
@@ -23,16 +24,6 @@ use Rattle.secret_marks.specs.Watch.{Watched, then_watches, watch_before, watch_
 use Rattle.entry_marks.specs.declared.marks.Marks.{Marks as Beside}
 use Rattle.entry_marks.specs.Walk.{marks_of}
 use Rattle.marked_core.specs.Watched.{from_issue, shown_from_issue, shown_to_clear, to_clear, to_resolve}
-
--- ---- whether the run has ended
-
-pub goes_on : {A : Type 0} (o : Option End) (ended goes : A) → o ≡ None → unless_ended o ended goes ≡ goes
-goes_on None ended goes e = refl
-goes_on (Some k) ended goes e = absurd (cc)
-
-pub stops : {A : Type 0} (o : Option End) (ended goes : A) → is_some o ≡ true → unless_ended o ended goes ≡ ended
-stops None ended goes e = absurd (cc)
-stops (Some k) ended goes e = refl
 
 -- ---- the watched phases before Retire
 

@@ -7,7 +7,8 @@ use Rattle.machine_desc.specs.declared.Desc.{Desc}
 use Rattle.window_model.specs.State.{Machine}
 use Rattle.window_model.specs.Row.{Row}
 use Rattle.window_model.specs.Cycle.{Cycled, cycle, rows, pieces, after_cycles}
-use Rattle.pair_run.proofs.Cycles.{Left, left_next, left_ended, left_done, goes_on, stops, one_more, none_left, row_goes, no_rows}
+use Rattle.core_cycle.proofs.Going.{goes_on, one_more, stops}
+use Rattle.pair_run.proofs.Cycles.{Left, left_next, left_ended, left_done, none_left, row_goes, no_rows}
 use Rattle.report_text.specs.Report.{piece_text, piece_lines}
 use Rattle.report_text.proofs.Pieces.{piece_lines_more, piece_lines_none}
 use Rattle.trace_text.specs.TraceText.{row_text, rows_text}

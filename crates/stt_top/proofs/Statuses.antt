@@ -20,7 +20,7 @@ use Rattle.run_inputs.specs.Told.{World}
 use Rattle.stt_top.proofs.Outcomes.{not_empty}
 use Rattle.run_inputs.proofs.Told.{told_desc, no_desc, not_longer, not_refused, told_at, none_faulty, same_images, no_fault, not_too_many}
 
--- a command isn't none
+-- where there is a command, it isn't none
 clash : {o : Option CommandText} {c : CommandText} → o ≡ Some c → o ≡ None → ⊥
 clash p q = cc
 

@@ -1,11 +1,12 @@
 -- The output of a run that is written step by step.
-use Rattle.std.proofs.Common.{◌≡◌, ◌<◌, ◌≤◌, ℕ, suc, ◌+◌, ◌-◌, List, [], ◌++◌, Option, Some, None, length, ap, ap₂, sym, ◌∙◌, subst, arith}
+use Rattle.std.proofs.Common.{◌≡◌, ◌<◌, ◌≤◌, ℕ, ◌+◌, ◌-◌, List, [], ◌++◌, Option, Some, None, length, ap, ap₂, sym, ◌∙◌, subst, arith}
 use Rattle.rv_types.specs.Memory.{Code, Ram}
 use Rattle.rv_types.specs.Isa.{Hart, Run, isa_step, isa, run}
 use Rattle.rv_types.specs.declared.Cause.{Cause}
 use Rattle.rv_types.specs.declared.End.{End}
 use Rattle.rv_types.specs.declared.Ending.{Ending}
 use Rattle.rv_types.specs.declared.End.TheVariants.{Exit as EndExit, Trap as EndTrap}
+use Rattle.core_cycle.proofs.Going.{one_more}
 use Rattle.isa_step.specs.Outcome.{outcome}
 use Rattle.isa_step.specs.declared.stepped.Stepped.TheVariants.{Next, Exit, Trap}
 use Rattle.isa_step.proofs.Runs as runs
@@ -26,10 +27,6 @@ pub at_start : (code : Code) (s : Hart) (n : ℕ) (t : Told) → Turned (isa cod
 at_start code s n t =
     let e : n - 0 ≡ n = omega arith in
     record { rest_is = runs.at_start code s n; lines = rw e (up_to_start _ t) }
-
--- a run of which steps are left has one step more
-one_more : (n i : ℕ) → i < n → n - i ≡ suc (n - (i + 1))
-one_more n i h = omega arith
 
 -- the pieces of what is left, by the step that comes
 left_goes : (code : Code) (s s' : Hart) (p : List ℕ) (n i : ℕ) → i < n → record { hart = s'; piece = p; stepped = Next } ≡ outcome s (isa_step code s)

@@ -4,7 +4,8 @@ use Rattle.window_model.specs.Cycle.{Cycled, cycle}
 use Rattle.machine_facts.proofs.FewEvents.{cycle_number}
 use Rattle.secret_marks.specs.Shown.{shown_cycle}
 use Rattle.secret_marks.specs.Watch.{watch_cycle}
-use Rattle.marked_core.proofs.Looking.{looks_found, looks_next, running_at}
+use Rattle.core_cycle.proofs.Going.{running_at}
+use Rattle.marked_core.proofs.Looking.{looks_found, looks_next}
 use Rattle.marked_core.proofs.running.first_shown.Goals as goal
 
 -- what shows in this cycle is what shows first in the run

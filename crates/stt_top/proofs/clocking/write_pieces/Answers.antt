@@ -2,7 +2,7 @@
 use Rattle.std.proofs.Common.{◌≡◌, ◌∙◌, ap₂, None, arith}
 use Rattle.std.proofs.lemmas.Result.{MatchResult-from_err}
 use Rattle.window_model.specs.Cycle.{cycle}
-use Rattle.pair_run.proofs.Cycles.{ended_at, running_at}
+use Rattle.core_cycle.proofs.Going.{ended_at, running_at}
 use Rattle.stt_top.proofs.Cycles.{pieces_next, pieces_part, pieces_ended, pieces_done}
 use Rattle.stt_top.proofs.clocking.write_pieces.Goals as goal
 
