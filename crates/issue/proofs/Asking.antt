@@ -7,6 +7,7 @@ use Rattle.std.proofs.Math.Bool.{and-false, and-true}
 use Rattle.rv_types.specs.declared.Kind.{Kind}
 use Rattle.rv_types.specs.declared.Kind.TheVariants.{Div, Load, Mul, Store}
 use Rattle.machine_desc.specs.declared.Desc.{Desc}
+use Rattle.machine_desc.specs.Questions.{stores_in_one}
 use Rattle.window_model.specs.declared.Entry.{Entry}
 use Rattle.window_model.specs.Around.{Around}
 use Rattle.window_model.specs.Along.{Fact}
@@ -168,21 +169,16 @@ whole_by true false w h q p = absurd (cc)
 whole_by false true w h q p = absurd (cc)
 whole_by a b false h q p = absurd (cc)
 
-pub first_ready : (d : Desc) (before : List Entry) (e : Entry) (own : List ℕ) → InStep d e → d.version ≡ 1 → is_store e.item.kind ≡ true → is_waiting e.state ≡ true →
+pub first_ready : (d : Desc) (before : List Entry) (e : Entry) (own : List ℕ) → InStep d e → stores_in_one d ≡ true → is_store e.item.kind ≡ true → is_waiting e.state ≡ true →
     has_sources (wants_of d.version e) d before e ≡ true → ready_part d own before e ≡ true
 first_ready d before e own t one s w h =
-    let v : (d.version == 1) ≡ true = ap (λ v. v == 1) one in
-    let all : ready d before e ≡ true = sym (ap₂ (λ s v. has_sources (if s && not v then wants_by (has_address e) (has_data e) else wants.Whole) d before e) s v) ∙ h in
-    ap (λ v. if v then ready d before e && is_whole e else all_known d before own) v
-    ∙ ap₂ (λ r w. r && w) all (whole_by (has_address e) (has_data e) (is_waiting e.state) (t.parts s) (t.together one s) w)
+    let all : ready d before e ≡ true = sym (ap₂ (λ s v. has_sources (if s && not v then wants_by (has_address e) (has_data e) else wants.Whole) d before e) s one) ∙ h in
+    ap (λ v. if v then ready d before e && is_whole e else all_known d before own) one
+    ∙ ap₂ (λ r w. r && w) all (whole_by (has_address e) (has_data e) (is_waiting e.state) (t.parts s) (t.together (eqb-true _ _ one) s) w)
 
 -- in version 2 a part asks for its own sources alone
-pub second_ready : (d : Desc) (before : List Entry) (e : Entry) (own : List ℕ) → (d.version ≡ 1 → ⊥) → ready_part d own before e ≡ all_known d before own
-second_ready d before e own other = by_version (d.version == 1) refl
-  where
-    by_version : (v : Bool) → (d.version == 1) ≡ v → (if v then ready d before e && is_whole e else all_known d before own) ≡ all_known d before own
-    by_version true q = absurd (other (eqb-true _ _ q))
-    by_version false q = refl
+pub second_ready : (d : Desc) (before : List Entry) (e : Entry) (own : List ℕ) → stores_in_one d ≡ false → ready_part d own before e ≡ all_known d before own
+second_ready d before e own apart = ap (λ v. if v then ready d before e && is_whole e else all_known d before own) apart
 
 -- a part that hasn't issued may where it is ready
 pub part_may_by : (part : Part) (d : Desc) (before : List Entry) (e : Entry) (r : Bool) → has_issued part e ≡ false → ready_part d (own_of part (sources e)) before e ≡ r → part_may (part_port part) d before e ≡ r

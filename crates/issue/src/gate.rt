@@ -1,20 +1,22 @@
 //! Which entries may issue, and which are granted a port (`docs/machine.md`, "Issue").
 use crate::seen::{Place, Seen};
-use lsq::Pending;
+use lsq::{LoadRequest, Pending};
 use rob_ring::{Sources, sources_at};
 use rv_effect::Effect;
-use rv_types::{Cause, Kind};
+use rv_types::Kind;
 use transmit_gate::may_transmit;
 use unit_ports::Ports;
 
 impl<'a> Seen<'a> {
     ghost use Rattle.std.specs.Prelude.{◌≡◌, ◌&&◌, Some, false, slice_get, true};
     ghost use Rattle.rv_effect.specs.Seen.{seen};
-    ghost use Rattle.window_model.specs.MayIssue.{address_of, goes_behind};
+    ghost use Rattle.window_model.specs.MayIssue.{bytes_of, goes_behind};
     ghost use Rattle.window_model.specs.Order.{is_store};
     ghost use Rattle.window_model.specs.Around.{is_free};
     ghost use Rattle.window_model.specs.Retire.{byte_count};
     ghost use Rattle.rv_types.specs.Memory.{load_fault};
+    ghost use Rattle.rv_types.specs.Value.{bytes_in};
+    ghost use Rattle.lsq.specs.Pending.{bytes_requested};
     ghost use Rattle.issue.specs.Ports.{LeftFor, besides, is_served};
     ghost use Rattle.issue.specs.Pending.{is_kept, lets_by, passes_here, pending_here, stores_keep};
     ghost use Rattle.issue.specs.State.{HasTurn, around_of, before_of, here};
@@ -26,6 +28,23 @@ impl<'a> Seen<'a> {
         ensures { slice_get self.now.sources.now.items place.now.position ≡ Some result }
     {
         *sources_at(self.sources, place.position)
+    }
+
+    /// What a load asks for, by what its instruction makes of its operands.
+    #[inline(always)]
+    pub(crate) fn load_request(&self, place: &Place, made: &Effect) -> LoadRequest
+        requires effect { seen made.now ≡ effect_here self.now place.now }
+        ensures addr { result.addr ≡ made.now.addr }
+        ensures size { bytes_in result.width ≡ byte_count place.now.entry.now }
+        ensures fault { result.fault ≡ load_fault self.now.ram.now made.now.addr (byte_count place.now.entry.now) }
+        ensures bytes { bytes_requested result
+            ≡ bytes_of (around_of self.now) (before_of self.now place.now) place.now.entry.now }
+    {
+        LoadRequest {
+            addr: made.addr,
+            width: place.entry.width(),
+            fault: self.ram.load_fault(made.addr, place.entry.bytes()),
+        }
     }
 
     // Whether the older stores, where they don't keep a load whatever its address, let it go that has this effect: in
@@ -43,11 +62,11 @@ impl<'a> Seen<'a> {
         if self.lsq.all_older_known(place.entry.serial) {
             return true;
         }
-        let fault = self.ram.load_fault(made.addr, place.entry.bytes());
-        if self.awaits_data(place, made.addr, fault) {
+        let request = self.load_request(place, made);
+        if self.awaits_data(place, &request) {
             return false;
         }
-        self.is_let(self.passes(place), &self.pending(place, made.addr, fault))
+        self.is_let(self.passes(place), &self.pending(place, &request))
     }
 
     // Whether a load passes stores of unknown address: there are bits of dependence, and its own isn't set.
@@ -65,24 +84,22 @@ impl<'a> Seen<'a> {
         (passes || !pending.address) && !pending.overlap && !self.point.tainted(pending.root)
     }
 
-    // Whether a load with this fault waits for the data of an older store, by its address.
-    fn awaits_data(&self, place: &Place, addr: u32, fault: Option<Cause>) -> bool
-        requires address { addr ≡ address_of self.now.regs.now (before_of self.now place.now) place.now.entry.now }
-        requires fault { fault ≡ load_fault self.now.ram.now addr (byte_count place.now.entry.now) }
+    // Whether a load waits for the data of an older store, by what it asks for.
+    fn awaits_data(&self, place: &Place, request: &LoadRequest) -> bool
+        requires bytes { bytes_requested request.now
+            ≡ bytes_of (around_of self.now) (before_of self.now place.now) place.now.entry.now }
         ensures { result ≡ (pending_here self.now place.now).overlap }
     {
-        self.lsq
-            .awaits_data(place.entry.serial, addr, place.entry.width(), fault)
+        self.lsq.awaits_data(place.entry.serial, request)
     }
 
-    // What a load with this fault waits for in the older stores, by its address.
-    fn pending(&self, place: &Place, addr: u32, fault: Option<Cause>) -> Pending
-        requires address { addr ≡ address_of self.now.regs.now (before_of self.now place.now) place.now.entry.now }
-        requires fault { fault ≡ load_fault self.now.ram.now addr (byte_count place.now.entry.now) }
+    // What a load waits for in the older stores, by what it asks for.
+    fn pending(&self, place: &Place, request: &LoadRequest) -> Pending
+        requires bytes { bytes_requested request.now
+            ≡ bytes_of (around_of self.now) (before_of self.now place.now) place.now.entry.now }
         ensures { result ≡ pending_here self.now place.now }
     {
-        self.lsq
-            .pending(place.entry.serial, addr, place.entry.width(), fault)
+        self.lsq.pending(place.entry.serial, request)
     }
 
     // Whether the older stores keep a load whatever its address: in version 1 where one lacks a part; in version 2

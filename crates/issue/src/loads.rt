@@ -10,7 +10,7 @@ use crate::access::Access;
 use crate::begin::{begun, outcome};
 use crate::lines::{Line, Lines, Request};
 use crate::seen::{Place, Seen};
-use lsq::Merged;
+use lsq::{LoadRequest, Merged};
 use rob_ring::Issued;
 use rv_alu::extend;
 use rv_effect::Effect;
@@ -44,6 +44,7 @@ impl<'a> Seen<'a> {
     ghost use Rattle.std.specs.Prelude.{◌≡◌, ◌&&◌, not, None, true};
     ghost use Rattle.rv_types.specs.declared.Kind.TheVariants as kind;
     ghost use Rattle.rv_types.specs.Memory.{load_fault, range};
+    ghost use Rattle.rv_types.specs.Value.{bytes_in};
     ghost use Rattle.rv_effect.specs.Seen.{seen};
     ghost use Rattle.window_model.specs.Access.{due_by, due_of};
     ghost use Rattle.window_model.specs.MayIssue.{goes_behind, stores_let};
@@ -63,22 +64,21 @@ impl<'a> Seen<'a> {
         merged.covered && !self.point.tainted(merged.root)
     }
 
-    // What a load without fault finds from an address on.
-    fn load_sound(&self, place: &Place, addr: u32) -> Loaded
+    // What a load without fault finds by what it asks for.
+    fn load_sound(&self, place: &Place, request: &LoadRequest) -> Loaded
         requires turn { HasTurn self.now place.now }
+        requires size { bytes_in request.now.width ≡ byte_count place.now.entry.now }
         requires lets { stores_let self.now.desc.now.stt_model (passes_here self.now place.now)
-            (range addr (byte_count place.now.entry.now)) (before_of self.now place.now) ≡ true }
-        requires sound { load_fault self.now.ram.now addr (byte_count place.now.entry.now) ≡ None }
-        ensures access { as_access result.access ≡ here (access_from addr) self.now place.now }
-        ensures value { result.value ≡ here (value_from addr) self.now place.now }
+            (range request.now.addr (byte_count place.now.entry.now)) (before_of self.now place.now) ≡ true }
+        requires sound { load_fault self.now.ram.now request.now.addr (byte_count place.now.entry.now) ≡ None }
+        ensures access { as_access result.access ≡ here (access_from request.now.addr) self.now place.now }
+        ensures value { result.value ≡ here (value_from request.now.addr) self.now place.now }
     {
-        let op = place.entry.op();
-        let width = rv_types::width_of(op);
-        let merged = self.lsq.merge(place.entry.serial, addr, width, self.ram);
+        let merged = self.lsq.merge(place.entry.serial, request, self.ram);
         let forwarded = self.is_forwarded(&merged);
         Loaded {
-            access: self.find(forwarded, addr, place.entry.bytes()),
-            value: extend(op, merged.value),
+            access: self.find(forwarded, request.addr, place.entry.bytes()),
+            value: extend(place.entry.op(), merged.value),
         }
     }
 
@@ -90,8 +90,9 @@ impl<'a> Seen<'a> {
         ensures access { as_access result.access ≡ here access_of self.now place.now }
         ensures begun { loads self.now place.now made.now result ≡ here (begin_as kind.Load) self.now place.now }
     {
-        match self.ram.load_fault(made.addr, place.entry.bytes()) {
-            None => self.load_sound(place, made.addr),
+        let request = self.load_request(place, made);
+        match request.fault {
+            None => self.load_sound(place, &request),
             Some(cause) => Loaded {
                 access: Access::Faults(cause),
                 value: 0,

@@ -97,7 +97,7 @@ impl<'a> Seen<'a> {
         if has_issued(place.entry, part) {
             return false;
         }
-        if self.desc.version == 1 {
+        if self.desc.stores_in_one() {
             return true;
         }
         self.stations.ready_part(place.station, part)

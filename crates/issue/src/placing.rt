@@ -14,7 +14,7 @@ ghost use Rattle.issue.specs.Puts.{ArePuts, known_in, placed, width_for};
 
 use crate::decide::{PUTS_MAX, Put};
 use arrayvec::ArrayVec;
-use lsq::Lsq;
+use lsq::{Access, Lsq, Span};
 use machine_desc::Desc;
 use rob_ring::RobRing;
 use stations::{Stations, Wants};
@@ -31,11 +31,11 @@ fn wants_by(address: bool, stored: bool) -> Wants
     }
 }
 
-// What an entry that waits wants, in this version of the machine.
-fn wants_of(version: u32, entry: &Entry) -> Wants
-    ensures { result ≡ wants_of version entry.now }
+// What an entry that waits wants in the machine of a description.
+fn wants_of(desc: &Desc, entry: &Entry) -> Wants
+    ensures { result ≡ wants_of desc.now.version entry.now }
 {
-    if entry.is_store() && version != 1 {
+    if entry.is_store() && !desc.stores_in_one() {
         return wants_by(entry.addr_due.is_some(), entry.data_due.is_some());
     }
     Wants::Whole
@@ -43,14 +43,14 @@ fn wants_of(version: u32, entry: &Entry) -> Wants
 
 // The station of an entry that has issued, or of which a part has, is freed, where it no longer waits; else it waits
 // for what is left.
-fn settle(stations: &mut Stations, version: u32, station: u32, entry: &Entry)
+fn settle(stations: &mut Stations, desc: &Desc, station: u32, entry: &Entry)
     requires within { station < length stations.old.held }
     ensures { stations.new ≡ record stations.old {
-      held = left_held version station entry.now stations.old.held;
+      held = left_held desc.now.version station entry.now stations.old.held;
     } }
 {
     match entry.state {
-        Progress::Waiting => stations.leave(station, wants_of(version, entry)),
+        Progress::Waiting => stations.leave(station, wants_of(desc, entry)),
         _ => stations.remove(station),
     }
 }
@@ -64,13 +64,13 @@ fn note_address(lsq: &mut Lsq, entry: &Entry)
     } }
 {
     if let Some(due) = entry.addr_due {
-        lsq.store_addr(
-            entry.serial,
-            entry.addr(),
-            entry.width(),
-            entry.fault(),
-            due,
-        );
+        let span = Span {
+            addr: entry.addr(),
+            width: entry.width(),
+            fault: entry.fault(),
+            known_from: due,
+        };
+        lsq.store_addr(entry.serial, span);
     }
 }
 
@@ -96,13 +96,13 @@ fn note_load(lsq: &mut Lsq, desc: &Desc, entry: &Entry)
         return;
     }
     if let Some(cycle) = entry.issued {
-        lsq.load_issued(
-            entry.serial,
-            entry.addr(),
-            entry.width(),
-            entry.fault(),
+        let access = Access {
+            addr: entry.addr(),
+            width: entry.width(),
+            fault: entry.fault(),
             cycle,
-        );
+        };
+        lsq.load_issued(entry.serial, access);
     }
 }
 
@@ -138,7 +138,7 @@ pub(crate) fn place(
         let put = &puts[k];
         rob.issue(put.position, &put.issued);
         let entry = rob.lend(put.position);
-        settle(stations, desc.version, put.station, entry);
+        settle(stations, desc, put.station, entry);
         note(lsq, desc, entry);
     }
 }

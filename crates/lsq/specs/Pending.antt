@@ -3,10 +3,12 @@ use Rattle.std.specs.Prelude.{ℕ, ◌+◌, Bool, false, not, ◌&&◌, ◌||◌
 use Rattle.std.specs.List.{filter, list_any}
 use Rattle.rv_types.specs.Memory.{range}
 use Rattle.rv_types.specs.Path.{unless_fault}
+use Rattle.rv_types.specs.Value.{bytes_in}
 use Rattle.rv_types.specs.declared.Cause.{Cause}
 use Rattle.rv_types.specs.declared.Width.{Width}
 use Rattle.rv_types.specs.declared.Width.TheVariants.{B, H, W}
 use Rattle.rename_taint.specs.Writes.{later}
+use Rattle.lsq.specs.declared.load.LoadRequest.{LoadRequest}
 use Rattle.lsq.specs.declared.store.Span.{Span}
 use Rattle.lsq.specs.declared.store.Store.{Store}
 use Rattle.lsq.specs.declared.pending.Pending.{Pending}
@@ -16,6 +18,10 @@ use Rattle.lsq.specs.Merging.{reaches}
 -- the bytes that a load asks for: none where it faults
 abbrev pub bytes_asked : Option Cause → ℕ → ℕ → List ℕ
 bytes_asked fault a n = unless_fault fault (range a n)
+
+-- the bytes that a request asks for
+abbrev pub bytes_requested : LoadRequest → List ℕ
+bytes_requested r = bytes_asked r.fault r.addr (bytes_in r.width)
 
 -- where the store writes isn't known
 abbrev pub lacks_address : Store → Bool

@@ -40,7 +40,7 @@ fn is_wrong(span: &Span, access: &Access) -> bool
     if access.cycle >= span.known_from {
         return false;
     }
-    shares(span, access.addr as u64, access.width, access.fault)
+    shares(span, &access.request())
 }
 
 // Whether the load passed the store wrongly, where it has issued and it is known where the store writes.

@@ -10,6 +10,7 @@ ghost use Rattle.lsq.specs.Queues.{older, youngest_root};
 ghost use Rattle.lsq.specs.Merging.{all_forwarded, byte_by, byte_or_memory, merged_bytes, reaches};
 ghost use Rattle.lsq.specs.Gathering.{covered_in, gathered, is_near, nothing, number_in, passed};
 
+use crate::load::LoadRequest;
 use crate::store::{Span, Store};
 use byte_ram::Ram;
 use rename_taint::later;
@@ -211,17 +212,19 @@ fn gather(stores: &[Store], serial: u64, addr: u64) -> Gathered
 
 // What a load with a serial finds in these stores and in memory. The access has no fault.
 #[tactic(auto, using(crate::proofs::Gathers::number_is, crate::proofs::Gathers::covered_is))]
-pub(crate) fn merge(stores: &[Store], serial: u64, addr: u32, width: Width, ram: &Ram) -> Merged
-    requires address { load_fault ram.now addr (bytes_in width) ≡ None }
-    ensures value { result.value ≡ from_le (merged_bytes ram.now (older serial stores.now) addr (bytes_in width)) }
-    ensures small { result.value < 2 ^ (8 * bytes_in width) }
-    ensures covered { result.covered ≡ all_forwarded (older serial stores.now) addr (bytes_in width) }
+pub(crate) fn merge(stores: &[Store], serial: u64, request: &LoadRequest, ram: &Ram) -> Merged
+    requires address { load_fault ram.now request.now.addr (bytes_in request.now.width) ≡ None }
+    ensures value { result.value
+        ≡ from_le (merged_bytes ram.now (older serial stores.now) request.now.addr (bytes_in request.now.width)) }
+    ensures small { result.value < 2 ^ (8 * bytes_in request.now.width) }
+    ensures covered { result.covered
+        ≡ all_forwarded (older serial stores.now) request.now.addr (bytes_in request.now.width) }
     ensures root { result.root ≡ youngest_root (older serial stores.now) }
 {
-    let gathered = gather(stores, serial, addr as u64);
+    let gathered = gather(stores, serial, request.addr as u64);
     Merged {
-        value: gathered.number(addr as u64, width, ram),
-        covered: gathered.is_covered(width),
+        value: gathered.number(request.addr as u64, request.width, ram),
+        covered: gathered.is_covered(request.width),
         root: gathered.root,
     }
 }

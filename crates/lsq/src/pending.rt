@@ -1,15 +1,15 @@
 //! What a load still waits for in the stores before it (`docs/machine.md`, "Issue"): one walk over the stores.
-ghost use Rattle.std.specs.Prelude.{◌≡◌, ◌<◌, ◌^◌, ◌&&◌, [], None, nat_lt, if◌then◌else◌};
+ghost use Rattle.std.specs.Prelude.{◌≡◌, ◌&&◌, [], nat_lt, if◌then◌else◌};
 ghost use Rattle.std.specs.List.{list_any};
-ghost use Rattle.rv_types.specs.Value.{bytes_in};
 ghost use Rattle.lsq.specs.Queues.{older};
 ghost use Rattle.lsq.specs.Merging.{reaches};
-ghost use Rattle.lsq.specs.Pending.{awaited, awaits_too, bytes_asked, lacks_address, lacks_data_for, reaches_one};
+ghost use Rattle.lsq.specs.Pending.{awaited, awaits_too, bytes_requested, lacks_address, lacks_data_for, reaches_one};
 
+use crate::load::LoadRequest;
 use crate::merging::{is_near, reaches};
 use crate::store::{Span, Store};
 use rename_taint::later;
-use rv_types::{Cause, Width};
+use rv_types::Width;
 
 /// What a load still waits for in the stores before it.
 #[derive(Clone, Copy, Debug, PartialEq, Eq)]
@@ -24,14 +24,15 @@ pub struct Pending {
 }
 
 // Whether what a store writes reaches one of the bytes of a width from an address on.
-fn reaches_one(span: &Span, addr: u64, width: Width) -> bool
-    requires { addr < 2 ^ 32 }
-    ensures { result ≡ reaches_one width addr span.now }
+#[inline(always)]
+fn reaches_one(span: &Span, request: &LoadRequest) -> bool
+    ensures { result ≡ reaches_one request.now.width request.now.addr span.now }
 {
+    let addr = request.addr as u64;
     if !is_near(span, addr) {
         return false;
     }
-    match width {
+    match request.width {
         Width::B => reaches(span, addr),
         Width::H => reaches(span, addr) || reaches(span, addr + 1),
         Width::W => {
@@ -47,20 +48,20 @@ fn reaches_one(span: &Span, addr: u64, width: Width) -> bool
 // Whether what a store writes reaches a byte that a load asks for.
 #[inline(always)]
 #[tactic(auto, using(crate::proofs::Awaiting::one_is))]
-pub(crate) fn shares(span: &Span, addr: u64, width: Width, fault: Option<Cause>) -> bool
-    requires { addr < 2 ^ 32 }
-    ensures { result ≡ list_any (λ a. reaches a span.now) (bytes_asked fault addr (bytes_in width)) }
+pub(crate) fn shares(span: &Span, request: &LoadRequest) -> bool
+    ensures { result ≡ list_any (λ a. reaches a span.now) (bytes_requested request.now) }
 {
-    match fault {
+    match request.fault {
         Some(_) => false,
-        None => reaches_one(span, addr, width),
+        None => reaches_one(span, request),
     }
 }
 
 // Whether a store is older than a load, and it isn't known what it writes of bytes that the load asks for.
-fn lacks_data_for(store: &Store, serial: u64, addr: u32, width: Width, fault: Option<Cause>) -> bool
+#[inline(always)]
+fn lacks_data_for(store: &Store, serial: u64, request: &LoadRequest) -> bool
     ensures { result ≡ (nat_lt store.now.serial serial
-        && lacks_data_for (bytes_asked fault addr (bytes_in width)) store.now) }
+        && lacks_data_for (bytes_requested request.now) store.now) }
 {
     if store.serial >= serial {
         return false;
@@ -69,25 +70,19 @@ fn lacks_data_for(store: &Store, serial: u64, addr: u32, width: Width, fault: Op
         return false;
     }
     match &store.span {
-        Some(span) => shares(span, addr as u64, width, fault),
+        Some(span) => shares(span, request),
         None => false,
     }
 }
 
 /// Whether of some store that is older than a load, and writes bytes that the load asks for, it isn't known what.
-pub(crate) fn lack_data_for(
-    stores: &[Store],
-    serial: u64,
-    addr: u32,
-    width: Width,
-    fault: Option<Cause>,
-) -> bool
+pub(crate) fn lack_data_for(stores: &[Store], serial: u64, request: &LoadRequest) -> bool
     ensures { result ≡ list_any
-        (λ s. nat_lt s.serial serial && lacks_data_for (bytes_asked fault addr (bytes_in width)) s) stores.now }
+        (λ s. nat_lt s.serial serial && lacks_data_for (bytes_requested request.now) s) stores.now }
 {
     stores
         .iter()
-        .any(|store| lacks_data_for(store, serial, addr, width, fault))
+        .any(|store| lacks_data_for(store, serial, request))
 }
 
 /// Whether of some store with a serial below this one it isn't known where it writes.
@@ -112,9 +107,8 @@ impl Pending {
     }
 
     // What a load waits for, once this younger store is passed. One with both its parts is passed at once.
-    fn passed(self, store: &Store, addr: u64, width: Width, fault: Option<Cause>) -> Pending
-        requires { addr < 2 ^ 32 }
-        ensures { result ≡ awaits_too (bytes_asked fault addr (bytes_in width)) store.now self }
+    fn passed(self, store: &Store, request: &LoadRequest) -> Pending
+        ensures { result ≡ awaits_too (bytes_requested request.now) store.now self }
     {
         let address = store.span.is_none() || self.address;
         if store.stored.is_some() {
@@ -122,7 +116,7 @@ impl Pending {
         }
         let root = later(store.root, self.root);
         let overlap = match &store.span {
-            Some(span) => shares(span, addr, width, fault) || self.overlap,
+            Some(span) => shares(span, request) || self.overlap,
             None => self.overlap,
         };
         Pending {
@@ -133,40 +127,25 @@ impl Pending {
     }
 
     // What a load waits for, once this store is passed, if it is older than the load.
-    fn passed_if_older(
-        self,
-        store: &Store,
-        serial: u64,
-        addr: u64,
-        width: Width,
-        fault: Option<Cause>,
-    ) -> Pending
-        requires { addr < 2 ^ 32 }
+    fn passed_if_older(self, store: &Store, serial: u64, request: &LoadRequest) -> Pending
         ensures { result ≡ (if nat_lt store.now.serial serial
-            then awaits_too (bytes_asked fault addr (bytes_in width)) store.now self else self) }
+            then awaits_too (bytes_requested request.now) store.now self else self) }
     {
         if store.serial < serial {
-            return self.passed(store, addr, width, fault);
+            return self.passed(store, request);
         }
         self
     }
 }
 
-// What a load with a serial, and with this fault, waits for in these stores.
+// What a load with a serial waits for in these stores.
 #[tactic(auto, using(crate::proofs::Awaiting::one_more))]
-pub(crate) fn pending_in(
-    stores: &[Store],
-    serial: u64,
-    addr: u64,
-    width: Width,
-    fault: Option<Cause>,
-) -> Pending
-    requires { addr < 2 ^ 32 }
-    ensures { result ≡ awaited (bytes_asked fault addr (bytes_in width)) (older serial stores.now) }
+pub(crate) fn pending_in(stores: &[Store], serial: u64, request: &LoadRequest) -> Pending
+    ensures { result ≡ awaited (bytes_requested request.now) (older serial stores.now) }
 {
     let mut pending = Pending::nothing();
     for store in stores {
-        pending = pending.passed_if_older(store, serial, addr, width, fault);
+        pending = pending.passed_if_older(store, serial, request);
     }
     pending
 }

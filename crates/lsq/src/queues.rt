@@ -8,10 +8,10 @@ ghost use Rattle.rv_types.specs.Word.{from_le};
 ghost use Rattle.lsq.specs.Clearing.{info_of, violated_by};
 ghost use Rattle.lsq.specs.Queues.{addressed_at, cleared_at, cut_at, empty, filled_at, is_known, issued_at, older, without, youngest_root};
 ghost use Rattle.lsq.specs.Merging.{all_forwarded, merged_bytes};
-ghost use Rattle.lsq.specs.Pending.{bytes_asked, lacks_address, lacks_data_for};
+ghost use Rattle.lsq.specs.Pending.{bytes_requested, lacks_address, lacks_data_for};
 
 use crate::clearing::{StoreInfo, info_of, violated_by};
-use crate::load::{Access, Load};
+use crate::load::{Access, Load, LoadRequest};
 use crate::loads::issue_load;
 use crate::merging::{Merged, merge};
 use crate::pending::{Pending, lack_address, lack_data_for, pending_in};
@@ -19,7 +19,7 @@ use crate::serials::{cut_items, pop_item, rises_with};
 use crate::store::{Span, Store};
 use byte_ram::Ram;
 use machine_desc::Desc;
-use rv_types::{Cause, NoMemory, Width};
+use rv_types::NoMemory;
 use std::alloc::Global;
 use std::marker::Model;
 
@@ -122,26 +122,9 @@ impl Lsq {
 
     /// Notes where the store with this serial writes, whose address part has issued: a width's bytes from an address
     /// on, or nothing where it has a fault. It is known from a cycle on.
-    pub fn store_addr(
-        &mut self,
-        serial: u64,
-        addr: u32,
-        width: Width,
-        fault: Option<Cause>,
-        cycle: u64,
-    )
-        ensures { self.new ≡ record self.old {
-          stores = map
-              (addressed_at serial (record { addr = addr; width = width; fault = fault; known_from = cycle }))
-              self.old.stores;
-        } }
+    pub fn store_addr(&mut self, serial: u64, span: Span)
+        ensures { self.new ≡ record self.old { stores = map (addressed_at serial span) self.old.stores } }
     {
-        let span = Span {
-            addr,
-            width,
-            fault,
-            known_from: cycle,
-        };
         address_store(&mut self.stores, serial, span);
     }
 
@@ -152,42 +135,25 @@ impl Lsq {
         fill_store(&mut self.stores, serial, stored);
     }
 
-    /// Notes what the load with this serial reads, which issued in this cycle: a width's bytes from an address on, or
-    /// nothing where it has a fault.
-    pub fn load_issued(
-        &mut self,
-        serial: u64,
-        addr: u32,
-        width: Width,
-        fault: Option<Cause>,
-        cycle: u64,
-    )
-        ensures { self.new ≡ record self.old {
-          loads = map
-              (issued_at serial (record { addr = addr; width = width; fault = fault; cycle = cycle }))
-              self.old.loads;
-        } }
+    /// Notes what the load with this serial reads, and the cycle in which it issued: a width's bytes from an address
+    /// on, or nothing where it has a fault.
+    pub fn load_issued(&mut self, serial: u64, access: Access)
+        ensures { self.new ≡ record self.old { loads = map (issued_at serial access) self.old.loads } }
     {
-        let access = Access {
-            addr,
-            width,
-            fault,
-            cycle,
-        };
         issue_load(&mut self.loads, serial, access);
     }
 
-    /// What a load with this serial still waits for, if the fault is its own: whether of some older store it isn't
-    /// known where it writes; whether of one that writes bytes of the load it isn't known what; and the youngest root
-    /// of the addresses of those of which it isn't known what they write.
-    pub fn pending(&self, serial: u64, addr: u32, width: Width, fault: Option<Cause>) -> Pending
+    /// What a load with this serial still waits for by what it asks for: whether of some older store it isn't known
+    /// where it writes; whether of one that writes bytes of the load it isn't known what; and the youngest root of the
+    /// addresses of those of which it isn't known what they write.
+    pub fn pending(&self, serial: u64, request: &LoadRequest) -> Pending
         ensures address { result.address ≡ list_any lacks_address (older serial self.now.stores) }
         ensures overlap { result.overlap
-            ≡ list_any (lacks_data_for (bytes_asked fault addr (bytes_in width))) (older serial self.now.stores) }
+            ≡ list_any (lacks_data_for (bytes_requested request.now)) (older serial self.now.stores) }
         ensures root { result.root
             ≡ youngest_root (filter (λ s. not (is_some s.stored)) (older serial self.now.stores)) }
     {
-        pending_in(self.stores.as_slice(), serial, addr as u64, width, fault)
+        pending_in(self.stores.as_slice(), serial, request)
     }
 
     /// Whether of some store older than this serial it isn't known where it writes.
@@ -198,14 +164,14 @@ impl Lsq {
         lack_address(self.stores.as_slice(), serial)
     }
 
-    /// Whether of some store older than a load with this serial, and that writes bytes of the load, it isn't known
-    /// what, if the fault is the load's own.
+    /// Whether of some store older than a load with this serial, and that writes bytes that the load asks for, it isn't
+    /// known what.
     #[tactic(auto, using(crate::proofs::Older::any_lacks_data))]
-    pub fn awaits_data(&self, serial: u64, addr: u32, width: Width, fault: Option<Cause>) -> bool
+    pub fn awaits_data(&self, serial: u64, request: &LoadRequest) -> bool
         ensures { result
-            ≡ list_any (lacks_data_for (bytes_asked fault addr (bytes_in width))) (older serial self.now.stores) }
+            ≡ list_any (lacks_data_for (bytes_requested request.now)) (older serial self.now.stores) }
     {
-        lack_data_for(self.stores.as_slice(), serial, addr, width, fault)
+        lack_data_for(self.stores.as_slice(), serial, request)
     }
 
     /// Whether each store older than this serial has both its address and its data.
@@ -219,15 +185,16 @@ impl Lsq {
     /// What a load with this serial finds: the number of its bytes, each from the youngest older store that writes it,
     /// else from memory; whether older stores give them all; and the youngest root of the older stores' addresses. The
     /// access has no fault.
-    pub fn merge(&self, serial: u64, addr: u32, width: Width, ram: &Ram) -> Merged
-        requires address { load_fault ram.now addr (bytes_in width) ≡ None }
-        ensures value { result.value
-            ≡ from_le (merged_bytes ram.now (older serial self.now.stores) addr (bytes_in width)) }
-        ensures small { result.value < 2 ^ (8 * bytes_in width) }
-        ensures covered { result.covered ≡ all_forwarded (older serial self.now.stores) addr (bytes_in width) }
+    pub fn merge(&self, serial: u64, request: &LoadRequest, ram: &Ram) -> Merged
+        requires address { load_fault ram.now request.now.addr (bytes_in request.now.width) ≡ None }
+        ensures value { result.value ≡ from_le
+            (merged_bytes ram.now (older serial self.now.stores) request.now.addr (bytes_in request.now.width)) }
+        ensures small { result.value < 2 ^ (8 * bytes_in request.now.width) }
+        ensures covered { result.covered
+            ≡ all_forwarded (older serial self.now.stores) request.now.addr (bytes_in request.now.width) }
         ensures root { result.root ≡ youngest_root (older serial self.now.stores) }
     {
-        merge(self.stores.as_slice(), serial, addr, width, ram)
+        merge(self.stores.as_slice(), serial, request, ram)
     }
 
     /// What is told of the store at a place, the oldest at 0, if there are so many.

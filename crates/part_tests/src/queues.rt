@@ -2,7 +2,7 @@
 use crate::asserting::assert_same;
 use crate::descriptions::{largest, small};
 use byte_ram::Ram;
-use lsq::{Access, Lsq, Merged, Pending, Span, StoreInfo};
+use lsq::{Access, LoadRequest, Lsq, Merged, Pending, Span, StoreInfo};
 use machine_desc::Desc;
 use rv_types::{Cause, Width};
 use std::alloc::Global;
@@ -32,21 +32,10 @@ fn add_store(lsq: &mut Lsq, serial: u64, root: Option<u64>) -> bool {
     true
 }
 
-// The load issues.
-fn issue(lsq: &mut Lsq, serial: u64, access: &Access) {
-    lsq.load_issued(
-        serial,
-        access.addr,
-        access.width,
-        access.fault,
-        access.cycle,
-    );
-}
-
 // What is known of the store is noted.
 fn note(lsq: &mut Lsq, serial: u64, span: Option<Span>, stored: Option<u32>) {
     if let Some(span) = span {
-        lsq.store_addr(serial, span.addr, span.width, span.fault, span.known_from);
+        lsq.store_addr(serial, span);
     }
     if let Some(stored) = stored {
         lsq.store_data(serial, stored);
@@ -77,7 +66,14 @@ fn span(addr: u32, width: Width, fault: Option<Cause>, known_from: u64) -> Optio
 #[tactic(auto, using(crate::proofs::Faultless::answered))]
 fn found(lsq: &Lsq, serial: u64, ram: &Ram, addr: u32, width: Width) -> Option<Merged> {
     match ram.get(addr, width) {
-        Ok(_) => Some(lsq.merge(serial, addr, width, ram)),
+        Ok(_) => {
+            let request = LoadRequest {
+                addr,
+                width,
+                fault: None,
+            };
+            Some(lsq.merge(serial, &request, ram))
+        }
         Err(_) => None,
     }
 }
@@ -162,11 +158,12 @@ fn a_load_waits_for_parts_of_older_stores(rt: HostRuntime) -> Result<(), Fail> {
         (13, BASE + 8, Width::W, None, waits(true, false, Some(4))),
     ];
     for (serial, addr, width, fault, want) in rows {
-        let told = lsq.pending(serial, addr, width, fault);
+        let request = LoadRequest { addr, width, fault };
+        let told = lsq.pending(serial, &request);
         assert_same(&rt, &(serial, addr, told), &(serial, addr, want));
         // Each of the first two is asked for by itself too.
         assert!(rt; lsq.awaits_address(serial) == want.address);
-        assert!(rt; lsq.awaits_data(serial, addr, width, fault) == want.overlap);
+        assert!(rt; lsq.awaits_data(serial, &request) == want.overlap);
     }
     // Up to the second store each has both its parts.
     assert!(rt; lsq.all_older_known(5) && !lsq.all_older_known(6));
@@ -292,7 +289,7 @@ fn passed_stores(rt: &impl Abort, alloc: Global) -> Result<Lsq, Fail> {
     ];
     for (serial, access) in loads {
         assert!(rt; add_load(&mut lsq, serial));
-        issue(&mut lsq, serial, &access);
+        lsq.load_issued(serial, access);
     }
     Ok(lsq)
 }
@@ -322,9 +319,9 @@ fn the_oldest_load_that_passed_wrongly_is_violated(rt: HostRuntime) -> Result<()
     // issued isn't.
     lsq.cut(7);
     assert!(rt; add_load(&mut lsq, 10) && add_load(&mut lsq, 11));
-    issue(&mut lsq, 11, &access(BASE + 2, Width::H, None, 3));
+    lsq.load_issued(11, access(BASE + 2, Width::H, None, 3));
     assert_same(&rt, &lsq.clear(5), &Some(11));
-    issue(&mut lsq, 10, &access(BASE + 3, Width::B, None, 7));
+    lsq.load_issued(10, access(BASE + 3, Width::B, None, 7));
     assert_same(&rt, &lsq.clear(5), &Some(10));
     Ok(())
 }

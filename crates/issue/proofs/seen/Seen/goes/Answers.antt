@@ -1,12 +1,10 @@
-use Rattle.std.proofs.Common.{◌∙◌, ap, ap₂, sym}
-use Rattle.std.specs.Prelude.{◌==◌}
-use Rattle.rv_types.specs.Isa.{Effect}
+use Rattle.std.proofs.Common.{◌∙◌, ap₂, sym}
 use Rattle.rv_types.specs.Memory.{load_fault}
 use Rattle.window_model.specs.MayIssue.{address_of}
 use Rattle.window_model.specs.Retire.{byte_count}
 use Rattle.issue.specs.Pending.{lets_by, passes_here}
 use Rattle.issue.specs.State.{before_of}
-use Rattle.issue.proofs.Behind.{address_is, goes_is, goes_known}
+use Rattle.issue.proofs.Behind.{goes_is, goes_known}
 use Rattle.issue.proofs.Bytes.{let_is}
 use Rattle.issue.proofs.Kept.{all_known_in_one, meets_none}
 use Rattle.issue.proofs.seen.Seen.goes.Goals as goal
@@ -21,9 +19,6 @@ returns-then-all_older_known c =
     let t = c.requires.turn in
     sym (goes_known c.args.self.now _ _ t.stands t.at (sym c.all_older_known.ensures ∙ c.if-all_older_known.true))
 
-pub awaits_data-requires-clause-address : goal.awaits_data-requires-clause-address
-awaits_data-requires-clause-address c = ap (λ (f : Effect). f.addr) c.requires.effect ∙ address_is c.args.self.now.regs.now (before_of c.args.self.now c.args.place.now) c.args.place.now.entry.now
-
 pub returns-then-awaits_data : goal.returns-then-awaits_data
 returns-then-awaits_data c =
     let s = c.args.self.now in
@@ -32,9 +27,6 @@ returns-then-awaits_data c =
     let a = address_of s.regs.now (before_of s c.args.place.now) e in
     sym (goes_is s _ e t.stands t.at ∙ let_is s _ e t.stands t.at (passes_here s c.args.place.now) (load_fault s.ram.now a (byte_count e)) a (byte_count e)
     ∙ meets_none _ _ _ (sym c.awaits_data.ensures ∙ c.if-awaits_data.true))
-
-pub pending-requires-clause-address : goal.pending-requires-clause-address
-pending-requires-clause-address c = ap (λ (f : Effect). f.addr) c.requires.effect ∙ address_is c.args.self.now.regs.now (before_of c.args.self.now c.args.place.now) c.args.place.now.entry.now
 
 pub returns : goal.returns
 returns c =

@@ -1,6 +1,7 @@
 use Rattle.std.proofs.Common.{◌∙◌, ap, sym}
 use Rattle.rv_types.specs.Isa.{Effect}
 use Rattle.rv_types.specs.Memory.{load_fault}
+use Rattle.window_model.specs.Retire.{byte_count}
 use Rattle.issue.proofs.Behind.{lets_sound}
 use Rattle.issue.proofs.seen.Seen.load.Goals as goal
 
@@ -8,5 +9,6 @@ pub load_sound-requires-clause-lets : goal.load_sound-requires-clause-lets
 load_sound-requires-clause-lets c =
     let s = c.args.self.now in
     let t = c.requires.turn in
-    let sound = sym (c.load_fault.ensures ∙ ap (load_fault s.ram.now c.args.made.now.addr) c.bytes.ensures.value) ∙ c.in-None.is in
-    lets_sound s _ _ t.stands t.at c.args.made.now.addr (ap (λ (f : Effect). f.addr) c.requires.effect) sound c.requires.goes
+    let addr = c.load_request-request.ensures.addr in
+    let sound = ap (λ a. load_fault s.ram.now a (byte_count c.args.place.now.entry.now)) addr ∙ sym c.load_request-request.ensures.fault ∙ c.in-None.is in
+    lets_sound s _ _ t.stands t.at c.load_request-request.result.addr (addr ∙ ap (λ (f : Effect). f.addr) c.requires.effect) sound c.requires.goes
