@@ -1,7 +1,8 @@
 //! An entry comes into the parts (`docs/machine.md`, "Rename").
-ghost use Rattle.std.specs.Prelude.{◌≡◌, ◌<◌, ◌++◌, ◌∷◌, [], ◌&&◌, ◌==◌, if◌then◌else◌, ℕ, true, false, not, length};
+ghost use Rattle.std.specs.Prelude.{◌≡◌, ◌<◌, ◌++◌, ◌∷◌, [], ◌&&◌, if◌then◌else◌, ℕ, true, false, not, length};
 ghost use Rattle.std.specs.List.{All};
 ghost use Rattle.circular_buffer.specs.Buffer.{buffer};
+ghost use Rattle.machine_desc.specs.Questions.{stores_in_one};
 ghost use Rattle.window_model.specs.Dependence.{needs_clearing};
 ghost use Rattle.window_model.specs.Rename.{at_once, renamed};
 ghost use Rattle.window_model.specs.Order.{is_load, is_store};
@@ -81,11 +82,11 @@ pub(crate) fn add_write<R: RenameTaint>(
 
 // What an item that comes in waits for: all its sources, but a store in version 2 for either, since its parts issue
 // apart.
-fn wants_of(version: u32, kind: Kind) -> Wants
-    ensures { result ≡ (if is_store kind && not (version == 1) then wants.Either else wants.Whole) }
+fn wants_of(desc: &Desc, kind: Kind) -> Wants
+    ensures { result ≡ (if is_store kind && not (stores_in_one desc.now) then wants.Either else wants.Whole) }
 {
     match kind {
-        Kind::Store if version != 1 => Wants::Either,
+        Kind::Store if !desc.stores_in_one() => Wants::Either,
         _ => Wants::Whole,
     }
 }
@@ -104,7 +105,7 @@ pub(crate) fn add_station(
         ≡ with_station desc.now.version place awaits (renamed desc.now serial item.now) stations.old) }
 {
     if !is_at_once(item.kind) {
-        stations.insert(serial, wants_of(desc.version, item.kind), awaits);
+        stations.insert(serial, wants_of(desc, item.kind), awaits);
     }
 }
 
