@@ -7,6 +7,7 @@ use Rattle.std.proofs.Math.Bool.{and-false}
 use Rattle.rv_types.specs.declared.Kind.{Kind}
 use Rattle.rv_types.specs.declared.Kind.TheVariants.{Load, Store, Div}
 use Rattle.machine_desc.specs.declared.Desc.{Desc}
+use Rattle.machine_desc.specs.Questions.{stores_in_one}
 use Rattle.machine_desc.specs.declared.SttModel.{SttModel}
 use Rattle.window_model.specs.declared.Entry.{Entry}
 use Rattle.window_model.specs.Around.{Around}
@@ -122,18 +123,18 @@ module _ (s : Seen) (p : Place) (t : HasTurn s p) where
   address_issued h = sym (part_gone part.Address d before e h)
 
   -- the address part of a store in version 1 may issue: both sources are there, and it goes with the data part
-  pub address_with_data : has_address e ≡ false → d.version ≡ 1 → is_store e.item.kind ≡ true → true ≡ part_may AddressPort d before e
+  pub address_with_data : has_address e ≡ false → stores_in_one d ≡ true → is_store e.item.kind ≡ true → true ≡ part_may AddressPort d before e
   address_with_data f one n = sym (part_may_by part.Address d before e true f (first_ready d before e (base_of (sources e)) in_step one n t.waits t.able))
 
   -- the address part of a store in version 2 may issue where its base is there
-  pub address_alone : (b : Bool) → has_address e ≡ false → (d.version ≡ 1 → ⊥) → option_map (ready_part part.Address) (slice_get s.stations.now.held p.station) ≡ Some b → b ≡ part_may AddressPort d before e
-  address_alone b f other k =
+  pub address_alone : (b : Bool) → has_address e ≡ false → stores_in_one d ≡ false → option_map (ready_part part.Address) (slice_get s.stations.now.held p.station) ≡ Some b → b ≡ part_may AddressPort d before e
+  address_alone b f apart k =
       let known = tells_part part.Address d (flight_of t.stands.rest s) p.position e t.stands.refines (moved s t.stands) t.at t.waits in
       let here : option_map (ready_part part.Address) (slice_get s.stations.now.held p.station) ≡ Some (all_known d before (base_of (sources e))) =
       ap (λ n. option_map (ready_part part.Address) (slice_get s.stations.now.held n)) t.station ∙ known in
       let both : Some b ≡ Some (all_known d before (base_of (sources e))) = sym k ∙ here in
       let same : b ≡ all_known d before (base_of (sources e)) = cc in
-      sym (part_may_by part.Address d before e b f (second_ready d before e (base_of (sources e)) other ∙ sym same))
+      sym (part_may_by part.Address d before e b f (second_ready d before e (base_of (sources e)) apart ∙ sym same))
 
 -- ---- the marks of the first operand
 

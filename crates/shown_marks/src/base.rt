@@ -32,7 +32,7 @@ impl<'a> Seen<'a> {
         if place.entry.addr_due.is_some() {
             return false;
         }
-        if self.desc.version == 1 {
+        if self.desc.stores_in_one() {
             return true;
         }
         self.stations.ready_part(place.station, Part::Address)

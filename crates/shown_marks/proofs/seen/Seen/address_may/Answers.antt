@@ -7,9 +7,9 @@ use Rattle.shown_marks.proofs.seen.Seen.address_may.Goals as goal
 pub returns-then-is_some : goal.returns-then-is_some
 returns-then-is_some c = address_issued c.args.self.now c.args.place.now c.requires.turn (sym c.is_some.ensures ∙ c.if-is_some.true)
 
-pub returns-then-self-eq1 : goal.returns-then-self-eq1
-returns-then-self-eq1 c =
-    address_with_data c.args.self.now c.args.place.now c.requires.turn (sym c.is_some.ensures ∙ c.if-is_some.false) c.if-self-eq1.true c.requires.store
+pub returns-then-stores_in_one : goal.returns-then-stores_in_one
+returns-then-stores_in_one c =
+    address_with_data c.args.self.now c.args.place.now c.requires.turn (sym c.is_some.ensures ∙ c.if-is_some.false) (sym c.stores_in_one.ensures ∙ c.if-stores_in_one.true) c.requires.store
 
 pub ready_part-requires : goal.ready_part-requires
 ready_part-requires c =
@@ -21,4 +21,4 @@ ready_part-requires c =
 
 pub returns : goal.returns
 returns c =
-    address_alone c.args.self.now c.args.place.now c.requires.turn c.ready_part.result (sym c.is_some.ensures ∙ c.if-is_some.false) c.if-self-eq1.false c.ready_part.ensures
+    address_alone c.args.self.now c.args.place.now c.requires.turn c.ready_part.result (sym c.is_some.ensures ∙ c.if-is_some.false) (sym c.stores_in_one.ensures ∙ c.if-stores_in_one.false) c.ready_part.ensures
