@@ -19,7 +19,7 @@ use Rattle.window_model.specs.Access.{reaches, covers, byte_of, byte_from}
 use Rattle.committed_state.specs.Replay.{Bank, bank, bank_after, is_clear, replayed, replayed_as, Replayed, ram_after, stored_unless}
 use Rattle.committed_state.specs.Computed.{ComesTo, as_known, as_known_by, bytes_found, finds, known_of, left_out}
 use Rattle.window_model.specs.Clear.{passed, shares}
-use Rattle.committed_state.specs.Consistent.{FitsParts, Stands, is_issued, stands_before}
+use Rattle.committed_state.specs.Consistent.{FitsParts, EntryInvariant, is_issued, stands_before}
 use Rattle.window_model.proofs.Booleans.{both}
 use Rattle.window_model.specs.Shape.{SameShape}
 use Rattle.window_model.proofs.Memory.{length_to_le, inside, read_before, read_within, read_after, same_shape, shape_then, store_keeps}
@@ -166,7 +166,7 @@ is_cleared false c q h = absurd (cc)
 
 module _ (d : Desc) (code : Code) (s : Bank) (now : ℕ) (l : Entry) where
   -- an older store that is cleared, and stands before the load as it has to, has what a byte of the load needs of it
-  covering : (before : List Entry) (e : Entry) (b : ℕ) → InLoad l b → Stands d code s now before e → stands_before l e ≡ true → is_clear e ≡ true → is_store e.item.kind ≡ true → Covering l e b
+  covering : (before : List Entry) (e : Entry) (b : ℕ) → InLoad l b → EntryInvariant d code s now before e → stands_before l e ≡ true → is_clear e ≡ true → is_store e.item.kind ≡ true → Covering l e b
   covering before e b i st sb cl q =
       let c = is_cleared (is_store e.item.kind) e.cleared q cl in
       let address = cleared_address (is_store e.item.kind) (has_address e) (passed e l) e.cleared (shares e l) (has_data e) q c sb in
@@ -178,7 +178,7 @@ module _ (d : Desc) (code : Code) (s : Bank) (now : ℕ) (l : Entry) where
       }
 
   -- a byte of the load, where each older store is cleared
-  byte_is : (before : List Entry) (b : ℕ) → s.ram.base ≤ b → InLoad l b → Behind (Stands d code s now) before → list_all (stands_before l) before ≡ true → list_all is_clear before ≡ true → Replayed s before →
+  byte_is : (before : List Entry) (b : ℕ) → s.ram.base ≤ b → InLoad l b → Behind (EntryInvariant d code s now) before → list_all (stands_before l) before ≡ true → list_all is_clear before ≡ true → Replayed s before →
       byte_of s.ram b (find (finds l b) before) ≡ Byte (bank s before).ram b
   byte_is [] b le i st sb cl r = refl
   byte_is (e ∷ before) b le i st sb cl r =
@@ -189,7 +189,7 @@ module _ (d : Desc) (code : Code) (s : Bank) (now : ℕ) (l : Entry) where
 
   -- the bytes of a load are the replay's
   pub load_bytes_are : (before : List Entry) (a n : ℕ) → s.ram.base ≤ a → a + n ≤ s.ram.base + length s.ram.bytes → ((x : ℕ) → a ≤ x → x < a + n → InLoad l x) →
-      Behind (Stands d code s now) before → list_all (stands_before l) before ≡ true → list_all is_clear before ≡ true → Replayed s before → bytes_found s.ram before l a n ≡ bytes_at (bank s before).ram a n
+      Behind (EntryInvariant d code s now) before → list_all (stands_before l) before ≡ true → list_all is_clear before ≡ true → Replayed s before → bytes_found s.ram before l a n ≡ bytes_at (bank s before).ram a n
   load_bytes_are before a zero le fits i st sb cl r =
       let m = (bank s before).ram in
       let z : a - m.base + 0 - (a - m.base) ≡ 0 = omega arith in

@@ -18,7 +18,7 @@ use Rattle.window_model.specs.Retire.{hart_of}
 use Rattle.window_model.proofs.Clearing.{Cleared, Violated}
 use Rattle.window_model.proofs.EntryByEntry.{along_front}
 use Rattle.committed_state.specs.Computed.{Bank}
-use Rattle.committed_state.specs.Consistent.{Stands, Holds, ConsistentIn, FitsClearing, FitsState, bank_in}
+use Rattle.committed_state.specs.Consistent.{EntryInvariant, Holds, ConsistentIn, FitsClearing, FitsState, bank_in}
 use Rattle.committed_state.specs.Links.{Chain, links, entry_link, item_link}
 use Rattle.committed_state.proofs.Onward.{AllSeen, stands_seen}
 use Rattle.committed_state.proofs.Sees.{Sees, moves_same, sees_clear, sees_moves}
@@ -37,7 +37,7 @@ same_changes e (x ∷ b) = (Stays refl, same_changes e b)
 
 module _ (d : Desc) (code : Code) (s : Bank) (now : ℕ) (e : Entry) (address : has_address e ≡ true) where
   abbrev P : Fact
-  P = Stands d code s now
+  P = EntryInvariant d code s now
 
   sees_change : (l x x2 : Entry) → is_violated e l ≡ false → Changes e x x2 → Sees now l x x2
   sees_change l x x2 n (Stays q) = subst (Sees now l x) (sym q) (sees_moves now l x x (moves_same now x))
@@ -97,7 +97,7 @@ chain_before from to (x ∷ older) ys queue e k = (k.0, chain_before (entry_link
 
 module _ (now : ℕ) (code : Code) (d : Desc) where
   abbrev S : Machine → Fact
-  S x = Stands d code (bank_in (hart_of x)) now
+  S x = EntryInvariant d code (bank_in (hart_of x)) now
 
   none_violated : (x : Machine) (p : Place) → Cleared d x p → (ys : List Entry) → NoneHas (is_violated p.entry) ys → Along (S x) [] (reverse p.before ++ p.entry ∷ ys) → Along (S x) [] (reverse p.before ++ cleared_one p.entry ∷ ys)
   none_violated x p t ys n k = place_cleared d code (bank_in (hart_of x)) now p.entry t.parts.known [] (reverse p.before) ys n k

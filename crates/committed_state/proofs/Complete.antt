@@ -11,7 +11,7 @@ use Rattle.window_model.specs.Retire.{hart_of}
 use Rattle.window_model.specs.Fill.{fill, complete, completed, completes_at}
 use Rattle.committed_state.specs.Computed.{Bank}
 use Rattle.window_model.specs.Along.{Behind}
-use Rattle.committed_state.specs.Consistent.{Stands, Holds, ConsistentIn, FitsClearing, FitsState, bank_in}
+use Rattle.committed_state.specs.Consistent.{EntryInvariant, Holds, ConsistentIn, FitsClearing, FitsState, bank_in}
 use Rattle.machine_desc.specs.Questions.{loads_pass}
 use Rattle.committed_state.proofs.Sees.{moves_same}
 use Rattle.committed_state.proofs.Kept.{Kept, each_holds}
@@ -20,7 +20,7 @@ use Rattle.window_model.proofs.EntryByEntry.{map_is_each}
 abbrev done : Entry → Entry
 done e = record e { state = Done }
 
-kept_same : (d : Desc) (code : Code) (s : Bank) (now : ℕ) (b : List Entry) (e : Entry) → Stands d code s now b e → Kept d code s now b e e
+kept_same : (d : Desc) (code : Code) (s : Bank) (now : ℕ) (b : List Entry) (e : Entry) → EntryInvariant d code s now b e → Kept d code s now b e e
 kept_same d code s now b e h = record { stands = h; moves = moves_same now e; link = refl }
 
 fits_done : (t : Progress) (e : Entry) (cycle : ℕ) → completes_at cycle t ≡ true → FitsState t e → FitsState Done (done e)
@@ -32,7 +32,7 @@ clearing_done : (p : Bool) (e : Entry) → FitsClearing p e → FitsClearing p (
 clearing_done true e c = c
 clearing_done false e c = c
 
-complete_one : (d : Desc) (code : Code) (s : Bank) (now cycle : ℕ) (b : List Entry) (e : Entry) → Behind (Stands d code s now) b → Stands d code s now b e → Kept d code s now b e (completed cycle e)
+complete_one : (d : Desc) (code : Code) (s : Bank) (now cycle : ℕ) (b : List Entry) (e : Entry) → Behind (EntryInvariant d code s now) b → EntryInvariant d code s now b e → Kept d code s now b e (completed cycle e)
 complete_one d code s now cycle b e h st = by_due (completes_at cycle e.state) refl
   where
     by_due : (c : Bool) → completes_at cycle e.state ≡ c → Kept d code s now b e (if c then done e else e)

@@ -26,7 +26,7 @@ use Rattle.window_model.specs.Issue.{issue, issue_entry, begin_as, begun, divide
 use Rattle.window_model.specs.Rename.{at_once}
 use Rattle.committed_state.specs.Computed.{Bank, as_known_by, computed, loaded_or, outcome_as}
 use Rattle.window_model.specs.Along.{Along, Behind}
-use Rattle.committed_state.specs.Consistent.{Stands, Holds, Consistent, ConsistentIn, FitsClearing, FitsParts, FitsState, HasOperands, IsDueBy, all_issued_by, is_issued, stands_before}
+use Rattle.committed_state.specs.Consistent.{EntryInvariant, Holds, Consistent, ConsistentIn, FitsClearing, FitsParts, FitsState, HasOperands, IsDueBy, all_issued_by, is_issued, stands_before}
 use Rattle.committed_state.proofs.Computed.{address_is, outcome_same}
 use Rattle.committed_state.proofs.Letting.{bytes_now, stands_behind}
 use Rattle.committed_state.proofs.Parts.{bank_of, parts_so, same_link}
@@ -92,7 +92,7 @@ later_due None n h = tt
 later_due (Some a) n h = omega (arith, h)
 
 -- what Issue finds stands so in the next cycle
-stands_later : (d : Desc) (code : Code) (s : Bank) (now : ℕ) (b : List Entry) (e : Entry) → Stands d code s now b e → Stands d code s (now + 1) b e
+stands_later : (d : Desc) (code : Code) (s : Bank) (now : ℕ) (b : List Entry) (e : Entry) → EntryInvariant d code s now b e → EntryInvariant d code s (now + 1) b e
 stands_later d code s now b e st = record {
   item = st.item;
   parts = st.parts;
@@ -107,7 +107,7 @@ stands_later d code s now b e st = record {
   alone = st.alone;
 }
 
-along_later : (d : Desc) (code : Code) (s : Bank) (now : ℕ) (b w : List Entry) → Along (Stands d code s now) b w → Along (Stands d code s (now + 1)) b w
+along_later : (d : Desc) (code : Code) (s : Bank) (now : ℕ) (b w : List Entry) → Along (EntryInvariant d code s now) b w → Along (EntryInvariant d code s (now + 1)) b w
 along_later d code s now b [] k = tt
 along_later d code s now b (e ∷ w) k = (stands_later d code s now b e k.0, along_later d code s now (e ∷ b) w k.1)
 
@@ -121,7 +121,7 @@ clearing_begun : (p : Bool) (cycle : ℕ) (e : Entry) (due : ℕ) (o : Outcome) 
 clearing_begun true cycle e due o c = c
 clearing_begun false cycle e due o c = c
 
-module _ (d : Desc) (code : Code) (x : Machine) (b : List Entry) (e : Entry) (h : Behind (Stands d code (bank_of x) x.cycle) b) (st : Stands d code (bank_of x) x.cycle b e) where
+module _ (d : Desc) (code : Code) (x : Machine) (b : List Entry) (e : Entry) (h : Behind (EntryInvariant d code (bank_of x) x.cycle) b) (st : EntryInvariant d code (bank_of x) x.cycle b e) where
   abbrev F : Effect
   F = effect_of x.regs b e
 
@@ -159,7 +159,7 @@ module _ (d : Desc) (code : Code) (x : Machine) (b : List Entry) (e : Entry) (h 
       let t = waits_so e.state m.waits st.state in
       let p = whole_parts k a c (is_issued e) true n st.parts in
       let l = begun x.cycle e due O in
-      let made : Stands d code (bank_of x) (x.cycle + 1) b l = record {
+      let made : EntryInvariant d code (bank_of x) (x.cycle + 1) b l = record {
         item = st.item;
         parts = p.2;
         state = (whole_issued k a c true n, t.0, t.1);
@@ -191,7 +191,7 @@ store_kind _ h = absurd (cc)
 abbrev pub issued : Desc → Machine → List Entry → Entry → Entry
 issued d x b e = (issue_entry d (around x) b e).entry
 
-issue_one : (d : Desc) (code : Code) (x : Machine) (b : List Entry) (e : Entry) → Behind (Stands d code (bank_of x) x.cycle) b → Stands d code (bank_of x) x.cycle b e → Kept d code (bank_of x) (x.cycle + 1) b e (issued d x b e)
+issue_one : (d : Desc) (code : Code) (x : Machine) (b : List Entry) (e : Entry) → Behind (EntryInvariant d code (bank_of x) x.cycle) b → EntryInvariant d code (bank_of x) x.cycle b e → Kept d code (bank_of x) (x.cycle + 1) b e (issued d x b e)
 issue_one d code x b e h st = by_issue d (around x) b e (Kept d code (bank_of x) (x.cycle + 1) b e) (remains d code x b e h st)
     (λ n m. begun_so d code x b e h st n m _ (comes d x b e e.item.kind n))
     (λ t a c ga gc. parts_so d code x b e (store_kind e.item.kind t) (stands_later d code (bank_of x) x.cycle b e st) a c ga gc)

@@ -22,7 +22,7 @@ use Rattle.window_model.proofs.Booleans.{both, or_true}
 use Rattle.window_model.proofs.EntryByEntry.{behind_of}
 use Rattle.window_model.proofs.Memory.{inside}
 use Rattle.committed_state.specs.Computed.{Bank, ComesTo, as_known, as_known_by, computed, outcome_as}
-use Rattle.committed_state.specs.Consistent.{Stands, FitsClearing, FitsParts, FitsState, all_issued, all_issued_by, bank_in, executed, goes_through, is_issued}
+use Rattle.committed_state.specs.Consistent.{EntryInvariant, FitsClearing, FitsParts, FitsState, all_issued, all_issued_by, bank_in, executed, goes_through, is_issued}
 use Rattle.committed_state.specs.Laws.{AllClearUnlessPassing, IssuedIsReplayed}
 use Rattle.committed_state.specs.Replay.{Replayed, bank, is_clear, replayed}
 use Rattle.committed_state.proofs.Bytes.{keeps_bank, load_bytes_are, store_issued}
@@ -54,14 +54,14 @@ known_all Store false c i v h = absurd (cc)
 known_all _ a c i v h = refl
 
 -- what is Done and no stop or call has an outcome
-pub done_issued : (d : Desc) (code : Code) (s : Bank) (now : ℕ) (b : List Entry) (e : Entry) → Stands d code s now b e → goes_through e ≡ true → is_done e.state ≡ true → is_issued e ≡ true
+pub done_issued : (d : Desc) (code : Code) (s : Bank) (now : ℕ) (b : List Entry) (e : Entry) → EntryInvariant d code s now b e → goes_through e ≡ true → is_done e.state ≡ true → is_issued e ≡ true
 done_issued d code s now b e h t f = issued_of e.item.kind (has_address e) (has_data e) (is_issued e) h.parts ((done_has e.state e h.state f).0 ∙ t)
 
 value_if : (w k : Bool) (e : Entry) (o : Option Entry) → (is_done e.state ≡ true → is_issued e ≡ true) → (k ≡ true → HasValue o) → (if w then is_done e.state else k) ≡ true → HasValue (if w then Some e else o)
 value_if true k e o p q t = p t
 value_if false k e o p q t = q t
 
-pub has_value : (d : Desc) (code : Code) (s : Bank) (now : ℕ) (b : List Entry) (r : ℕ) → Behind (Stands d code s now) b → list_all goes_through b ≡ true → executed b r ≡ true → HasValue (writer b r)
+pub has_value : (d : Desc) (code : Code) (s : Bank) (now : ℕ) (b : List Entry) (r : ℕ) → Behind (EntryInvariant d code s now) b → list_all goes_through b ≡ true → executed b r ≡ true → HasValue (writer b r)
 has_value d code s now [] r h t k = tt
 has_value d code s now (e ∷ b) r h t k =
     let ts = both _ _ t in
@@ -73,7 +73,7 @@ has_value d code s now (e ∷ b) r h t k =
 module _ (d : Desc) (code : Code) (s : Bank) (now : ℕ) (n : length s.regs ≡ 32) where
   -- what an issued entry computes is what its replay comes to, where older entries have theirs and older stores are
   -- cleared
-  replayed_so : (b : List Entry) (e : Entry) → Replayed s b → list_all is_clear b ≡ true → Behind (Stands d code s now) b → Stands d code s now b e → is_issued e ≡ true → as_known e (replayed (bank s b) e) ≡ as_known e (computed s b e)
+  replayed_so : (b : List Entry) (e : Entry) → Replayed s b → list_all is_clear b ≡ true → Behind (EntryInvariant d code s now) b → EntryInvariant d code s now b e → is_issued e ≡ true → as_known e (replayed (bank s b) e) ≡ as_known e (computed s b e)
   replayed_so b e r cl h st i =
       let w = width_in e.item.instr in
       let m = bank s b in
@@ -83,23 +83,23 @@ module _ (d : Desc) (code : Code) (s : Bank) (now : ℕ) (n : length s.regs ≡ 
       (λ l f. let j = inside _ _ s.ram F.addr w f in sym (load_bytes_are d code s now e b F.addr w j.0 j.1 (λ a le lt. in_load d code s now b e st i l f a le lt) h (st.stores i l) cl r)) i st.operands
 
   -- every entry that one looks back on has the outcome of its replay, as far as it is known
-  pub replayed_behind : (b : List Entry) → Behind (Stands d code s now) b → Replayed s b
+  pub replayed_behind : (b : List Entry) → Behind (EntryInvariant d code s now) b → Replayed s b
   replayed_behind [] h = tt
   replayed_behind (e ∷ b) h = let r = replayed_behind b h.1 in (λ cl. comes_to e.outcome _ _ (replayed_so b e r cl h.1 h.0) h.0.computed, r)
 
   -- a head of which all has issued has the outcome of its replay on the retired state
-  pub replayed_head : (e : Entry) → Stands d code s now [] e → all_issued e ≡ true → ComesTo e.outcome (replayed s e)
+  pub replayed_head : (e : Entry) → EntryInvariant d code s now [] e → all_issued e ≡ true → ComesTo e.outcome (replayed s e)
   replayed_head e st a = subst (ComesTo e.outcome) (known_all e.item.kind (has_address e) (has_data e) (is_issued e) (replayed s e) a) ((replayed_behind (e ∷ []) (st, tt)).0 refl)
 
 pub issued_is_replayed : IssuedIsReplayed
-issued_is_replayed d code x h = replayed_behind d code (bank_in (hart_of x)) (x.cycle + 1) h.registers (reverse x.window) (behind_of (Stands d code (bank_in (hart_of x)) (x.cycle + 1)) [] x.window h.entries tt)
+issued_is_replayed d code x h = replayed_behind d code (bank_in (hart_of x)) (x.cycle + 1) h.registers (reverse x.window) (behind_of (EntryInvariant d code (bank_in (hart_of x)) (x.cycle + 1)) [] x.window h.entries tt)
 
 -- where no load passes a store, each entry is cleared
 clear_so : (p : Bool) (e : Entry) → FitsClearing p e → p ≡ false → is_clear e ≡ true
 clear_so true e c q = absurd (cc)
 clear_so false e c q = or_true (not (is_store e.item.kind)) e.cleared c
 
-all_clear_from : (d : Desc) (code : Code) (s : Bank) (now : ℕ) (b w : List Entry) → Along (Stands d code s now) b w → loads_pass d ≡ false → list_all is_clear w ≡ true
+all_clear_from : (d : Desc) (code : Code) (s : Bank) (now : ℕ) (b w : List Entry) → Along (EntryInvariant d code s now) b w → loads_pass d ≡ false → list_all is_clear w ≡ true
 all_clear_from d code s now b [] h q = refl
 all_clear_from d code s now b (e ∷ w) h q = ap (λ c. c && list_all is_clear w) (clear_so (loads_pass d) e h.0.clearing q) ∙ all_clear_from d code s now (e ∷ b) w h.1 q
 

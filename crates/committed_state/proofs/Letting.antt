@@ -24,7 +24,7 @@ use Rattle.window_model.specs.Retire.{addr_of, byte_count}
 use Rattle.window_model.specs.Taint.{address_tainted}
 use Rattle.window_model.proofs.Booleans.{both}
 use Rattle.committed_state.specs.Computed.{Bank, bytes_found, finds}
-use Rattle.committed_state.specs.Consistent.{FitsClearing, IsDueBy, Stands, is_issued, stands_before}
+use Rattle.committed_state.specs.Consistent.{FitsClearing, IsDueBy, EntryInvariant, is_issued, stands_before}
 use Rattle.committed_state.proofs.Known.{both_parts, done_has}
 use Rattle.committed_state.proofs.Sees.{before_of}
 
@@ -87,7 +87,7 @@ found_so true c co h = absurd (cc)
 
 module _ (d : Desc) (code : Code) (s : Bank) (now : ℕ) (l : Entry) (begins : l.issued ≡ Some now) where
   abbrev S : Fact
-  S = Stands d code s now
+  S = EntryInvariant d code s now
 
   not_passed : (b : List Entry) (e : Entry) → S b e → passed e l ≡ false
   not_passed b e st = and_false (is_load l.item.kind) (is_before l.issued e.addr_due) (ap (λ i. is_before i e.addr_due) begins ∙ not_after now e.addr_due st.due)

@@ -13,7 +13,7 @@ use Rattle.window_model.specs.Rename.{is_stop}
 use Rattle.committed_state.specs.Computed.{Bank}
 use Rattle.window_model.specs.Along.{Along}
 use Rattle.committed_state.specs.Links.{Chain, links, entry_link}
-use Rattle.committed_state.specs.Consistent.{Stands, IsItem, Predicts, HasStopped}
+use Rattle.committed_state.specs.Consistent.{EntryInvariant, IsItem, Predicts, HasStopped}
 use Rattle.committed_state.specs.Laws.{NowhereHasReason}
 use Rattle.std.specs.List.{AllByRecursion as Each}
 
@@ -36,12 +36,12 @@ entry_stops true true false p n h k = refl
 entry_stops true false s p n h k = absurd (cc)
 entry_stops false f s p n h k = let q = h k in cc
 
-window_stops : (d : Desc) (code : Code) (s : Bank) (now : ℕ) (b : List Entry) (from : Option ℕ) (e : Entry) (es : List Entry) (queue : List Item) → Along (Stands d code s now) b (e ∷ es) → Each (IsItem code) queue → Chain from (links (e ∷ es) queue) None → HasStopped (e ∷ es) queue
+window_stops : (d : Desc) (code : Code) (s : Bank) (now : ℕ) (b : List Entry) (from : Option ℕ) (e : Entry) (es : List Entry) (queue : List Item) → Along (EntryInvariant d code s now) b (e ∷ es) → Each (IsItem code) queue → Chain from (links (e ∷ es) queue) None → HasStopped (e ∷ es) queue
 window_stops d code s now b from e [] [] h q k = entry_stops e.resolved (is_faulty e) (is_stop e.item.kind) e.item.predicted (next_of e.outcome) (stop_predicts e.item.kind e.item h.0.item.next) k.1
 window_stops d code s now b from e [] (i ∷ is) h q k = queue_stops code (entry_link e).next i is q k.1
 window_stops d code s now b from e (f ∷ es) queue h q k = window_stops d code s now (e ∷ b) (entry_link e).next f es queue h.1 q k.1
 
-reason : (d : Desc) (code : Code) (s : Bank) (now : ℕ) (pc : ℕ) (window : List Entry) (queue : List Item) → Along (Stands d code s now) [] window → Each (IsItem code) queue → Chain (Some pc) (links window queue) None → HasStopped window queue
+reason : (d : Desc) (code : Code) (s : Bank) (now : ℕ) (pc : ℕ) (window : List Entry) (queue : List Item) → Along (EntryInvariant d code s now) [] window → Each (IsItem code) queue → Chain (Some pc) (links window queue) None → HasStopped window queue
 reason d code s now pc [] [] h q k = absurd (let n = ap is_some k in cc)
 reason d code s now pc [] (i ∷ is) h q k = queue_stops code (Some pc) i is q k
 reason d code s now pc (e ∷ es) queue h q k = window_stops d code s now [] (Some pc) e es queue h q k

@@ -17,7 +17,7 @@ use Rattle.window_model.specs.Clear.{is_before}
 use Rattle.window_model.specs.MayIssue.{effect_of}
 use Rattle.window_model.specs.Retire.{addr_of, width_in}
 use Rattle.committed_state.specs.Computed.{Bank, ComesTo, as_known, as_known_by, bytes_over, computed, finds, outcome_as}
-use Rattle.committed_state.specs.Consistent.{HasOperands, Stands, executed, goes_through, is_issued, stands_before}
+use Rattle.committed_state.specs.Consistent.{HasOperands, EntryInvariant, executed, goes_through, is_issued, stands_before}
 use Rattle.committed_state.proofs.Computed.{alike, bytes_same}
 use Rattle.committed_state.proofs.Sees.{InLoad, Moves, Sees, byte_else, byte_pick, sees_moves}
 use Rattle.window_model.proofs.Booleans.{both, both_then}
@@ -50,7 +50,7 @@ load_out Load ram l f bytes None k c h = absurd (cc)
 load_out _ ram l f bytes o k c h = absurd (cc)
 
 -- a byte of a load without fault, by the address that it computes
-pub in_load : (d : Desc) (code : Code) (s : Bank) (now : ℕ) (b : List Entry) (l : Entry) → Stands d code s now b l → is_issued l ≡ true → is_load l.item.kind ≡ true →
+pub in_load : (d : Desc) (code : Code) (s : Bank) (now : ℕ) (b : List Entry) (l : Entry) → EntryInvariant d code s now b l → is_issued l ≡ true → is_load l.item.kind ≡ true →
     load_fault s.ram (effect_of s.regs b l).addr (width_in l.item.instr) ≡ None → (a : ℕ) → (effect_of s.regs b l).addr ≤ a → a < (effect_of s.regs b l).addr + width_in l.item.instr → InLoad l a
 in_load d code s now b l st i q n a le lt =
     let o = load_out l.item.kind s.ram l (effect_of s.regs b l) (bytes_over s b l (effect_of s.regs b l).addr) l.outcome q st.computed i in
@@ -118,7 +118,7 @@ module _ (now : ℕ) (l : Entry) where
   empty_seen (e ∷ b) b2 h k = absurd (cc)
 
   -- an entry stands over older entries that it sees alike as it did
-  pub stands_seen : (d : Desc) (code : Code) (s : Bank) (b b2 : List Entry) → AllSeen now l b b2 → Stands d code s now b l → Stands d code s now b2 l
+  pub stands_seen : (d : Desc) (code : Code) (s : Bank) (b b2 : List Entry) → AllSeen now l b b2 → EntryInvariant d code s now b l → EntryInvariant d code s now b2 l
   stands_seen d code s b b2 h k = record {
     item = k.item;
     parts = k.parts;
@@ -147,5 +147,5 @@ all_seen now l [] (e2 ∷ b2) h = absurd h
 all_seen now l (e ∷ b) [] h = absurd h
 
 -- an entry stands over older entries that went on as it did
-pub stands_onward : (d : Desc) (code : Code) (s : Bank) (now : ℕ) (b b2 : List Entry) (e : Entry) → Onward now b b2 → Stands d code s now b e → Stands d code s now b2 e
+pub stands_onward : (d : Desc) (code : Code) (s : Bank) (now : ℕ) (b b2 : List Entry) (e : Entry) → Onward now b b2 → EntryInvariant d code s now b e → EntryInvariant d code s now b2 e
 stands_onward d code s now b b2 e h k = stands_seen now e d code s b b2 (all_seen now e b b2 h) k

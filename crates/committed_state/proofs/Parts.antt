@@ -22,7 +22,7 @@ use Rattle.window_model.specs.Retire.{hart_of, stored_of}
 use Rattle.window_model.proofs.Booleans.{or_true}
 use Rattle.window_model.proofs.Issuing.{MayGo, gone_parts}
 use Rattle.committed_state.specs.Computed.{Bank, ComesTo, as_known_by, bytes_over, computed, known_of, outcome_as}
-use Rattle.committed_state.specs.Consistent.{FitsClearing, FitsParts, FitsState, HasOperands, Stands, all_executed, all_issued, all_issued_by, bank_in, is_issued}
+use Rattle.committed_state.specs.Consistent.{FitsClearing, FitsParts, FitsState, HasOperands, EntryInvariant, all_executed, all_issued, all_issued_by, bank_in, is_issued}
 use Rattle.committed_state.specs.Links.{Link, true_next}
 use Rattle.committed_state.proofs.Kept.{Kept}
 use Rattle.committed_state.proofs.Sees.{Moves, located, moves_same, moves_then}
@@ -74,7 +74,7 @@ fits_clearing : (p : Bool) (e r : Entry) → r.item ≡ e.item → r.cleared ≡
 fits_clearing true e r i c a f = λ q n. c ∙ f (sym (ap (λ (i : Item). is_store i.kind) i) ∙ q) (a n)
 fits_clearing false e r i c a f = c ∙ f
 
-module _ (d : Desc) (code : Code) (x : Machine) (b : List Entry) (e : Entry) (q : e.item.kind ≡ Store) (st : Stands d code (bank_of x) (x.cycle + 1) b e) where
+module _ (d : Desc) (code : Code) (x : Machine) (b : List Entry) (e : Entry) (q : e.item.kind ≡ Store) (st : EntryInvariant d code (bank_of x) (x.cycle + 1) b e) where
   abbrev F : Effect
   F = effect_of x.regs b e
 
@@ -108,7 +108,7 @@ module _ (d : Desc) (code : Code) (x : Machine) (b : List Entry) (e : Entry) (q 
       let r = with_address (around x) F e in
       let w = still_waits e.state e st.state (store_all e.item.kind (has_address e) (has_data e) (is_issued e) q ∙ ap (λ a. a && has_data e) g.fresh) once in
       let out : ComesTo r.outcome (known_of true (has_data e) O) = ap (λ (u : Outcome). let v : Outcome = record u { addr = O.addr; fault = O.fault } in v) (before ∙ ap (λ a. known_of a (has_data e) O) g.fresh) in
-      let made : Stands d code (bank_of x) (x.cycle + 1) b r = record {
+      let made : EntryInvariant d code (bank_of x) (x.cycle + 1) b r = record {
         item = st.item;
         parts = subst (λ k. FitsParts k true (has_data e) true) (sym q) refl;
         state = subst (λ t. FitsState (busy_until_both (Some (x.cycle + 1)) e.data_due t) r) (sym w.0) (fits_busy (Some (x.cycle + 1)) e.data_due r (store_all e.item.kind true (has_data e) true q) w.1 once);
@@ -144,7 +144,7 @@ module _ (d : Desc) (code : Code) (x : Machine) (b : List Entry) (e : Entry) (q 
       let r = with_data (around x) F e in
       let w = still_waits e.state e st.state (store_all e.item.kind (has_address e) (has_data e) (is_issued e) q ∙ and_no (has_address e) (has_data e) g.fresh) once in
       let out : ComesTo r.outcome (known_of (has_address e) true O) = ap (λ (u : Outcome). let v : Outcome = record u { stored = O.stored } in v) (before ∙ ap (λ c. known_of (has_address e) c O) g.fresh) in
-      let made : Stands d code (bank_of x) (x.cycle + 1) b r = record {
+      let made : EntryInvariant d code (bank_of x) (x.cycle + 1) b r = record {
         item = st.item;
         parts = subst (λ k. FitsParts k (has_address e) true true) (sym q) (sym (or_true (has_address e) true refl));
         state = subst (λ t. FitsState (busy_until_both e.addr_due (Some (x.cycle + 1)) t) r) (sym w.0) (fits_busy e.addr_due (Some (x.cycle + 1)) r (store_all e.item.kind (has_address e) true true q) w.1 once);
@@ -183,7 +183,7 @@ module _ (d : Desc) (code : Code) (x : Machine) (b : List Entry) where
   kept_then e e1 e2 p q = record { stands = q.stands; moves = moves_then (x.cycle + 1) e e1 e2 p.moves q.moves; link = q.link ∙ p.link }
 
   -- a store whose parts issue goes on, and stands as it has to
-  pub parts_so : (e : Entry) → e.item.kind ≡ Store → Stands d code (bank_of x) (x.cycle + 1) b e → (a c : Bool) → (a ≡ true → MayGo d (has_address e) (base_of (sources e)) b) → (c ≡ true → MayGo d (has_data e) (others_of (sources e)) b) → Goes e (gone_parts (around x) b a c e)
+  pub parts_so : (e : Entry) → e.item.kind ≡ Store → EntryInvariant d code (bank_of x) (x.cycle + 1) b e → (a c : Bool) → (a ≡ true → MayGo d (has_address e) (base_of (sources e)) b) → (c ≡ true → MayGo d (has_data e) (others_of (sources e)) b) → Goes e (gone_parts (around x) b a c e)
   parts_so e q st false false ga gc = record { stands = st; moves = moves_same (x.cycle + 1) e; link = refl }
   parts_so e q st true false ga gc = address_so d code x b e q st (ga refl)
   parts_so e q st false true ga gc = data_so d code x b e q st (gc refl)

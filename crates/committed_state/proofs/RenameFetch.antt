@@ -24,7 +24,7 @@ use Rattle.window_model.proofs.Walks.{rename_keep, fetch_keep}
 use Rattle.committed_state.specs.Computed.{Bank}
 use Rattle.window_model.specs.Along.{Along}
 use Rattle.committed_state.specs.Links.{Chain, links, entry_link, item_link, true_next}
-use Rattle.committed_state.specs.Consistent.{Stands, Holds, ConsistentIn, FitsClearing, FitsParts, FitsState, HasOperands, all_issued_by, IsItem, Predicts, goes_through, bank_in}
+use Rattle.committed_state.specs.Consistent.{EntryInvariant, Holds, ConsistentIn, FitsClearing, FitsParts, FitsState, HasOperands, all_issued_by, IsItem, Predicts, goes_through, bank_in}
 use Rattle.window_model.proofs.Booleans.{both, neither, not_true}
 use Rattle.window_model.proofs.EntryByEntry.{along_push}
 use Rattle.window_model.proofs.Lists.{each_push}
@@ -59,7 +59,7 @@ resolved_control Done e h r = h.1 r
 resolved_control Waiting e h r = absurd (let q = h.1 in cc)
 resolved_control _ e h r = absurd (let q = h.1 in cc)
 
-through_chain : (d : Desc) (code : Code) (s : Bank) (now : ℕ) (b : List Entry) (from to : Option ℕ) (w : List Entry) (i : Item) (rest : List Item) → Along (Stands d code s now) b w → Chain from (links w (i ∷ rest)) to → list_any (λ e. is_call e.item.kind) w ≡ false → list_all goes_through w ≡ true
+through_chain : (d : Desc) (code : Code) (s : Bank) (now : ℕ) (b : List Entry) (from to : Option ℕ) (w : List Entry) (i : Item) (rest : List Item) → Along (EntryInvariant d code s now) b w → Chain from (links w (i ∷ rest)) to → list_any (λ e. is_call e.item.kind) w ≡ false → list_all goes_through w ≡ true
 through_chain d code s now b from to [] i rest h k c = refl
 through_chain d code s now b from to (e ∷ w) i rest h k c =
     let cs = neither (is_call e.item.kind) _ c in
@@ -102,7 +102,7 @@ module _ (now : ℕ) (code : Code) (d : Desc) where
       let f1 = both (nat_lt (length w) d.core_rob && not (list_any (λ e. is_call e.item.kind) w) && fits_as i.kind d w) _ f in
       let f2 = both (nat_lt (length w) d.core_rob && not (list_any (λ e. is_call e.item.kind) w)) _ f1.0 in
       let f3 = both (nat_lt (length w) d.core_rob) _ f2.0 in
-      let made : Stands d code (bank_in s) now (reverse w) (renamed d serial i) = record {
+      let made : EntryInvariant d code (bank_in s) now (reverse w) (renamed d serial i) = record {
         item = h.items.0;
         parts = parts_new i.kind;
         state = fits_new d (at_once i.kind) serial i refl;
@@ -116,7 +116,7 @@ module _ (now : ℕ) (code : Code) (d : Desc) where
         alone = alone_as i.kind d w f2.1;
       } in
       record {
-        entries = along_push (Stands d code (bank_in s) now) [] w (renamed d serial i) h.entries made;
+        entries = along_push (EntryInvariant d code (bank_in s) now) [] w (renamed d serial i) h.entries made;
         items = h.items.1;
         chain = subst (λ ls. Chain (Some s.pc) ls fetch_pc) (sym (same_links d w rest i serial)) h.chain;
         registers = h.registers;

@@ -15,7 +15,7 @@ use Rattle.window_model.specs.Resolve.{resolve, squashes, is_next, next_of}
 use Rattle.committed_state.specs.Computed.{Bank}
 use Rattle.window_model.specs.Along.{Along}
 use Rattle.committed_state.specs.Links.{Link, Chain, links, entry_link, item_link, true_next}
-use Rattle.committed_state.specs.Consistent.{Stands, Holds, ConsistentIn, FitsClearing, FitsState, bank_in}
+use Rattle.committed_state.specs.Consistent.{EntryInvariant, Holds, ConsistentIn, FitsClearing, FitsState, bank_in}
 use Rattle.machine_desc.specs.Questions.{loads_pass}
 use Rattle.committed_state.proofs.Onward.{stands_onward}
 use Rattle.committed_state.proofs.Sees.{Moves, moves_same}
@@ -45,7 +45,7 @@ clearing_resolved : (p : Bool) (e : Entry) → FitsClearing p e → FitsClearing
 clearing_resolved true e c = c
 clearing_resolved false e c = c
 
-stands_resolved : (d : Desc) (code : Code) (s : Bank) (now : ℕ) (e : Entry) → is_done e.state ≡ true → is_control e.item.kind ≡ true → (b : List Entry) → Stands d code s now b e → Stands d code s now b (resolved_one e)
+stands_resolved : (d : Desc) (code : Code) (s : Bank) (now : ℕ) (e : Entry) → is_done e.state ≡ true → is_control e.item.kind ≡ true → (b : List Entry) → EntryInvariant d code s now b e → EntryInvariant d code s now b (resolved_one e)
 stands_resolved d code s now e is c b st = record {
   item = st.item;
   parts = st.parts;
@@ -92,10 +92,10 @@ module _ (now : ℕ) (code : Code) (d : Desc) where
     here : Holds d code (hart_of x) now (older ++ e ∷ p.younger) x.queue x.fetch_pc
     here = subst (λ w. Holds d code (hart_of x) now w x.queue x.fetch_pc) t.window h
 
-    entries : Along (Stands d code (bank_in (hart_of x)) now) [] (older ++ resolved_one e ∷ p.younger)
+    entries : Along (EntryInvariant d code (bank_in (hart_of x)) now) [] (older ++ resolved_one e ∷ p.younger)
     entries =
         let bank = bank_in (hart_of x) in
-        place_on (Stands d code bank now) (Moves now) (moves_same now) (stands_onward d code bank now) e (resolved_one e)
+        place_on (EntryInvariant d code bank now) (Moves now) (moves_same now) (stands_onward d code bank now) e (resolved_one e)
         (record { item = refl; cleared = refl; done = λ q. (q, refl); address = λ q. (refl, refl); fresh = λ q k. absurd (cc); stored = λ q. (q, refl) })
         (stands_resolved d code bank now e t.parts.done t.parts.control) [] older p.younger here.entries
 
@@ -109,7 +109,7 @@ module _ (now : ℕ) (code : Code) (d : Desc) where
 
     cut : Holds d code (hart_of x) now (older ++ resolved_one e ∷ []) [] (true_next e)
     cut = record {
-      entries = along_cut (Stands d code (bank_in (hart_of x)) now) [] older p.younger (resolved_one e) entries;
+      entries = along_cut (EntryInvariant d code (bank_in (hart_of x)) now) [] older p.younger (resolved_one e) entries;
       items = tt;
       chain = chain_cut (Some x.pc) x.fetch_pc older p.younger x.queue e (resolved_one e) refl here.chain;
       registers = h.registers;

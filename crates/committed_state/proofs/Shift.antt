@@ -19,7 +19,7 @@ use Rattle.window_model.proofs.Registers.{read_same, read_other}
 use Rattle.window_model.specs.MayIssue.{effect_of}
 use Rattle.window_model.specs.Retire.{width_in}
 use Rattle.committed_state.specs.Computed.{Bank, ComesTo, as_known, as_known_by, bytes_over, computed, finds, known_of}
-use Rattle.committed_state.specs.Consistent.{Stands, executed, goes_through, is_issued, stands_before}
+use Rattle.committed_state.specs.Consistent.{EntryInvariant, executed, goes_through, is_issued, stands_before}
 use Rattle.committed_state.specs.Replay.{bank_after, replayed}
 use Rattle.committed_state.proofs.Bytes.{keeps_bank, one_byte}
 use Rattle.committed_state.proofs.Computed.{alike, bytes_same}
@@ -77,7 +77,7 @@ module _ (s : Bank) (head : Entry) (r : ComesTo head.outcome (replayed s head)) 
   byte_shift l (e ∷ b) a le =
       byte_pick (finds l a e) S.ram a e (find (finds l a) b) ∙ ap (byte_else l a e) (byte_shift l b a le) ∙ sym (byte_pick (finds l a e) s.ram a e (find (finds l a) (b ++ head ∷ [])))
 
-  stands_shift : length s.regs ≡ 32 → (d : Desc) (code : Code) (now : ℕ) (b : List Entry) (e : Entry) → Stands d code s now (b ++ head ∷ []) e → Stands d code S now b e
+  stands_shift : length s.regs ≡ 32 → (d : Desc) (code : Code) (now : ℕ) (b : List Entry) (e : Entry) → EntryInvariant d code s now (b ++ head ∷ []) e → EntryInvariant d code S now b e
   stands_shift n d code now b e k = record {
     item = k.item;
     parts = k.parts;
@@ -99,5 +99,5 @@ module _ (s : Bank) (head : Entry) (r : ComesTo head.outcome (replayed s head)) 
           alike code s S old b e k.item (keeps_bank s (head ∷ [])) (λ q lt z. sym (operand_shift b q (omega (arith, n)))) (bytes_over S b e)
           (λ l f. let j = inside _ _ s.ram F.addr (width_in e.item.instr) f in bytes_same s.ram S.ram old b e F.addr (width_in e.item.instr) (λ a le lt. byte_shift e b a (omega (arith, j.0, le)))) i k.operands
 
-  pub along_shift : length s.regs ≡ 32 → (d : Desc) (code : Code) (now : ℕ) (es : List Entry) → Along (Stands d code s now) (head ∷ []) es → Along (Stands d code S now) [] es
-  along_shift n d code now es k = along_drops (Stands d code s now) (Stands d code S now) head (stands_shift n d code now) [] es k
+  pub along_shift : length s.regs ≡ 32 → (d : Desc) (code : Code) (now : ℕ) (es : List Entry) → Along (EntryInvariant d code s now) (head ∷ []) es → Along (EntryInvariant d code S now) [] es
+  along_shift n d code now es k = along_drops (EntryInvariant d code s now) (EntryInvariant d code S now) head (stands_shift n d code now) [] es k

@@ -23,7 +23,7 @@ use Rattle.window_model.specs.Fetch.{instr_at, kind_at}
 use Rattle.committed_state.specs.Replay.{Bank, replayed, replayed_as, ram_after, effect_on}
 use Rattle.window_model.specs.Along.{Along}
 use Rattle.committed_state.specs.Links.{Chain, links}
-use Rattle.committed_state.specs.Consistent.{Stands, Holds, Predicts, bank_in, is_issued}
+use Rattle.committed_state.specs.Consistent.{EntryInvariant, Holds, Predicts, bank_in, is_issued}
 use Rattle.committed_state.proofs.Bytes.{some_is}
 use Rattle.window_model.proofs.Registers.{length_with}
 use Rattle.committed_state.proofs.Onward.{of_item}
@@ -149,7 +149,7 @@ head_leaves_so d code s now e rest queue fetch_pc h may t k c =
     let nx = link_next e.resolved e e.outcome r o u predicts in
     record {
       holds = record {
-        entries = subst (λ b. Along (Stands d code b now) [] rest) (sym (ap bank_in left)) (along_shift (bank_in s) e rep i (λ q. let p = both_parts e.item.kind (has_address e) (has_data e) (is_issued e) q all in (p.0, p.1, c q)) h.registers d code now rest h.entries.1);
+        entries = subst (λ b. Along (EntryInvariant d code b now) [] rest) (sym (ap bank_in left)) (along_shift (bank_in s) e rep i (λ q. let p = both_parts e.item.kind (has_address e) (has_data e) (is_issued e) q all in (p.0, p.1, c q)) h.registers d code now rest h.entries.1);
         items = h.items;
         chain = subst (λ a. Chain a (links rest queue) fetch_pc) nx h.chain.1;
         registers = length_with s.regs (writes_of e.item.instr) (value_of e.outcome) ∙ h.registers;

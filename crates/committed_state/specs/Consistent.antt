@@ -104,7 +104,7 @@ IsDueBy now None = Unit {0}
 IsDueBy now (Some due) = due ≤ now
 
 -- what holds of an entry behind older ones, over the retired registers and memory, as Issue of cycle `now` finds it
-pub record Stands (d : Desc) (code : Code) (s : Bank) (now : ℕ) (before : List Entry) (e : Entry) : Type 0 where
+pub record EntryInvariant (d : Desc) (code : Code) (s : Bank) (now : ℕ) (before : List Entry) (e : Entry) : Type 0 where
   pub item : IsItem code e.item
   pub parts : FitsParts e.item.kind (has_address e) (has_data e) (is_issued e)
   pub state : FitsState e.state e
@@ -127,7 +127,7 @@ bank_in s = record { regs = s.regs; ram = s.ram }
 
 -- what holds of the window, the queue and the fetch pc over the retired state, as Issue of cycle `now` finds them
 pub record Holds (d : Desc) (code : Code) (s : Hart) (now : ℕ) (window : List Entry) (queue : List Item) (fetch_pc : Option ℕ) : Type 0 where
-  pub entries : Along (Stands d code (bank_in s) now) [] window
+  pub entries : Along (EntryInvariant d code (bank_in s) now) [] window
   pub items : Each (IsItem code) queue
   pub chain : Chain (Some s.pc) (links window queue) fetch_pc
   pub registers : length s.regs ≡ 32

@@ -23,7 +23,7 @@ const WRITTEN: u32 = 6;
 
 /// A part of an image beside its code: its first address, its words, and whether they may be fetched.
 #[derive(Clone, Copy)]
-pub struct Part<'a> {
+pub struct SegmentWords<'a> {
     pub address: u32,
     pub words: &'a [u32],
     pub fetched: bool,
@@ -54,7 +54,12 @@ fn size_of(words: &[u32]) -> u32 {
 }
 
 // The file of this code and this other part.
-fn file_of(alloc: Global, entry: u32, code: &[u32], other: Part<'_>) -> Result<Vec<u8>, Fail> {
+fn file_of(
+    alloc: Global,
+    entry: u32,
+    code: &[u32],
+    other: SegmentWords<'_>,
+) -> Result<Vec<u8>, Fail> {
     let mut file = Vec::new(alloc);
     let size = size_of(code);
     let other_size = size_of(other.words);
@@ -87,14 +92,19 @@ fn loaded(alloc: Global, file: &[u8], misaligned: bool) -> Result<Image, Fail> {
 }
 
 /// The image of this code and this other part, where fetch begins at the entry.
-pub fn image_of(alloc: Global, entry: u32, code: &[u32], other: Part<'_>) -> Result<Image, Fail> {
+pub fn image_of(
+    alloc: Global,
+    entry: u32,
+    code: &[u32],
+    other: SegmentWords<'_>,
+) -> Result<Image, Fail> {
     let file = file_of(alloc, entry, code, other)?;
     loaded(alloc, file.as_slice(), false)
 }
 
 /// The image of this code alone, which begins with its first word, with accesses at any address or not.
 pub fn code_image(alloc: Global, misaligned: bool, code: &[u32]) -> Result<Image, Fail> {
-    let none = Part {
+    let none = SegmentWords {
         address: DATA,
         words: &[],
         fetched: false,
@@ -105,7 +115,7 @@ pub fn code_image(alloc: Global, misaligned: bool, code: &[u32]) -> Result<Image
 
 /// The image of a program, which begins with its first word, and of its data.
 pub fn program_image(alloc: Global, code: &[u32], data: &[u32]) -> Result<Image, Fail> {
-    let other = Part {
+    let other = SegmentWords {
         address: DATA,
         words: data,
         fetched: false,

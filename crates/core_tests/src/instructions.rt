@@ -1,7 +1,7 @@
 //! Every instruction once at least, traps, system calls and whole runs. The words are what an assembler makes of the
 //! lines beside them, and the values are those of the manual's formulas.
 use crate::asserting::assert_same;
-use crate::images::{CODE as BASE, Part, SIZE, image_of, program_image};
+use crate::images::{CODE as BASE, SIZE, SegmentWords, image_of, program_image};
 use isa_step::{Isa, Stepped};
 use rv_types::{Cause, End, Piece, Width};
 use std::alloc::Global;
@@ -213,7 +213,7 @@ fn set_up(alloc: Global, values: &[(u32, u32)]) -> Result<Vec<u32>, Fail> {
 // A machine at an instruction at the base, with these values of registers.
 fn before(alloc: Global, word: u32, values: &[(u32, u32)]) -> Result<Isa, Fail> {
     let words = set_up(alloc, values)?;
-    let other = Part {
+    let other = SegmentWords {
         address: DATA,
         words: words.as_slice(),
         fetched: true,
@@ -304,7 +304,7 @@ fn traps_change_nothing(rt: HostRuntime) -> Result<(), Fail> {
 
 #[test]
 fn nothing_is_fetched_outside_code(rt: HostRuntime) -> Result<(), Fail> {
-    let none = Part {
+    let none = SegmentWords {
         address: DATA,
         words: &[],
         fetched: false,

@@ -19,13 +19,13 @@ const ALIGNMENT: usize = 16;
 
 /// A span of memory's bytes: the place of the first one, and of the first behind it, both multiples of 16.
 #[derive(Clone, Copy)]
-pub(crate) struct Span {
+pub(crate) struct MemorySpan {
     pub from: usize,
     pub to: usize,
 }
 
 // The span with the rows of these bytes too.
-fn widened(span: Span, start: usize, end: usize) -> Span
+fn widened(span: MemorySpan, start: usize, end: usize) -> MemorySpan
     requires { end < 2 ^ 33 }
     ensures from { result.from ≤ span.from }
     ensures start { result.from ≤ start }
@@ -37,14 +37,14 @@ fn widened(span: Span, start: usize, end: usize) -> Span
 {
     let first = start / ALIGNMENT * ALIGNMENT;
     let behind = (end + ALIGNMENT - 1) / ALIGNMENT * ALIGNMENT;
-    Span {
+    MemorySpan {
         from: if first < span.from { first } else { span.from },
         to: if span.to < behind { behind } else { span.to },
     }
 }
 
 // The span with the segment of program header i too, where it has one.
-fn with_segment(segments: &Segments<'_>, i: u16, ram: &Ram, span: Span) -> Span
+fn with_segment(segments: &Segments<'_>, i: u16, ram: &Ram, span: MemorySpan) -> MemorySpan
     requires inside { IfSome (segment_at segments.now i) (Inside ram.now.base (length ram.now.bytes)) }
     requires span { InRows (length ram.now.bytes) span.from span.to }
     ensures here { IfSome (segment_at segments.now i)
@@ -65,7 +65,7 @@ fn with_segment(segments: &Segments<'_>, i: u16, ram: &Ram, span: Span) -> Span
 }
 
 // The span, or where it is empty one row.
-fn at_least_a_row(span: Span, size: usize) -> Span
+fn at_least_a_row(span: MemorySpan, size: usize) -> MemorySpan
     requires span { InRows size span.from span.to }
     requires whole { size % 16 ≡ 0 }
     requires some { 0 < size }
@@ -79,19 +79,19 @@ fn at_least_a_row(span: Span, size: usize) -> Span
         return span;
     }
     if span.from < size {
-        return Span {
+        return MemorySpan {
             from: span.from,
             to: span.from + ALIGNMENT,
         };
     }
-    Span {
+    MemorySpan {
         from: size - ALIGNMENT,
         to: size,
     }
 }
 
 /// The span of the segments, at least one row.
-pub(crate) fn span_of(segments: &Segments<'_>, ram: &Ram) -> Span
+pub(crate) fn span_of(segments: &Segments<'_>, ram: &Ram) -> MemorySpan
     requires { ram_fault segments.now ram.now ≡ None }
     ensures some { result.from < result.to }
     ensures span { InRows (length ram.now.bytes) result.from result.to }
@@ -99,7 +99,7 @@ pub(crate) fn span_of(segments: &Segments<'_>, ram: &Ram) -> Span
     ensures all { AllInside segments.now (ram.now.base + result.from) (result.to - result.from) }
 {
     let size = ram.size() as usize;
-    let mut span = Span { from: size, to: 0 };
+    let mut span = MemorySpan { from: size, to: 0 };
     for i in 0..segments.count() {
         span = with_segment(segments, i, ram, span);
     }
@@ -107,7 +107,7 @@ pub(crate) fn span_of(segments: &Segments<'_>, ram: &Ram) -> Span
 }
 
 /// A copy of this span of memory, as a memory of its own. The one error is want of memory.
-pub(crate) fn part_of(alloc: Global, ram: &Ram, span: Span) -> Result<Ram, NoMemory>
+pub(crate) fn part_of(alloc: Global, ram: &Ram, span: MemorySpan) -> Result<Ram, NoMemory>
     requires some { span.from < span.to }
     requires span { InRows (length ram.now.bytes) span.from span.to }
     ensures { IfOk result (λ p. p ≡ part ram.now span.from span.to) }

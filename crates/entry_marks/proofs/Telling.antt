@@ -8,7 +8,7 @@ use Rattle.window_model.specs.Serials.{Rise, below}
 use Rattle.window_model.proofs.Serials.{place_of}
 use Rattle.secret_marks.specs.declared.EntryMarks.{EntryMarks}
 use Rattle.secret_marks.specs.Marks.{Marks}
-use Rattle.entry_marks.specs.Told.{IsFound, TellsOf, Told, has_issued, serial_of}
+use Rattle.entry_marks.specs.Told.{IsFound, TellsOf, TellsOfEach, has_issued, serial_of}
 use Rattle.entry_marks.proofs.Before.{found_at}
 use Rattle.entry_marks.proofs.YoungestFirst.{left_from, stays}
 
@@ -77,7 +77,7 @@ module _ (cycle : ℕ) (window : List Entry) (events : List Event) where
     pub left_passed : IsFound cycle window n v None → LeftTold n k
     left_passed none i f lt at h = sooner f.serial (left i f lt at h) (none i f lt at h)
 
-    module _ (told : Told cycle window events) (rise : Rise window) (i : ℕ) (found : IsFound cycle window n v (Some i)) where
+    module _ (told : TellsOfEach cycle window events) (rise : Rise window) (i : ℕ) (found : IsFound cycle window n v (Some i)) where
       -- the entries behind the one that is found, before position n, haven't issued
       pub none_between : (j : ℕ) (e : Entry) → i + 1 ≤ j → j < n → slice_get window j ≡ Some e → has_issued cycle e ≡ false
       none_between j f low high at = if_never (has_issued cycle f) (λ h.

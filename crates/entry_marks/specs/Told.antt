@@ -30,7 +30,7 @@ pub record TellsOf (events : List Event) (n serial : ℕ) : Type 0 where
   pub tells : serial_of event ≡ Some serial
 
 -- the events tell of each entry that has issued in this cycle, and go from the oldest such entry on
-pub record Told (cycle : ℕ) (window : List Entry) (events : List Event) : Type 0 where
+pub record TellsOfEach (cycle : ℕ) (window : List Entry) (events : List Event) : Type 0 where
   pub each : (i : ℕ) (e : Entry) → slice_get window i ≡ Some e → has_issued cycle e ≡ true → TellsOf events (length events) e.serial
   pub rise : (j k : ℕ) (v w : Event) (s t : ℕ) → j ≤ k → slice_get events j ≡ Some v → slice_get events k ≡ Some w → serial_of v ≡ Some s → serial_of w ≡ Some t → s ≤ t
 

@@ -12,14 +12,14 @@ use Rattle.entry_marks.specs.declared.walk.Walk.{Walk}
 use Rattle.entry_marks.specs.Beside.{marks_before}
 
 -- the sources, with some other parts, refine the window, and each entry has its marks
-pub record StandBeside (window : List Entry) (sources : List Sources) (marks : List EntryMarks) : Type 0 where
+pub record RefinesBeside (window : List Entry) (sources : List Sources) (marks : List EntryMarks) : Type 0 where
   pub rest : InFlight
   pub refines : Refines (record rest { window = window; sources = sources })
   pub step : length marks ≡ length window
 
 -- the sources that a walk looks at refine its window, and each entry has its marks
-abbrev pub Stands : Walk → Type 0
-Stands w = StandBeside w.rob.now.entries w.sources.now.items w.marks.now.items
+abbrev pub WalkInvariant : Walk → Type 0
+WalkInvariant w = RefinesBeside w.rob.now.entries w.sources.now.items w.marks.now.items
 
 -- the entry stands at position i, counted from the oldest
 abbrev pub StandsAt : Walk → ℕ → Entry → Type 0

@@ -32,11 +32,11 @@ impl<'a> Walk<'a> {
     ghost use Rattle.secret_marks.specs.Words.{either};
     ghost use Rattle.secret_marks.specs.declared.EntryMarks.{EntryMarks};
     ghost use Rattle.secret_marks.specs.Marks.{goes_mark, is_at, issued_marks, second_marks, value_marks};
-    ghost use Rattle.entry_marks.specs.Walk.{Stands, StandsAt, entries_at, marks_at, with_window};
+    ghost use Rattle.entry_marks.specs.Walk.{WalkInvariant, StandsAt, entries_at, marks_at, with_window};
 
     // The marks of the value of the entry at a position.
     fn value_marks(&self, i: u32, entry: &Entry) -> WordMarks
-        requires stands { Stands self.now }
+        requires stands { WalkInvariant self.now }
         requires at { StandsAt self.now i entry.now }
         ensures { (window : List EntryMarks) → result ≡ value_marks entry.now.item.kind self.now.cycle self.now.base
             (with_window self.now window) (entries_at self.now i) (marks_at self.now i) entry.now }
@@ -53,7 +53,7 @@ impl<'a> Walk<'a> {
 
     // Whether the entry at a position is a branch or JALR that goes by something marked.
     fn goes_mark(&self, i: u32, entry: &Entry) -> bool
-        requires stands { Stands self.now }
+        requires stands { WalkInvariant self.now }
         requires at { StandsAt self.now i entry.now }
         ensures { (window : List EntryMarks) → result ≡ goes_mark (with_window self.now window)
             (entries_at self.now i) (marks_at self.now i) entry.now }
@@ -68,7 +68,7 @@ impl<'a> Walk<'a> {
     // The marks of the value of the entry at a position: those of its operands or loaded bytes, where it issued in
     // this cycle, beside those that it has.
     fn result_after(&self, i: u32, entry: &Entry, own: WordMarks) -> WordMarks
-        requires stands { Stands self.now }
+        requires stands { WalkInvariant self.now }
         requires at { StandsAt self.now i entry.now }
         ensures { (window : List EntryMarks) → result ≡ (if is_at self.now.cycle entry.now.issued
             then either own (value_marks entry.now.item.kind self.now.cycle self.now.base
@@ -83,7 +83,7 @@ impl<'a> Walk<'a> {
 
     // Whether the entry at a position issued in this cycle, and is a branch or JALR that goes by something marked.
     fn goes_after(&self, i: u32, entry: &Entry) -> bool
-        requires stands { Stands self.now }
+        requires stands { WalkInvariant self.now }
         requires at { StandsAt self.now i entry.now }
         ensures { (window : List EntryMarks) → result ≡ (is_at self.now.cycle entry.now.issued
             && goes_mark (with_window self.now window) (entries_at self.now i) (marks_at self.now i) entry.now) }
@@ -97,7 +97,7 @@ impl<'a> Walk<'a> {
     // The marks of what the entry at a position stores: those of its second source, where its data part issued in
     // this cycle, beside those that it has.
     fn stored_after(&self, i: u32, entry: &Entry, own: WordMarks) -> WordMarks
-        requires stands { Stands self.now }
+        requires stands { WalkInvariant self.now }
         requires at { StandsAt self.now i entry.now }
         ensures { result ≡ (if is_at (self.now.cycle + 1) entry.now.data_due
             then either own (second_marks self.now.regs.now (entries_at self.now i) (marks_at self.now i)
@@ -112,7 +112,7 @@ impl<'a> Walk<'a> {
 
     /// The marks of the entry at a position, as Issue has left it, beside those that it has.
     pub fn issued_marks(&self, i: u32, entry: &Entry, own: EntryMarks) -> EntryMarks
-        requires stands { Stands self.now }
+        requires stands { WalkInvariant self.now }
         requires at { StandsAt self.now i entry.now }
         ensures { (window : List EntryMarks) → result ≡ issued_marks self.now.cycle self.now.base
             (with_window self.now window) (entries_at self.now i) (marks_at self.now i) entry.now own }

@@ -6,8 +6,8 @@ ghost use Rattle.window_model.specs.declared.Entry.{Entry};
 ghost use Rattle.secret_marks.specs.declared.EntryMarks.{EntryMarks};
 ghost use Rattle.secret_marks.specs.Marks.{issued_from, issued_marks};
 ghost use Rattle.entry_marks.specs.Beside.{marks_before};
-ghost use Rattle.entry_marks.specs.Told.{Told};
-ghost use Rattle.entry_marks.specs.Walk.{StandBeside, marks_of, marks_with};
+ghost use Rattle.entry_marks.specs.Told.{TellsOfEach};
+ghost use Rattle.entry_marks.specs.Walk.{RefinesBeside, marks_of, marks_with};
 
 use crate::beside::{marks_at, put_marks};
 use crate::marks::Marks;
@@ -28,8 +28,8 @@ pub fn mark_issued(
     base: u32,
     cycle: u32,
 )
-    requires stands { StandBeside rob.now.entries sources.now.items marks.old.window.items }
-    requires told { Told cycle rob.now.entries events.now }
+    requires stands { RefinesBeside rob.now.entries sources.now.items marks.old.window.items }
+    requires told { TellsOfEach cycle rob.now.entries events.now }
     ensures marks { marks_of marks.new ≡ record (marks_of marks.old) {
       window = issued_from cycle base (marks_of marks.old) [] [] rob.now.entries marks.old.window.items;
     } }
@@ -54,7 +54,7 @@ fn mark_entry(
     cycle: u32,
     i: u32,
 )
-    requires stands { StandBeside rob.now.entries sources.now.items marks.old.window.items }
+    requires stands { RefinesBeside rob.now.entries sources.now.items marks.old.window.items }
     requires within { i < length rob.now.entries }
     ensures marks { (window : List EntryMarks) (e : Entry) (own : EntryMarks)
         → slice_get rob.now.entries i ≡ Some e → slice_get marks.old.window.items i ≡ Some own

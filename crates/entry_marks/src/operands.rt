@@ -45,7 +45,7 @@ impl<'a> Walk<'a> {
     ghost use Rattle.window_model.specs.Serials.{Rise};
     ghost use Rattle.secret_marks.specs.Marks.{first_marks, second_marks};
     ghost use Rattle.entry_marks.specs.Beside.{marks_by};
-    ghost use Rattle.entry_marks.specs.Walk.{Stands, StandsAt, entries_at, marks_at};
+    ghost use Rattle.entry_marks.specs.Walk.{WalkInvariant, StandsAt, entries_at, marks_at};
 
     // The marks of a source whose writer has this serial.
     #[inline(always)]
@@ -66,7 +66,7 @@ impl<'a> Walk<'a> {
 
     /// The marks of the first source of the entry at a position, none where it has no source.
     pub fn first_source(&self, i: u32, entry: &Entry) -> WordMarks
-        requires stands { Stands self.now }
+        requires stands { WalkInvariant self.now }
         requires at { StandsAt self.now i entry.now }
         ensures { result ≡ first_marks self.now.regs.now (entries_at self.now i) (marks_at self.now i)
             (sources entry.now) }
@@ -77,7 +77,7 @@ impl<'a> Walk<'a> {
 
     /// The marks of the second source of the entry at a position, none where it has none.
     pub fn second_source(&self, i: u32, entry: &Entry) -> WordMarks
-        requires stands { Stands self.now }
+        requires stands { WalkInvariant self.now }
         requires at { StandsAt self.now i entry.now }
         ensures { result ≡ second_marks self.now.regs.now (entries_at self.now i) (marks_at self.now i)
             (sources entry.now) }
@@ -89,7 +89,7 @@ impl<'a> Walk<'a> {
     /// The marks of the sources of the entry at a position.
     #[inline(always)]
     pub fn operands(&self, i: u32, entry: &Entry) -> Operands
-        requires stands { Stands self.now }
+        requires stands { WalkInvariant self.now }
         requires at { StandsAt self.now i entry.now }
         ensures first { result.first ≡ first_marks self.now.regs.now (entries_at self.now i) (marks_at self.now i)
             (sources entry.now) }

@@ -26,7 +26,7 @@ use Rattle.refinement.specs.Waiters.{wants_by, wants_of}
 use Rattle.refinement.specs.Telling.{has_sources, own_of}
 use Rattle.issue.specs.Ports.{has_issued, part_port}
 use Rattle.issue.specs.declared.seen.Seen.{Seen}
-use Rattle.issue.specs.State.{Stands, StandsAt}
+use Rattle.issue.specs.State.{IssueInvariant, StandsAt}
 
 -- the entry may issue at no port
 abbrev pub AsksNone : Desc → Around → Fact
@@ -47,7 +47,7 @@ pub record InStep (d : Desc) (e : Entry) : Type 0 where
 pub step_at : (d : Desc) (es : List Entry) (i : ℕ) (e : Entry) → Each HasParts es → Each (Together d) es → slice_get es i ≡ Some e → InStep d e
 step_at d es i e p t h = record { parts = each_here HasParts es i e p h; together = each_here (Together d) es i e t h }
 
-pub in_step : (s : Seen) (i : ℕ) (e : Entry) → Stands s → StandsAt s i e → InStep s.desc.now e
+pub in_step : (s : Seen) (i : ℕ) (e : Entry) → IssueInvariant s → StandsAt s i e → InStep s.desc.now e
 in_step s i e t h = step_at s.desc.now s.rob.now.entries i e t.store_parts t.together h
 
 -- ---- an entry in one piece

@@ -25,7 +25,7 @@ use Rattle.lsq.specs.Queues.{is_known}
 use Rattle.queue_laws.specs.Window.{all_complete}
 use Rattle.queue_laws.proofs.Letting.{known_is}
 use Rattle.issue.specs.declared.seen.Seen.{Seen}
-use Rattle.issue.specs.State.{Stands, StandsAt, around_of}
+use Rattle.issue.specs.State.{IssueInvariant, StandsAt, around_of}
 use Rattle.issue.proofs.Bytes.{stand, stores}
 
 -- ---- an address comes from the base alone
@@ -84,7 +84,7 @@ each_back P es acc zero p q = q
 each_back P [] acc (suc i) p q = q
 each_back P (e ∷ es) acc (suc i) p q = each_back P es (e ∷ acc) i p.1 (p.0, q)
 
-module _ (s : Seen) (i : ℕ) (e : Entry) (t : Stands s) (h : StandsAt s i e) where
+module _ (s : Seen) (i : ℕ) (e : Entry) (t : IssueInvariant s) (h : StandsAt s i e) where
   abbrev before : List Entry
   before = before_at s.rob.now.entries i
 

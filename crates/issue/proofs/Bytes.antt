@@ -30,7 +30,7 @@ use Rattle.window_model.proofs.Serials.{splits}
 use Rattle.refinement.proofs.Queues.{hides_root, queues_stand, tells_each_store}
 use Rattle.refinement.proofs.Serials.{below_is}
 use Rattle.issue.specs.declared.seen.Seen.{Seen}
-use Rattle.issue.specs.State.{Stands, StandsAt, flight_of}
+use Rattle.issue.specs.State.{IssueInvariant, StandsAt, flight_of}
 
 -- the queue's stores before an entry stand for the entries before it
 pub stores_before : (q : Queues) (es : List Entry) (i : ℕ) (e : Entry) → StandFor q es → Rise es → slice_get es i ≡ Some e → StoresStandFor (older e.serial q.stores) (before_at es i)
@@ -43,7 +43,7 @@ stores_before q es i e s r h =
 down : (point a b : ℕ) → a ≤ b → nat_le b point ≡ true → nat_le a point ≡ true
 down point a b le h = grind (arith, nat_tests)
 
-module _ (s : Seen) (i : ℕ) (e : Entry) (t : Stands s) (h : StandsAt s i e) where
+module _ (s : Seen) (i : ℕ) (e : Entry) (t : IssueInvariant s) (h : StandsAt s i e) where
   abbrev before : List Entry
   before = before_at s.rob.now.entries i
 

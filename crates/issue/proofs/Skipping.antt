@@ -12,13 +12,13 @@ use Rattle.unit_ports.specs.Ports.{Ports}
 use Rattle.stations.specs.Stations.{PlacesAble, Station, is_able}
 use Rattle.issue.specs.declared.decide.Put.{Put}
 use Rattle.issue.specs.declared.seen.Seen.{Seen}
-use Rattle.issue.specs.State.{Stands, around_of, flight_of, window_of}
+use Rattle.issue.specs.State.{IssueInvariant, around_of, flight_of, window_of}
 use Rattle.issue.proofs.Asking.{not_able}
 use Rattle.issue.proofs.Testing.{able_is}
 use Rattle.issue.proofs.Waiting.{Reaches, goes_on, waits_at}
 use Rattle.issue.proofs.Walking.{Walked, keeps, walked_past}
 
-module _ (s : Seen) (ports : Ports) (puts : List Put) (load : Option Access) (start : Divider) (earlier events : List Event) (stands : Stands s) where
+module _ (s : Seen) (ports : Ports) (puts : List Put) (load : Option Access) (start : Divider) (earlier events : List Event) (stands : IssueInvariant s) where
   abbrev At : ℕ → Type 0
   At k = Reaches (Walked s ports puts load start earlier events) (window_of s) k
 

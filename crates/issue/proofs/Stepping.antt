@@ -15,7 +15,7 @@ use Rattle.issue.specs.Accesses.{as_access}
 use Rattle.issue.specs.Decisions.{DecidesFor, HadTurn, most_begun, turns_of}
 use Rattle.issue.specs.Ports.{LeftFor, OnlyPorts, events_left, left_in_all}
 use Rattle.issue.specs.Puts.{ArePuts}
-use Rattle.issue.specs.State.{HasTurn, Stands, here, flight_of, window_of}
+use Rattle.issue.specs.State.{HasTurn, IssueInvariant, here, flight_of, window_of}
 use Rattle.issue.proofs.Noting.{as_many_events, as_many_puts, only_both, row_is}
 use Rattle.issue.proofs.Skipping.{skipped}
 use Rattle.issue.proofs.Waiting.{Reaches, all_wait, at_end, at_next, goes_on}
@@ -37,7 +37,7 @@ pub record WalksAll (s : Seen) (first ports : Ports) (decided : Decided) (start 
   pub only : OnlyPorts first ports
   pub few : IsLonger most_issued start last
 
-module _ (s : Seen) (first ports : Ports) (decided : Decided) (start row : Row) (stands : Stands s) where
+module _ (s : Seen) (first ports : Ports) (decided : Decided) (start row : Row) (stands : IssueInvariant s) where
   -- the walk goes past the stations of entries that may not issue
   pub walks_past : (from k : ℕ) → from ≤ k → k ≤ length s.stations.now.held → ((j : ℕ) → from ≤ j → j < k → option_map is_able (slice_get s.stations.now.held j) ≡ Some false) →
       Walks s first ports decided start row from → Walks s first ports decided start row k

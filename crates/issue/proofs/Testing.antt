@@ -33,7 +33,7 @@ use Rattle.refinement.specs.Telling.{MovedBy, OperandsTold, has_sources, own_of}
 use Rattle.refinement.specs.Waiters.{wants_of}
 use Rattle.issue.specs.declared.seen.Seen.{Seen}
 use Rattle.issue.specs.Ports.{OnlyPorts, events_left, left_in_all, most_events_of}
-use Rattle.issue.specs.State.{Stands, StandsAt, around_of, flight_of}
+use Rattle.issue.specs.State.{IssueInvariant, StandsAt, around_of, flight_of}
 use Rattle.issue.specs.Telling.{TellsIssue, asks_besides}
 use Rattle.issue.proofs.Asking.{AsksNone, asks_own}
 
@@ -52,7 +52,7 @@ tells_issue d p i e x now s m q h k = issue_by d p.point (before_at p.window i) 
 
 -- ---- what an entry is asked for
 
-module _ (s : Seen) (i : ℕ) (e : Entry) (t : Stands s) (h : StandsAt s i e) where
+module _ (s : Seen) (i : ℕ) (e : Entry) (t : IssueInvariant s) (h : StandsAt s i e) where
   abbrev before : List Entry
   before = before_at s.rob.now.entries i
 

@@ -26,7 +26,7 @@ use Rattle.issue.specs.Accesses.{as_access}
 use Rattle.issue.specs.Decisions.{DecidesFor, turns_of}
 use Rattle.issue.specs.Puts.{ArePuts, IsPut, placed}
 use Rattle.issue.specs.Shared.{divider_left}
-use Rattle.issue.specs.State.{Stands, StandsAt, around_of, window_of}
+use Rattle.issue.specs.State.{IssueInvariant, StandsAt, around_of, window_of}
 use Rattle.issue.specs.Turns.{puts_of}
 use Rattle.issue.proofs.Choosing.{the_other}
 use Rattle.issue.proofs.Slots.{divider_more, of_first, one_more, slot_more}
@@ -52,7 +52,7 @@ events_push : (bs : List Begun) (b : Begun) → flat_map (λ b. b.events) (bs ++
 events_push [] b = append-nil b.events
 events_push (a ∷ bs) b = ap (λ es. a.events ++ es) (events_push bs b) ∙ sym (append_assoc a.events (flat_map (λ b. b.events) bs) b.events)
 
-module _ (s : Seen) (i : ℕ) (e : Entry) (stands : Stands s) (h : StandsAt s i e) where
+module _ (s : Seen) (i : ℕ) (e : Entry) (stands : IssueInvariant s) (h : StandsAt s i e) where
   abbrev d : Desc
   d = s.desc.now
 
@@ -135,7 +135,7 @@ pub record Walked (s : Seen) (ports : Ports) (puts : List Put) (load : Option Ac
   pub decided : DecidedTo s i puts load start ports.divider earlier events
   pub left : LeftAfter s.desc.now (around_of s) (before_at (window_of s) i) ports
 
-module _ (s : Seen) (ports : Ports) (puts : List Put) (load : Option Access) (start : Divider) (earlier events : List Event) (stands : Stands s) where
+module _ (s : Seen) (ports : Ports) (puts : List Put) (load : Option Access) (start : Divider) (earlier events : List Event) (stands : IssueInvariant s) where
   -- the walk goes on as it is over an entry that asks for no port
   pub walked_past : (i : ℕ) (e : Entry) (h : StandsAt s i e) → AsksNone s.desc.now (around_of s) (before_at (window_of s) i) e →
       Walked s ports puts load start earlier events i → Walked s ports puts load start earlier events (i + 1)

@@ -45,7 +45,7 @@ flight_of next writes s = record {
 
 -- the parts refine the window, the point has just moved, the bits of dependence, both levels of the cache and the
 -- registers are of the description, and memory ends where it is said to
-pub record Stands (s : Seen) : Type 0 where
+pub record IssueInvariant (s : Seen) : Type 0 where
   pub next : ℕ
   pub writes : List Write
   pub refines : Refines (flight_of next writes s)
@@ -80,7 +80,7 @@ StandsAt s i e = slice_get s.rob.now.entries i ≡ Some e
 
 -- the entry stands in the window at its place, waits at its station, and what it wants is there
 pub record HasTurn (s : Seen) (p : Place) : Type 0 where
-  pub stands : Stands s
+  pub stands : IssueInvariant s
   pub at : StandsAt s p.position p.entry.now
   pub waits : is_waiting p.entry.now.state ≡ true
   pub able : has_sources (wants_of s.desc.now.version p.entry.now) s.desc.now (before_of s p) p.entry.now ≡ true

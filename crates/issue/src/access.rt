@@ -24,11 +24,11 @@ impl<'a> Seen<'a> {
     ghost use Rattle.window_model.specs.State.{lines_of};
     ghost use Rattle.window_model.specs.Access.{joined, line_behind, look_up, prefetched, prefetches, request, unless_lacking};
     ghost use Rattle.issue.specs.Accesses.{as_access, as_line, as_lines, as_request, found};
-    ghost use Rattle.issue.specs.State.{Stands, around_of};
+    ghost use Rattle.issue.specs.State.{IssueInvariant, around_of};
 
     // A line that takes a miss register: it comes from the second level, where that has it.
     fn request(&self, line: u32) -> Request
-        requires stands { Stands self.now }
+        requires stands { IssueInvariant self.now }
         ensures { as_request result ≡ request self.now.desc.now (around_of self.now) line }
     {
         Request {
@@ -39,7 +39,7 @@ impl<'a> Seen<'a> {
 
     // A line that the cache lacks.
     fn join(&self, line: u32) -> Line
-        requires stands { Stands self.now }
+        requires stands { IssueInvariant self.now }
         ensures { as_line result ≡ joined self.now.desc.now (around_of self.now) line
             (find (λ m. m.line == line) self.now.mshrs.now.misses) }
     {
@@ -51,7 +51,7 @@ impl<'a> Seen<'a> {
 
     // What looking up a line comes to: it hits, joins a miss register, or takes one.
     fn look_up(&self, line: u32) -> Line
-        requires stands { Stands self.now }
+        requires stands { IssueInvariant self.now }
         ensures { as_line result ≡ look_up self.now.desc.now (around_of self.now) line }
     {
         if self.tags.holds(line) {
@@ -62,7 +62,7 @@ impl<'a> Seen<'a> {
 
     // The lines of so many bytes.
     fn look_up_each(&self, addr: u32, bytes: u32) -> Lines
-        requires stands { Stands self.now }
+        requires stands { IssueInvariant self.now }
         requires some { 0 < bytes }
         requires within { addr + bytes ≤ 2 ^ 32 }
         ensures { as_lines result
@@ -82,7 +82,7 @@ impl<'a> Seen<'a> {
     // Whether the line behind these is looked up as well: one of them takes a miss register, it begins in memory, and a
     // register is left.
     fn prefetches(&self, lines: &Lines) -> bool
-        requires stands { Stands self.now }
+        requires stands { IssueInvariant self.now }
         ensures value { result ≡ prefetches self.now.desc.now (around_of self.now) (as_lines lines.now) }
         ensures within { IsTrue result → line_behind self.now.desc.now (as_lines lines.now) < 2 ^ 32 }
     {
@@ -95,7 +95,7 @@ impl<'a> Seen<'a> {
 
     // The line behind an access, if it is prefetched: it takes the register that is left.
     fn prefetched(&self, lines: &Lines) -> Option<Request>
-        requires stands { Stands self.now }
+        requires stands { IssueInvariant self.now }
         ensures { option_to_list (option_map as_request result)
             ≡ prefetched self.now.desc.now (around_of self.now) (as_lines lines.now) }
     {
@@ -107,7 +107,7 @@ impl<'a> Seen<'a> {
 
     // The lines are looked up, unless there are too few registers for them: then the load waits.
     fn unless_lacking(&self, lines: Lines) -> Access
-        requires stands { Stands self.now }
+        requires stands { IssueInvariant self.now }
         ensures { as_access result ≡ unless_lacking self.now.desc.now (around_of self.now) (as_lines lines) }
     {
         if lines.registers() > self.mshrs.free() {
@@ -119,7 +119,7 @@ impl<'a> Seen<'a> {
     /// What an access of so many bytes comes to that has no fault. `forwarded` says that older stores have all its
     /// bytes, and that none of them hides its address.
     pub(crate) fn find(&self, forwarded: bool, addr: u32, bytes: u32) -> Access
-        requires stands { Stands self.now }
+        requires stands { IssueInvariant self.now }
         requires some { 0 < bytes }
         requires within { addr + bytes ≤ 2 ^ 32 }
         ensures { as_access result ≡ found self.now.desc.now (around_of self.now) forwarded addr bytes }

@@ -90,11 +90,11 @@ impl<'a> Seen<'a> {
     ghost use Rattle.issue.specs.Decisions.{DecidesFor, HadTurn, IsNothing, most_begun, turns_of};
     ghost use Rattle.issue.specs.Ports.{LeftFor, OnlyPorts, events_left, left_in_all};
     ghost use Rattle.issue.specs.Puts.{ArePuts};
-    ghost use Rattle.issue.specs.State.{HasTurn, Stands, around_of, window_of};
+    ghost use Rattle.issue.specs.State.{HasTurn, IssueInvariant, around_of, window_of};
 
     // The place of the entry that waits at a station, where what it wants is there.
     fn place_at(&self, station: u32) -> Place<'_>
-        requires stands { Stands self.now }
+        requires stands { IssueInvariant self.now }
         requires within { station < length self.now.stations.now.held }
         requires able { option_map is_able (slice_get self.now.stations.now.held station) ≡ Some true }
         ensures turn { HasTurn self.now result }
@@ -149,7 +149,7 @@ impl<'a> Seen<'a> {
     /// Goes over the stations, oldest first, until none is left that may issue: entries that don't wait, or lack what
     /// they want, stay as they are. All ports of the cycle are left, and nothing is decided as yet.
     pub(crate) fn decide(&self, ports: &mut Ports, decided: &mut Decided, row: &mut Row)
-        requires stands { Stands self.now }
+        requires stands { IssueInvariant self.now }
         requires left { LeftAfter self.now.desc.now (around_of self.now) [] ports.old }
         requires few { left_in_all ports.old ≤ most_begun }
         requires events { events_left ports.old ≤ most_issued }

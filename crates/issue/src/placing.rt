@@ -14,7 +14,7 @@ ghost use Rattle.issue.specs.Puts.{ArePuts, known_in, placed, width_for};
 
 use crate::decide::{PUTS_MAX, Put};
 use arrayvec::ArrayVec;
-use lsq::{Access, Lsq, Span};
+use lsq::{IssuedLoad, Lsq, Span};
 use machine_desc::Desc;
 use rob_ring::RobRing;
 use stations::{Stations, Wants};
@@ -96,7 +96,7 @@ fn note_load(lsq: &mut Lsq, desc: &Desc, entry: &Entry)
         return;
     }
     if let Some(cycle) = entry.issued {
-        let access = Access {
+        let access = IssuedLoad {
             addr: entry.addr(),
             width: entry.width(),
             fault: entry.fault(),

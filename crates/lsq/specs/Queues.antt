@@ -3,7 +3,7 @@ use Rattle.std.specs.Prelude.{ℕ, ◌<◌, nat_lt, ◌==◌, if◌then◌else�
 use Rattle.std.specs.List.{AllPairs, filter}
 use Rattle.machine_desc.specs.declared.Desc.{Desc}
 use Rattle.rename_taint.specs.Writes.{later}
-use Rattle.lsq.specs.declared.load.Access.{Access}
+use Rattle.lsq.specs.declared.load.IssuedLoad.{IssuedLoad}
 use Rattle.lsq.specs.declared.load.Load.{Load}
 use Rattle.lsq.specs.declared.store.Span.{Span}
 use Rattle.lsq.specs.declared.store.Store.{Store}
@@ -28,7 +28,7 @@ abbrev pub older : ℕ → List Store → List Store
 older serial stores = reverse (filter (λ s. nat_lt s.serial serial) stores)
 
 -- the load, with what the one with this serial reads, and when it issued
-abbrev pub issued_at : ℕ → Access → Load → Load
+abbrev pub issued_at : ℕ → IssuedLoad → Load → Load
 issued_at serial access l = if l.serial == serial then record l { access = Some access } else l
 
 -- the store, with where the one with this serial writes

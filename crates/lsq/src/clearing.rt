@@ -3,7 +3,7 @@ ghost use Rattle.std.specs.Prelude.{◌≡◌, [], ◌∷◌};
 ghost use Rattle.std.specs.Option.{option_map};
 ghost use Rattle.lsq.specs.Clearing.{info_of, is_violated, is_wrong, passed_wrongly, store_of, violated, violated_by};
 
-use crate::load::{Access, Load};
+use crate::load::{IssuedLoad, Load};
 use crate::pending::shares;
 use crate::store::{Span, Store};
 
@@ -34,7 +34,7 @@ pub(crate) fn info_of(store: &Store) -> StoreInfo
 
 // Whether the access was made before it was known where the store writes, and shares a byte with that.
 #[tactic(auto, using(crate::proofs::Wrong::shared_is))]
-fn is_wrong(span: &Span, access: &Access) -> bool
+fn is_wrong(span: &Span, access: &IssuedLoad) -> bool
     ensures { result ≡ is_wrong span.now access.now }
 {
     if access.cycle >= span.known_from {
@@ -44,7 +44,7 @@ fn is_wrong(span: &Span, access: &Access) -> bool
 }
 
 // Whether the load passed the store wrongly, where it has issued and it is known where the store writes.
-fn passed_wrongly(span: &Option<Span>, access: &Option<Access>) -> bool
+fn passed_wrongly(span: &Option<Span>, access: &Option<IssuedLoad>) -> bool
     ensures { result ≡ passed_wrongly span.now access.now }
 {
     match (span, access) {

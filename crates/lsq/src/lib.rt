@@ -20,7 +20,7 @@ mod serials;
 mod store;
 
 pub use clearing::StoreInfo;
-pub use load::{Access, Load, LoadRequest};
+pub use load::{IssuedLoad, Load, LoadRequest};
 pub use merging::Merged;
 pub use pending::Pending;
 pub use queues::Lsq;

@@ -15,7 +15,7 @@ pub struct LoadRequest {
 
 /// What a load reads, and when it issued.
 #[derive(Clone, Copy, Debug, PartialEq, Eq)]
-pub struct Access {
+pub struct IssuedLoad {
     /// The address of the load's first byte.
     pub addr: u32,
     /// How many bytes the load reads.
@@ -32,10 +32,10 @@ pub struct Load {
     /// The load's number in the order of renaming.
     pub serial: u64,
     /// What the load reads, once that is noted as it issues.
-    pub access: Option<Access>,
+    pub access: Option<IssuedLoad>,
 }
 
-impl Access {
+impl IssuedLoad {
     ghost use Rattle.std.specs.Prelude.{◌≡◌};
     ghost use Rattle.lsq.specs.Clearing.{request_of};
 

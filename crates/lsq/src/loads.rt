@@ -2,10 +2,10 @@
 ghost use Rattle.std.specs.Prelude.{◌≡◌, map, vec_capacity};
 ghost use Rattle.lsq.specs.Queues.{issued_at};
 
-use crate::load::{Access, Load};
+use crate::load::{IssuedLoad, Load};
 
 // Notes what the load reads, where it has this serial.
-fn issue_one(load: &mut Load, serial: u64, access: Access)
+fn issue_one(load: &mut Load, serial: u64, access: IssuedLoad)
     ensures { load.new ≡ issued_at serial access load.old }
 {
     if load.serial == serial {
@@ -14,7 +14,7 @@ fn issue_one(load: &mut Load, serial: u64, access: Access)
 }
 
 // Notes in a list of loads what one reads.
-fn issue_in(loads: &mut [Load], serial: u64, access: Access)
+fn issue_in(loads: &mut [Load], serial: u64, access: IssuedLoad)
     ensures { loads.new ≡ map (issued_at serial access) loads.old }
 {
     for load in loads.iter_mut() {
@@ -23,7 +23,7 @@ fn issue_in(loads: &mut [Load], serial: u64, access: Access)
 }
 
 // Notes what the load with this serial reads.
-pub(crate) fn issue_load(loads: &mut Vec<Load>, serial: u64, access: Access)
+pub(crate) fn issue_load(loads: &mut Vec<Load>, serial: u64, access: IssuedLoad)
     ensures items { loads.new.items ≡ map (issued_at serial access) loads.old.items }
     ensures capacity { vec_capacity loads.new ≡ vec_capacity loads.old }
 {

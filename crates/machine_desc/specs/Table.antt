@@ -15,22 +15,22 @@ use Rattle.machine_desc.specs.declared.fault.Subject.TheVariants.{Version as OfV
 use Rattle.machine_desc.specs.Version.{most, knows_off}
 
 -- since which version a key is there, where it stands, and which values it may have
-pub record Row : Type 0 where
+pub record KeyRow : Type 0 where
   pub since : ℕ
   pub section : Section
   pub name : List ℕ
   pub values : Values
 
 -- the row of a key whose values are the whole numbers from least to most that have a shape
-abbrev pub whole : ℕ → Section → List ℕ → ℕ → ℕ → Shape → Row
+abbrev pub whole : ℕ → Section → List ℕ → ℕ → ℕ → Shape → KeyRow
 whole since section name least most shape = record { since = since; section = section; name = name; values = Numbers least most shape }
 
 -- a row of a key that may be left out: it then has the least of its numbers
-abbrev pub optional : ℕ → Section → List ℕ → ℕ → ℕ → Shape → Row
+abbrev pub optional : ℕ → Section → List ℕ → ℕ → ℕ → Shape → KeyRow
 optional since section name least most shape = record { since = since; section = section; name = name; values = Optional least most shape }
 
 -- the rows of a version: since which version the key is there, its table, name, least, most and shape
-abbrev pub row : ℕ → Key → Row
+abbrev pub row : ℕ → Key → KeyRow
 row v CoreFetchWidth = whole 1 Core (codes "fetch_width") 1 4 Any
 row v CoreRetireWidth = whole 1 Core (codes "retire_width") 1 4 Any
 row v CoreRob = whole 1 Core (codes "rob") 4 (most 64 192 v) Any

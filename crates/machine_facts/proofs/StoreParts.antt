@@ -21,18 +21,18 @@ use Rattle.machine_facts.proofs.Parts.{IsEntry}
 use Rattle.machine_facts.proofs.Together.{together_issued}
 
 -- what holds of an entry alone, whatever the version
-record Stands (ram : Ram) (e : Entry) : Type 0 where
+record StoreInvariant (ram : Ram) (e : Entry) : Type 0 where
   kind : HasKind e.item
   memory : FitsMemory ram e
   outcome : HasOutcome e
   parts : HasParts e
 
-stands : (d : Desc) (ram : Ram) (e : Entry) → IsEntry d ram e → Stands ram e
+stands : (d : Desc) (ram : Ram) (e : Entry) → IsEntry d ram e → StoreInvariant ram e
 stands d ram e h = record { kind = h.kind; memory = h.memory; outcome = h.outcome; parts = h.parts }
 
 -- ---- an entry in one piece
 
-begun_stands : (ram : Ram) (e r : Entry) → r.item ≡ e.item → is_store e.item.kind ≡ false → Stands ram e → Stands ram r
+begun_stands : (ram : Ram) (e r : Entry) → r.item ≡ e.item → is_store e.item.kind ≡ false → StoreInvariant ram e → StoreInvariant ram r
 begun_stands ram e r q n h =
     let no : is_store r.item.kind ≡ false = ap (λ (i : Item). is_store i.kind) q ∙ n in
     record { kind = subst HasKind (sym q) h.kind; memory = λ s. absurd (cc); outcome = λ s. absurd (cc); parts = λ s. absurd (cc) }
@@ -50,7 +50,7 @@ data_parts (Some m) c n s h = refl
 data_parts None c n s h = h
 
 -- the address part sets the fault that memory has
-address_stands : (now : Around) (f : Effect) (e : Entry) → Stands now.ram e → Stands now.ram (with_address now f e)
+address_stands : (now : Around) (f : Effect) (e : Entry) → StoreInvariant now.ram e → StoreInvariant now.ram (with_address now f e)
 address_stands now f e h = record {
   kind = h.kind;
   memory = λ s a. refl;
@@ -63,7 +63,7 @@ fault_stays : (ram : Ram) (width : ℕ) (o : Option Outcome) (next stored : ℕ)
 fault_stays ram width None next stored s h = absurd (cc)
 fault_stays ram width (Some o) next stored s h = h
 
-data_stands : (now : Around) (f : Effect) (e : Entry) → Stands now.ram e → Stands now.ram (with_data now f e)
+data_stands : (now : Around) (f : Effect) (e : Entry) → StoreInvariant now.ram e → StoreInvariant now.ram (with_data now f e)
 data_stands now f e h = record {
   kind = h.kind;
   memory = λ s a. fault_stays now.ram (byte_count e) e.outcome f.next f.stored (h.outcome s a) (h.memory s a);
@@ -71,7 +71,7 @@ data_stands now f e h = record {
   parts = λ s. data_parts e.addr_due e.data_due (now.cycle + 1) e.state (h.parts s);
 }
 
-gone_stands : (now : Around) (b : List Entry) (e : Entry) (a c : Bool) → Stands now.ram e → Stands now.ram (gone_parts now b a c e)
+gone_stands : (now : Around) (b : List Entry) (e : Entry) (a c : Bool) → StoreInvariant now.ram e → StoreInvariant now.ram (gone_parts now b a c e)
 gone_stands now b e true true h = let f = effect_of now.regs b e in data_stands now f (with_address now f e) (address_stands now f e h)
 gone_stands now b e true false h = address_stands now (effect_of now.regs b e) e h
 gone_stands now b e false true h = data_stands now (effect_of now.regs b e) e h
@@ -97,8 +97,8 @@ issued_stays d now b e p w =
     none_goes true c g k = absurd (g refl)
     none_goes false true g k = absurd (k refl)
 
-issue_stands : (d : Desc) (now : Around) (b : List Entry) (e : Entry) → Stands now.ram e → Stands now.ram (issue_entry d now b e).entry
-issue_stands d now b e h = by_issue d now b e (Stands now.ram) h (λ s m. begun_stands now.ram e _ (begin_goes e.item.kind d now b e).item s h) (λ s a c g k. gone_stands now b e a c h)
+issue_stands : (d : Desc) (now : Around) (b : List Entry) (e : Entry) → StoreInvariant now.ram e → StoreInvariant now.ram (issue_entry d now b e).entry
+issue_stands d now b e h = by_issue d now b e (StoreInvariant now.ram) h (λ s m. begun_stands now.ram e _ (begin_goes e.item.kind d now b e).item s h) (λ s a c g k. gone_stands now b e a c h)
 
 pub issue_sizes : (d : Desc) (now : Around) (b : List Entry) (e : Entry) → IsEntry d now.ram e → IsEntry d now.ram (issue_entry d now b e).entry
 issue_sizes d now b e h =

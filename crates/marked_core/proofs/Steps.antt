@@ -11,8 +11,8 @@ use Rattle.core_parts.specs.Held.{Held, Whole, described, in_flight}
 use Rattle.secret_marks.specs.declared.EntryMarks.{EntryMarks}
 use Rattle.secret_marks.specs.Marks.{Marks as Beside, after_issue_marks, cut, extended, issued_from, new_entry}
 use Rattle.entry_marks.specs.declared.marks.Marks.{Marks}
-use Rattle.entry_marks.specs.Told.{Told}
-use Rattle.entry_marks.specs.Walk.{StandBeside, marks_of, marks_with}
+use Rattle.entry_marks.specs.Told.{TellsOfEach}
+use Rattle.entry_marks.specs.Walk.{RefinesBeside, marks_of, marks_with}
 use Rattle.marked_core.specs.InStep.{InStep}
 use Rattle.marked_core.proofs.Lengths.{cut_length, extended_length}
 
@@ -76,7 +76,7 @@ marks_extended m w n s count e =
 -- ---- what Issue looks at
 
 -- the parts refine the window that Issue looks at, and each entry has its marks
-pub parts_beside : (h : Held) (v : Described) (ms : List EntryMarks) → Whole h → described h ≡ v → length ms ≡ length v.machine.window → StandBeside h.rob.entries h.sources.items ms
+pub parts_beside : (h : Held) (v : Described) (ms : List EntryMarks) → Whole h → described h ≡ v → length ms ≡ length v.machine.window → RefinesBeside h.rob.entries h.sources.items ms
 parts_beside h v ms w s e = record {
   rest = in_flight h;
   refines = w.refines;
@@ -84,8 +84,8 @@ parts_beside h v ms w s e = record {
 }
 
 -- events tell of the window that Issue leaves, whose serials rise
-pub told_beside : (h : Held) (v : Described) (events : List Event) → Whole h → described h ≡ v → (Rise v.machine.window → Told v.machine.cycle v.machine.window events) → Told h.cycle h.rob.entries events
-told_beside h v events w s t = subst (λ (v : Described). (Rise v.machine.window → Told v.machine.cycle v.machine.window events) → Told h.cycle h.rob.entries events) s (λ f. f w.refines.rise) t
+pub told_beside : (h : Held) (v : Described) (events : List Event) → Whole h → described h ≡ v → (Rise v.machine.window → TellsOfEach v.machine.cycle v.machine.window events) → TellsOfEach h.cycle h.rob.entries events
+told_beside h v events w s t = subst (λ (v : Described). (Rise v.machine.window → TellsOfEach v.machine.cycle v.machine.window events) → TellsOfEach h.cycle h.rob.entries events) s (λ f. f w.refines.rise) t
 
 pub marks_issued : (h : Held) (v : Described) (m : Beside) (base : ℕ) → Whole h → described h ≡ v → base ≡ v.machine.ram.base →
     ◌≡◌ {A = Beside} record m { window = issued_from h.cycle base m [] [] h.rob.entries m.window } (after_issue_marks v.machine m)

@@ -27,7 +27,7 @@ use Rattle.window_model.proofs.Serials.{rise_head, rise_tail}
 use Rattle.window_model.proofs.Together.{entry_parts, granted_together, issue_parts}
 use Rattle.machine_facts.proofs.Ports.{issue_adds}
 use Rattle.core_parts.specs.Described.{Described}
-use Rattle.entry_marks.specs.Told.{TellsOf, Told, has_issued, serial_of}
+use Rattle.entry_marks.specs.Told.{TellsOf, TellsOfEach, has_issued, serial_of}
 use Rattle.marked_core.specs.InStep.{NotYet}
 
 -- ---- the events of one entry
@@ -222,10 +222,10 @@ module _ (d : Desc) (now : Around) where
       ]
 
 -- the events of Issue tell which entries have issued, where none had in this cycle
-issue_told : (d : Desc) (x : Machine) → Each (NotYet x.cycle) x.window → let y = (issue d x).machine in Rise y.window → Told y.cycle y.window (issue d x).events
+issue_told : (d : Desc) (x : Machine) → Each (NotYet x.cycle) x.window → let y = (issue d x).machine in Rise y.window → TellsOfEach y.cycle y.window (issue d x).events
 issue_told d x h r =
-    let told : Told x.cycle (issue d x).machine.window (issue d x).events = record { each = each_told d (around x) [] x.window h; rise = all_rise d (around x) [] x.window h r } in
-    subst (λ n. Told n (issue d x).machine.window (issue d x).events) (sym (issue_adds d x).cycle) told
+    let told : TellsOfEach x.cycle (issue d x).machine.window (issue d x).events = record { each = each_told d (around x) [] x.window h; rise = all_rise d (around x) [] x.window h r } in
+    subst (λ n. TellsOfEach n (issue d x).machine.window (issue d x).events) (sym (issue_adds d x).cycle) told
 
 -- what is cut from a list from a position to its end
 to_end : (es : List Event) (n : ℕ) → take (length es - n) (drop n es) ≡ drop n es
@@ -234,11 +234,11 @@ to_end es n = let all = length-drop n es in take_all (length es - n) (drop n es)
 -- the events of a row behind those that it had before Issue tell which entries have issued
 pub row_told : (s s2 : Described) (r r2 : Row) → s2 ≡ record s { machine = (issue s.desc s.machine).machine } → r2 ≡ with_events r (issue s.desc s.machine).events →
     Each (NotYet s.machine.cycle) s.machine.window → (n : ℕ) → n ≡ length r.events → (es : List Event) → es ≡ r2.events → Rise s2.machine.window →
-    Told s2.machine.cycle s2.machine.window (take (length es - n) (drop n es))
+    TellsOfEach s2.machine.cycle s2.machine.window (take (length es - n) (drop n es))
 row_told s s2 r r2 e q fresh n count es is rise =
     let same = ap (λ (s : Described). s.machine) e in
     let back =
     to_end es n ∙ ap (drop n) is ∙ ap₂ (λ n (r : Row). drop n r.events) count q ∙ drop-append_seam r.events (issue s.desc s.machine).events in
-    subst (λ (x : Machine). Told x.cycle x.window (take (length es - n) (drop n es))) (sym same)
-    (subst (λ events. let y = (issue s.desc s.machine).machine in Told y.cycle y.window events) (sym back)
+    subst (λ (x : Machine). TellsOfEach x.cycle x.window (take (length es - n) (drop n es))) (sym same)
+    (subst (λ events. let y = (issue s.desc s.machine).machine in TellsOfEach y.cycle y.window events) (sym back)
     (issue_told s.desc s.machine fresh (subst (λ (x : Machine). Rise x.window) same rise)))

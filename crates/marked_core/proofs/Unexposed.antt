@@ -27,7 +27,7 @@ use Rattle.window_model.proofs.Quiet.{at_retire, cycle_is}
 use Rattle.window_model.proofs.Walks.{fetch_keep, rename_keep}
 use Rattle.machine_facts.specs.Timely.{PartsDue}
 use Rattle.committed_state.specs.Computed.{Bank}
-use Rattle.committed_state.specs.Consistent.{FitsState, Stands}
+use Rattle.committed_state.specs.Consistent.{FitsState, EntryInvariant}
 use Rattle.secret_marks.specs.declared.EntryMarks.{EntryMarks}
 use Rattle.secret_marks.specs.declared.Shown.{Shown}
 use Rattle.secret_marks.specs.declared.WordMarks.{WordMarks}
@@ -169,7 +169,7 @@ fits_no_wait Waiting e f h = absurd (let g = f.1 in cc)
 fits_no_wait (Busy due) e f h = refl
 fits_no_wait Done e f h = refl
 
-pub none_waits : (d : Desc) (code : Code) (s : Bank) (now : ℕ) (b es : List Entry) → Along (Stands d code s now) b es → Each NoWait es
+pub none_waits : (d : Desc) (code : Code) (s : Bank) (now : ℕ) (b es : List Entry) → Along (EntryInvariant d code s now) b es → Each NoWait es
 none_waits d code s now b [] h = tt
 none_waits d code s now b (e ∷ es) h = (fits_no_wait e.state e h.0.state, none_waits d code s now (e ∷ b) es h.1)
 

@@ -14,7 +14,7 @@ ghost use Rattle.window_model.specs.Serials.{Rise};
 ghost use Rattle.window_model.specs.inner.Row.{HasRoom, IsLonger, most_cleared, most_entries, most_fetched, most_issued, most_resolved, most_retired, with_events};
 ghost use Rattle.secret_marks.specs.Marks.{after_issue_marks, after_retire_marks, cut, extended};
 ghost use Rattle.secret_marks.specs.Shown.{head_shown, operands_shown, resolved_shown};
-ghost use Rattle.entry_marks.specs.Told.{Told};
+ghost use Rattle.entry_marks.specs.Told.{TellsOfEach};
 ghost use Rattle.entry_marks.specs.Walk.{marks_of};
 ghost use Rattle.marked_core.specs.InStep.{AsNoted, InStep, NotYet};
 
@@ -130,7 +130,7 @@ pub(crate) fn retire_marked<R: RenameTaint>(
 fn mark<R: RenameTaint>(parts: &Parts<R>, marks: &mut Marks, events: &[Event])
     requires step { InStep parts.now marks.old }
     requires told { Rise parts.now.machine.window
-        → Told parts.now.machine.cycle parts.now.machine.window events.now }
+        → TellsOfEach parts.now.machine.cycle parts.now.machine.window events.now }
     ensures marks { marks_of marks.new ≡ after_issue_marks parts.now.machine (marks_of marks.old) }
     ensures step { InStep parts.now marks.new }
 {

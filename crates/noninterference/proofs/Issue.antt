@@ -27,7 +27,7 @@ use Rattle.window_model.specs.declared.Event.TheVariants as event
 use Rattle.window_model.proofs.Booleans.{both}
 use Rattle.window_model.proofs.Places.{Found, found}
 use Rattle.window_model.proofs.Issuing.{asks_division, asks_load, may_own, may_parts, load_clean, division_clean}
-use Rattle.committed_state.specs.Consistent.{IsItem, Stands, bank_in}
+use Rattle.committed_state.specs.Consistent.{IsItem, EntryInvariant, bank_in}
 use Rattle.noninterference.specs.Alike.{Alike, shown, shown_after, without_outcome}
 use Rattle.noninterference.specs.Outcomes.{SameOutcomes}
 use Rattle.noninterference.specs.Laws.{IssueTellsNothing}
@@ -147,7 +147,7 @@ module _ (cycle : ℕ) (d : Desc) (code : Code) (x x2 : Machine) (r : Alike x x2
       (ap is_store (same_kind e e2 h)) (parts_alike b b2 e e2 s h) (λ n. whole_alike b b2 e e2 n s h item)
       ∙ sym (ap begun_without (entry_parts d now2 b2 e2))
 
-  each_alike : (es es2 b b2 : List Entry) → map without_outcome es ≡ map without_outcome es2 → SameOutcomes d.stt_model (reverse_aux es b) (reverse_aux es2 b2) → Along (Stands d code (bank_in (hart_of x)) cycle) b es →
+  each_alike : (es es2 b b2 : List Entry) → map without_outcome es ≡ map without_outcome es2 → SameOutcomes d.stt_model (reverse_aux es b) (reverse_aux es2 b2) → Along (EntryInvariant d code (bank_in (hart_of x)) cycle) b es →
       map begun_without (each_from (issue_entry d now) b es) ≡ map begun_without (each_from (issue_entry d now2) b2 es2)
   each_alike [] [] b b2 l s i = refl
   each_alike (e ∷ es) (e2 ∷ es2) b b2 l s i =
@@ -170,17 +170,17 @@ module _ (cycle : ℕ) (d : Desc) (code : Code) (x x2 : Machine) (r : Alike x x2
   load_shown a m m2 q = ap (λ (t : Machine). let u : Machine = record t { cache = cache_after a d t.cache; second = second_after a d t.second; misses = misses_after a d t.cycle t.misses } in u) q
 
   -- an entry of a consistent window is an instruction of the program
-  item_at : (b older es : List Entry) (e : Entry) → Along (Stands d code (bank_in (hart_of x)) cycle) b (older ++ e ∷ es) → IsItem code e.item
+  item_at : (b older es : List Entry) (e : Entry) → Along (EntryInvariant d code (bank_in (hart_of x)) cycle) b (older ++ e ∷ es) → IsItem code e.item
   item_at b [] es e i = i.0.item
   item_at b (o ∷ older) es e i = item_at (o ∷ b) older es e i.1
 
-  tried_alike_at : (o o2 : Option Place) → SamePlaces d.stt_model o o2 → Along (Stands d code (bank_in (hart_of x)) cycle) [] x.window → ((p : Place) → o ≡ Some p → Found (may_at d now LoadPort) [] x.window p) → shown (after_load d o x) ≡ shown (after_load d o2 x2)
+  tried_alike_at : (o o2 : Option Place) → SamePlaces d.stt_model o o2 → Along (EntryInvariant d code (bank_in (hart_of x)) cycle) [] x.window → ((p : Place) → o ≡ Some p → Found (may_at d now LoadPort) [] x.window p) → shown (after_load d o x) ≡ shown (after_load d o2 x2)
   tried_alike_at None None s i f = r
   tried_alike_at (Some p) (Some p2) s i f =
       let at = f p refl in
       let t = asks_load d now p.before p.entry at.has in
       let l : is_load p.entry.item.kind ≡ true = ap is_load t.1 in
-      let item = item_at [] at.older p.younger p.entry (subst (Along (Stands d code (bank_in (hart_of x)) cycle) []) at.all i) in
+      let item = item_at [] at.older p.younger p.entry (subst (Along (EntryInvariant d code (bank_in (hart_of x)) cycle) []) at.all i) in
       let m = load_clean p.entry.item.kind d now p.before p.entry (may_parts d now p.before p.entry t.0).kind l in
       let a = same_access_of d code x x2 r place p.before p2.before s.before p.entry p2.entry s.here.but_outcome item l m in
       load_shown (access_of d now p.before p.entry) x x2 r
@@ -208,7 +208,7 @@ module _ (cycle : ℕ) (d : Desc) (code : Code) (x x2 : Machine) (r : Alike x x2
   events_begun [] = refl
   events_begun (b ∷ bs) = ap (λ t. b.events ++ t) (events_begun bs)
 
-  issue_alike : SameOutcomes d.stt_model (reverse x.window) (reverse x2.window) → Along (Stands d code (bank_in (hart_of x)) cycle) [] x.window → shown_after (issue d x) ≡ shown_after (issue d x2)
+  issue_alike : SameOutcomes d.stt_model (reverse x.window) (reverse x2.window) → Along (EntryInvariant d code (bank_in (hart_of x)) cycle) [] x.window → shown_after (issue d x) ≡ shown_after (issue d x2)
   issue_alike s i =
       let l : map without_outcome x.window ≡ map without_outcome x2.window = ap (λ (m : Machine). m.window) r in
       let bs = each (issue_entry d now) x.window in

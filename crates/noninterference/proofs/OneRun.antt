@@ -16,7 +16,7 @@ use Rattle.window_model.specs.Rename.{at_once}
 use Rattle.window_model.specs.Retire.{hart_of}
 use Rattle.window_model.specs.Along.{Behind}
 use Rattle.window_model.proofs.EntryByEntry.{behind_of}
-use Rattle.committed_state.specs.Consistent.{FitsState, Stands, all_issued, bank_in, is_issued}
+use Rattle.committed_state.specs.Consistent.{FitsState, EntryInvariant, all_issued, bank_in, is_issued}
 use Rattle.committed_state.specs.Guarded.{IsGuarded}
 use Rattle.committed_state.specs.Links.{entry_link, Chain, links}
 use Rattle.committed_state.proofs.Known.{both_parts}
@@ -44,7 +44,7 @@ linked_of pc before (e ∷ es) queue to c l = linked_of pc (e ∷ before) es que
 -- what one run knows of entries that are looked back on: they stand over the retired state, are guarded, and follow one
 -- another
 pub record OneRun (now : ℕ) (d : Desc) (code : Code) (x : Machine) (before : List Entry) : Type 0 where
-  pub stands : Behind (Stands d code (bank_in (hart_of x)) now) before
+  pub stands : Behind (EntryInvariant d code (bank_in (hart_of x)) now) before
   pub guarded : Behind (IsGuarded d.stt_model) before
   pub linked : Linked x.pc before
 
@@ -55,7 +55,7 @@ older now d code x e before w = record { stands = w.stands.1; guarded = w.guarde
 -- what one run knows of entries it knows of the whole window
 pub whole_window : (now : ℕ) (d : Desc) (code : Code) (x : Machine) → OwnFacts now d code x → OneRun now d code x (reverse x.window)
 whole_window now d code x f = record {
-  stands = behind_of (Stands d code (bank_in (hart_of x)) now) [] x.window f.consistent.entries tt;
+  stands = behind_of (EntryInvariant d code (bank_in (hart_of x)) now) [] x.window f.consistent.entries tt;
   guarded = behind_of (IsGuarded d.stt_model) [] x.window f.guarded tt;
   linked = linked_of x.pc [] x.window x.queue x.fetch_pc f.consistent.chain tt;
 }
@@ -78,7 +78,7 @@ has_parts : (e : Entry) → FitsState e.state e → is_waiting e.state ≡ false
 has_parts e f w s = let p = both_parts e.item.kind (has_address e) (has_data e) (is_issued e) s (has_all e.state e f w s) in ap₂ (λ a c. a && c) p.0 p.1
 
 -- what one run knows of entries it knows of the head alone: nothing is older, so none of its operands is tainted
-pub head_alone : (now : ℕ) (d : Desc) (code : Code) (x : Machine) (e : Entry) → Stands d code (bank_in (hart_of x)) now [] e → x.pc ≡ e.item.pc → OneRun now d code x (e ∷ [])
+pub head_alone : (now : ℕ) (d : Desc) (code : Code) (x : Machine) (e : Entry) → EntryInvariant d code (bank_in (hart_of x)) now [] e → x.pc ≡ e.item.pc → OneRun now d code x (e ∷ [])
 head_alone now d code x e st pc =
     let guarded : IsGuarded d.stt_model [] e = record { load = λ i l. untainted_base d.stt_model [] e refl; division = λ i l. untainted_sources d.stt_model [] e refl; fresh = waits_unresolved e.state e st.state; whole = has_parts e st.state } in
     record { stands = (st, tt); guarded = (guarded, tt); linked = (ap Some pc, tt) }

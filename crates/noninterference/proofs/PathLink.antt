@@ -14,7 +14,7 @@ use Rattle.window_model.specs.Path.{path}
 use Rattle.window_model.proofs.Booleans.{both, not_true}
 use Rattle.window_model.proofs.Passing.{uncleared_fails}
 use Rattle.committed_state.specs.Replay.{Bank, bank, is_clear}
-use Rattle.committed_state.specs.Consistent.{Stands, goes_through}
+use Rattle.committed_state.specs.Consistent.{EntryInvariant, goes_through}
 use Rattle.committed_state.proofs.Known.{replayed_behind}
 use Rattle.noninterference.proofs.Onward.{LeadsTo}
 use Rattle.noninterference.proofs.OneRun.{Linked, reaches}
@@ -39,7 +39,7 @@ visible_clear model (e ∷ before) p v =
 
 module _ (now : ℕ) (d : Desc) (protected : protects d.stt_model ≡ true) (code : Code) (aligned : Aligned code) where
   -- what comes after visible entries that are no stop and no call is on the path
-  pub leads_to : (s : Bank) → length s.regs ≡ 32 → (pc : ℕ) (before : List Entry) (n : ℕ) → Behind (Stands d code s now) before → Linked pc before → list_all goes_through before ≡ true → visible d.stt_model before ≡ true → reaches pc before ≡ Some n →
+  pub leads_to : (s : Bank) → length s.regs ≡ 32 → (pc : ℕ) (before : List Entry) (n : ℕ) → Behind (EntryInvariant d code s now) before → Linked pc before → list_all goes_through before ≡ true → visible d.stt_model before ≡ true → reaches pc before ≡ Some n →
       LeadsTo (path d.stt_model code) (hart pc s) (length before) (hart n (bank s before))
   leads_to s m pc [] n b l t v r = ap (λ p. hart p s) (let e : Some pc ≡ Some n = r in cc)
   leads_to s m pc (e ∷ before) n b l t v r =

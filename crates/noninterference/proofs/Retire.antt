@@ -18,7 +18,7 @@ use Rattle.window_model.specs.Path.{path}
 use Rattle.window_model.proofs.Booleans.{some_of}
 use Rattle.window_model.proofs.Calls.{call_does}
 use Rattle.window_model.proofs.Leaving.{is_cleared}
-use Rattle.committed_state.specs.Consistent.{Holds, Stands, bank_in}
+use Rattle.committed_state.specs.Consistent.{Holds, EntryInvariant, bank_in}
 use Rattle.committed_state.proofs.Turn.{head_leaves_so}
 use Rattle.committed_state.proofs.Ends.{head_calls}
 use Rattle.committed_state.proofs.Calls.{only_call}
@@ -40,7 +40,7 @@ module _ (now : ℕ) (d : Desc) (protected : protects d.stt_model ≡ true) (cod
   R r r2 = RetiresAlike d.stt_model code total r r2
 
   -- the heads of both windows are one entry
-  head_same : (x x2 : Machine) (e e2 : Entry) → InStepUpTo d.stt_model code total x x2 → 1 + x.retired ≤ total → length x.regs ≡ 32 → length x2.regs ≡ 32 → Stands d code (bank_in (hart_of x)) now [] e → Stands d code (bank_in (hart_of x2)) now [] e2 → x.pc ≡ e.item.pc → x2.pc ≡ e2.item.pc → without_outcome e ≡ without_outcome e2 → e ≡ e2
+  head_same : (x x2 : Machine) (e e2 : Entry) → InStepUpTo d.stt_model code total x x2 → 1 + x.retired ≤ total → length x.regs ≡ 32 → length x2.regs ≡ 32 → EntryInvariant d code (bank_in (hart_of x)) now [] e → EntryInvariant d code (bank_in (hart_of x2)) now [] e2 → x.pc ≡ e.item.pc → x2.pc ≡ e2.item.pc → without_outcome e ≡ without_outcome e2 → e ≡ e2
   head_same x x2 e e2 a lt n n2 st st2 pc pc2 h =
       let s = same_window now d protected code aligned x x2 1 n n2 (λ k le. a k (omega (arith, le, lt))) (e ∷ []) (e2 ∷ []) (omega arith) (head_alone now d code x e st pc) (head_alone now d code x2 e2 st2 pc2) (ap (λ t. t ∷ []) h) in
       let u = untainted_sources d.stt_model [] e refl in

@@ -2,7 +2,7 @@
 use crate::asserting::assert_same;
 use crate::descriptions::{largest, small};
 use byte_ram::Ram;
-use lsq::{Access, LoadRequest, Lsq, Merged, Pending, Span, StoreInfo};
+use lsq::{IssuedLoad, LoadRequest, Lsq, Merged, Pending, Span, StoreInfo};
 use machine_desc::Desc;
 use rv_types::{Cause, Width};
 use std::alloc::Global;
@@ -259,8 +259,8 @@ fn info(serial: u64, root: Option<u64>, known: bool, cleared: bool) -> Option<St
 }
 
 // A load issues in this cycle.
-fn access(addr: u32, width: Width, fault: Option<Cause>, cycle: u64) -> Access {
-    Access {
+fn access(addr: u32, width: Width, fault: Option<Cause>, cycle: u64) -> IssuedLoad {
+    IssuedLoad {
         addr,
         width,
         fault,

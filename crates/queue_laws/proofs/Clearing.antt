@@ -9,24 +9,24 @@ use Rattle.window_model.specs.Order.{is_store}
 use Rattle.lsq.specs.declared.store.Span.{Span}
 use Rattle.lsq.specs.declared.store.Store.{Store}
 use Rattle.lsq.specs.Clearing.{info_of}
-use Rattle.queue_laws.specs.Window.{ShownClearing, Told, shown_cleared, shown_clearing, told_in, told_of}
+use Rattle.queue_laws.specs.Window.{ShownClearing, StoreSeen, shown_cleared, shown_clearing, seen_in_window, store_seen}
 use Rattle.queue_laws.specs.Laws.{TellsInPlace}
 
-abbrev told_by : ShownClearing → Told
+abbrev told_by : ShownClearing → StoreSeen
 told_by c = record { serial = c.serial; known = is_some c.known_from; cleared = c.cleared }
 
 known_is : (k : Option Span) → is_some k ≡ is_some (option_map (λ (k : Span). k.known_from) k)
 known_is None = refl
 known_is (Some k) = refl
 
-told_is : (s : Store) → told_of (info_of s) ≡ told_by (shown_cleared s)
+told_is : (s : Store) → store_seen (info_of s) ≡ told_by (shown_cleared s)
 told_is s = ap (λ k. record { serial = s.serial; known = k; cleared = s.cleared }) (known_is s.span)
 
-told_all : (o : Option Store) → option_map told_of (option_map info_of o) ≡ option_map told_by (option_map shown_cleared o)
+told_all : (o : Option Store) → option_map store_seen (option_map info_of o) ≡ option_map told_by (option_map shown_cleared o)
 told_all None = refl
 told_all (Some s) = ap Some (told_is s)
 
-told_entry : (o : Option Entry) → option_map told_by (option_map shown_clearing o) ≡ option_map told_in o
+told_entry : (o : Option Entry) → option_map told_by (option_map shown_clearing o) ≡ option_map seen_in_window o
 told_entry None = refl
 told_entry (Some e) = refl
 

@@ -16,7 +16,7 @@ use Rattle.lsq.specs.Queues.{Queues, is_known, older, youngest_root}
 use Rattle.lsq.specs.Clearing.{info_of, violated_by}
 use Rattle.lsq.specs.Merging.{all_forwarded, merged_bytes}
 use Rattle.lsq.specs.Pending.{bytes_asked, lacks_address, lacks_data_for}
-use Rattle.queue_laws.specs.Window.{NotOlder, Older, StandFor, StoresStandFor, Tracks, all_complete, hides, tainted_stores, told_in, told_of}
+use Rattle.queue_laws.specs.Window.{NotOlder, Older, StandFor, StoresStandFor, Tracks, all_complete, hides, tainted_stores, seen_in_window, store_seen}
 
 -- as many loads and stores are held as the window has
 abbrev pub RoomAsCounted : Type 0
@@ -74,5 +74,5 @@ Violates = (q : Queues) (before younger : List Entry) (store : Entry) → StandF
 -- what the queue tells of the store at a place is so of the window's
 abbrev pub TellsInPlace : Type 0
 TellsInPlace = (q : Queues) (window : List Entry) (place : ℕ) → Tracks q window →
-    option_map told_of (option_map info_of (slice_get q.stores place))
-    ≡ option_map told_in (slice_get (filter (λ e. is_store e.item.kind) window) place)
+    option_map store_seen (option_map info_of (slice_get q.stores place))
+    ≡ option_map seen_in_window (slice_get (filter (λ e. is_store e.item.kind) window) place)

@@ -10,7 +10,7 @@ use Rattle.window_model.specs.Order.{fault_of, has_address, has_data, is_load, i
 use Rattle.window_model.specs.Retire.{addr_of, stored_of, byte_count}
 use Rattle.window_model.specs.Taint.{address_tainted}
 use Rattle.lsq.specs.declared.clearing.StoreInfo.{StoreInfo}
-use Rattle.lsq.specs.declared.load.Access.{Access}
+use Rattle.lsq.specs.declared.load.IssuedLoad.{IssuedLoad}
 use Rattle.lsq.specs.declared.load.Load.{Load}
 use Rattle.lsq.specs.declared.store.Span.{Span}
 use Rattle.lsq.specs.declared.store.Store.{Store}
@@ -90,7 +90,7 @@ pub record ShownLoad : Type 0 where
   pub reading : Option Reading
 
 -- what is noted of a load in the queue
-abbrev pub reading_of : Access → Reading
+abbrev pub reading_of : IssuedLoad → Reading
 reading_of a = record { area = record { addr = a.addr; bytes = bytes_in a.width; fault = a.fault }; cycle = a.cycle }
 
 -- a load in the queue, with what is noted of it
@@ -130,18 +130,18 @@ pub record Tracks (q : Queues) (window : List Entry) : Type 0 where
   pub stores : map shown_cleared q.stores ≡ clearings_in window
 
 -- what is told of a store in its place, but for its root
-pub record Told : Type 0 where
+pub record StoreSeen : Type 0 where
   pub serial : ℕ
   pub known : Bool
   pub cleared : Bool
 
 -- what is told of a store in the queue
-abbrev pub told_of : StoreInfo → Told
-told_of i = record { serial = i.serial; known = i.known; cleared = i.cleared }
+abbrev pub store_seen : StoreInfo → StoreSeen
+store_seen i = record { serial = i.serial; known = i.known; cleared = i.cleared }
 
 -- what is told of a store in the window
-abbrev pub told_in : Entry → Told
-told_in e = record { serial = e.serial; known = has_address e; cleared = e.cleared }
+abbrev pub seen_in_window : Entry → StoreSeen
+seen_in_window e = record { serial = e.serial; known = has_address e; cleared = e.cleared }
 
 -- both parts of each store among these entries have issued
 abbrev pub all_complete : List Entry → Bool

@@ -5,7 +5,7 @@ use Rattle.rv_types.specs.declared.Width.{Width}
 use Rattle.window_model.specs.declared.Entry.{Entry}
 use Rattle.window_model.specs.Order.{fault_of, has_address, has_data, is_load, is_store}
 use Rattle.window_model.specs.Retire.{addr_of, stored_of, byte_count}
-use Rattle.lsq.specs.declared.load.Access.{Access}
+use Rattle.lsq.specs.declared.load.IssuedLoad.{IssuedLoad}
 use Rattle.lsq.specs.declared.store.Span.{Span}
 use Rattle.lsq.specs.declared.store.Store.{Store}
 use Rattle.lsq.specs.Queues.{Queues, addressed_at, cleared_at, filled_at, issued_at}
@@ -20,7 +20,7 @@ abbrev pub span_in : Width → Entry → Span
 span_in w e = record { addr = addr_of e.outcome; width = w; fault = fault_of e.outcome; known_from = cycle_or_first e.addr_due }
 
 -- what an entry reads, with the width of its access, and when it issued
-abbrev pub access_in : Width → Entry → Access
+abbrev pub access_in : Width → Entry → IssuedLoad
 access_in w e = record { addr = addr_of e.outcome; width = w; fault = fault_of e.outcome; cycle = cycle_or_first e.issued }
 
 -- the stores, with where an entry writes if that is noted

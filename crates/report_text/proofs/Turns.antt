@@ -1,6 +1,6 @@
 -- The texts of numbers that are written in turn.
 use Rattle.std.proofs.Common.{◌≡◌, ◌<◌, ◌≤◌, ℕ, zero, suc, ◌+◌, ◌-◌, List, [], ◌++◌, refl, ap, ◌∙◌, subst, arith}
-use Rattle.tool_io.specs.Outside.{Told, Wrote, WrotePart}
+use Rattle.tool_io.specs.Outside.{Told, Wrote, WrotePrefix}
 use Rattle.tool_io.proofs.Writing.{WroteUpTo, up_to_start, up_to_more, up_to_part, up_to_end}
 use Rattle.report_text.specs.Report.{each_from}
 
@@ -24,8 +24,8 @@ pub each_wrote : (all : List ℕ) (text : ℕ → List ℕ) (n i : ℕ) (s t u :
 each_wrote all text n i s t u h p q = up_to_more _ _ _ _ _ _ (rw (each_more text n i h) at p) q
 
 -- a fault at one text leaves a part of all
-pub each_part : (all : List ℕ) (text : ℕ → List ℕ) (n i : ℕ) (s t u : Told) → i < n → WroteUpTo all (each_from text i (n - i)) s t → WrotePart (text i) t u
-    → WrotePart all s u
+pub each_part : (all : List ℕ) (text : ℕ → List ℕ) (n i : ℕ) (s t u : Told) → i < n → WroteUpTo all (each_from text i (n - i)) s t → WrotePrefix (text i) t u
+    → WrotePrefix all s u
 each_part all text n i s t u h p q = up_to_part _ _ _ _ _ _ (rw (each_more text n i h) at p) q
 
 -- past the last number all is written

@@ -6,7 +6,7 @@ use Rattle.elf_loader.specs.declared.faults.ElfFault.TheVariants as elf
 use Rattle.machine_desc.specs.Table.{key_text, subject_text}
 use Rattle.machine_desc.specs.declared.fault.DescFault.{DescFault}
 use Rattle.machine_desc.specs.declared.fault.DescFault.TheVariants as desc
-use Rattle.tool_io.specs.Outside.{Told, Wrote, WrotePart}
+use Rattle.tool_io.specs.Outside.{Told, Wrote, WrotePrefix}
 use Rattle.run_inputs.specs.declared.refusal.Which.{Which}
 use Rattle.run_inputs.specs.declared.refusal.Which.TheVariants.{First, Second}
 use Rattle.run_inputs.specs.declared.refusal.Refusal.{Refusal}
@@ -75,7 +75,7 @@ note_line refusal = refusal_words refusal ++ codes "\n"
 
 -- the note gets the line of a refusal, all of it or, where it fails, a part
 abbrev pub Tells : Refusal → Told → Told → Type 0
-Tells refusal old new = Wrote (note_line refusal) old new ⊎ WrotePart (note_line refusal) old new
+Tells refusal old new = Wrote (note_line refusal) old new ⊎ WrotePrefix (note_line refusal) old new
 
 -- the note gets the line of a refusal, and nothing where there is none
 abbrev pub Notes : {T : Type 0} → Result T Refusal → Told → Told → Type 0

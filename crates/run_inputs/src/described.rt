@@ -3,11 +3,11 @@ ghost use Rattle.std.specs.Prelude.{◌≡◌, ◌∷◌, [], Some, MatchResult,
 ghost use Rattle.tool_io.specs.Outside.{SameContents};
 ghost use Rattle.run_inputs.specs.Loaded.{Fits, loaded};
 ghost use Rattle.run_inputs.specs.Input.{IsRead, Refuses};
-ghost use Rattle.run_inputs.specs.inner.Input.{source_of};
+ghost use Rattle.run_inputs.specs.inner.Input.{image_from};
 
 use crate::description::read_description;
 use crate::refusal::{Refusal, Which};
-use crate::sources::{Source, read_image};
+use crate::sources::{ImageSource, read_image};
 use elf_loader::Image;
 use machine_desc::Desc;
 use std::alloc::Global;
@@ -25,13 +25,13 @@ pub struct Described {
 pub fn read_described<F: Files>(
     alloc: Global,
     description: &str,
-    source: Source<'_>,
+    source: ImageSource<'_>,
     files: &mut F,
 ) -> Result<Described, Refusal>
     ensures answer { MatchResult result
-        (λ i. IsRead (F.shelf files.old) (F.shelf files.new) (Some description.now) (source_of source.entry ∷ [])
+        (λ i. IsRead (F.shelf files.old) (F.shelf files.new) (Some description.now) (image_from source.entry ∷ [])
         (Some i.desc) (loaded i.image ∷ []))
-        (λ e. Refuses (Some description.now) (source_of source.entry ∷ []) (F.shelf files.old) (F.shelf files.new) e) }
+        (λ e. Refuses (Some description.now) (image_from source.entry ∷ []) (F.shelf files.old) (F.shelf files.new) e) }
     ensures fits { IfOk result (λ i. Fits i.desc i.image.ram) }
     ensures stays { SameContents (F.shelf files.old) (F.shelf files.new) }
 {

@@ -17,4 +17,4 @@ pub use described::{Described, read_described};
 pub use description::{read_description, read_named};
 pub use note::{note_line, refuse};
 pub use refusal::{Refusal, Which, status_of};
-pub use sources::{Source, read_image};
+pub use sources::{ImageSource, read_image};

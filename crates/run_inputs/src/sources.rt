@@ -3,7 +3,7 @@ ghost use Rattle.std.specs.Prelude.{◌≡◌, Ok, Result, MatchResult, IfOk, le
 ghost use Rattle.elf_loader.specs.Image.{image_of};
 ghost use Rattle.run_inputs.specs.Loaded.{loaded};
 ghost use Rattle.tool_io.specs.Outside.{SameContents};
-ghost use Rattle.run_inputs.specs.inner.Input.{source_of, ReadsBytes, ReadsImage, LoadRefused, refusal_of};
+ghost use Rattle.run_inputs.specs.inner.Input.{image_from, ReadsBytes, ReadsImage, LoadRefused, refusal_of};
 ghost use Rattle.run_inputs.specs.Input.{base_of, size_of, misaligned_of};
 
 use crate::reading::{IMAGE_MAX, Unread, read_file};
@@ -19,7 +19,7 @@ use tool_words::Blocks;
 
 /// Where an image comes from.
 #[derive(Clone, Copy, Debug)]
-pub enum Source<'a> {
+pub enum ImageSource<'a> {
     /// The file of this name.
     File(&'a str),
     /// A seed and a number of blocks, which generate it.
@@ -29,21 +29,21 @@ pub enum Source<'a> {
 // The bytes of an image.
 fn bytes_of<F: Files>(
     alloc: Global,
-    source: Source<'_>,
+    source: ImageSource<'_>,
     which: Which,
     files: &mut F,
 ) -> Result<Content, Refusal>
-    ensures answer { ReadsBytes which (source_of source.entry) (F.shelf files.old) (F.shelf files.new) result }
+    ensures answer { ReadsBytes which (image_from source.entry) (F.shelf files.old) (F.shelf files.new) result }
     ensures stays { SameContents (F.shelf files.old) (F.shelf files.new) }
 {
     match source {
-        Source::File(name) => match read_file(alloc, name, IMAGE_MAX, files) {
+        ImageSource::File(name) => match read_file(alloc, name, IMAGE_MAX, files) {
             Ok(file) => Ok(file),
             Err(Unread::Failed) => Err(Refusal::ReadImage(which)),
             Err(Unread::TooLong) => Err(Refusal::ImageTooLong(which)),
             Err(Unread::NoMemory) => Err(Refusal::Memory),
         },
-        Source::Seed(seed, blocks) => match generate(alloc, seed, blocks.count) {
+        ImageSource::Seed(seed, blocks) => match generate(alloc, seed, blocks.count) {
             Ok(file) => Ok(Content::new(file)),
             Err(_) => Err(Refusal::Memory),
         },
@@ -97,12 +97,12 @@ fn load_image(
 /// The image from there, in the memory of this description.
 pub fn read_image<F: Files>(
     alloc: Global,
-    source: Source<'_>,
+    source: ImageSource<'_>,
     which: Which,
     desc: Option<Desc>,
     files: &mut F,
 ) -> Result<Image, Refusal>
-    ensures answer { ReadsImage which desc (source_of source.entry) (F.shelf files.old) (F.shelf files.new) result }
+    ensures answer { ReadsImage which desc (image_from source.entry) (F.shelf files.old) (F.shelf files.new) result }
     ensures base { IfOk result (λ i. i.ram.base ≡ base_of desc) }
     ensures size { IfOk result (λ i. length i.ram.bytes ≡ size_of desc) }
     ensures stays { SameContents (F.shelf files.old) (F.shelf files.new) }

@@ -4,16 +4,16 @@ use Rattle.std.proofs.Math.Bool.{and-false}
 use Rattle.std.proofs.lemmas.Bool.Decides.{nat_tests}
 use Rattle.std.specs.Prelude.{◌==◌, ◌&&◌, if◌then◌else◌}
 use Rattle.rv_types.specs.Word.{field}
-use Rattle.rv_types.specs.Decode.{decode, table, look_up, matches, Row}
+use Rattle.rv_types.specs.Decode.{decode, table, look_up, matches, Encoding}
 use Rattle.rv_types.specs.declared.Instr.{Instr}
 use Rattle.rv_types.specs.declared.Instr.TheVariants.{Illegal, Ecall, Ebreak}
 
 -- the instruction of the first row for these fields
-abbrev pub look : List Row → ℕ → ℕ → ℕ → ℕ → Instr
+abbrev pub look : List Encoding → ℕ → ℕ → ℕ → ℕ → Instr
 look [] op f3 f7 w = Illegal w
 look (r ∷ rows) op f3 f7 w = if op == r.opcode && matches r.funct3 f3 && matches r.funct7 f7 then r.instr w else look rows op f3 f7 w
 
-look_up-fields : (rows : List Row) (w : ℕ) → look_up rows w ≡ look rows (field w 0 7) (field w 12 3) (field w 25 7) w
+look_up-fields : (rows : List Encoding) (w : ℕ) → look_up rows w ≡ look rows (field w 0 7) (field w 12 3) (field w 25 7) w
 look_up-fields [] w = refl
 look_up-fields (r ∷ rows) w = ap (λ rest. if field w 0 7 == r.opcode && matches r.funct3 (field w 12 3) && matches r.funct7 (field w 25 7) then r.instr w else rest) (look_up-fields rows w)
 

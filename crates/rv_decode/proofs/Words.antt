@@ -3,7 +3,7 @@ use Rattle.std.proofs.Common.{◌≡◌, ℕ, ◌<◌, ◌^◌, refl, ap, sym, �
 use Rattle.std.specs.Prelude.{◌==◌, ◌&&◌, if◌then◌else◌}
 use Rattle.std.proofs.lemmas.Bool.Decides.{nat_tests}
 use Rattle.rv_types.specs.Word.{field, word}
-use Rattle.rv_types.specs.Decode.{decode, table, look_up, matches, Row, row, any, is, rd, rs1, imm_i, imm_u, imm_j, branch, load, store, shift_imm, op_reg}
+use Rattle.rv_types.specs.Decode.{decode, table, look_up, matches, Encoding, row, any, is, rd, rs1, imm_i, imm_u, imm_j, branch, load, store, shift_imm, op_reg}
 use Rattle.rv_types.specs.declared.Instr.{Instr}
 use Rattle.rv_types.specs.declared.Instr.TheVariants.{Lui, Auipc, Jal, Jalr, Fence, Ecall, Ebreak}
 use Rattle.rv_types.specs.declared.Op.{Op}
@@ -17,10 +17,10 @@ Meets None n = Unit {0}
 Meets (Some m) n = n ≡ m
 
 -- a word that the row matches comes back from its instruction
-abbrev ComesBack : Row → Type 0
+abbrev ComesBack : Encoding → Type 0
 ComesBack r = (w : ℕ) → w < 2 ^ 32 → field w 0 7 ≡ r.opcode → Meets r.funct3 (field w 12 3) → Meets r.funct7 (field w 25 7) → word_of (r.instr w) ≡ w
 
-abbrev AllComeBack : List Row → Type 0
+abbrev AllComeBack : List Encoding → Type 0
 AllComeBack [] = Unit {0}
 AllComeBack (r ∷ rows) = ComesBack r × AllComeBack rows
 
@@ -45,11 +45,11 @@ right true true c e = e
 right true false c e = absurd (cc)
 right false b c e = absurd (cc)
 
-by_match : (b : Bool) (r : Row) (rest : Instr) (w : ℕ) → (b ≡ true → word_of (r.instr w) ≡ w) → word_of rest ≡ w → word_of (if b then r.instr w else rest) ≡ w
+by_match : (b : Bool) (r : Encoding) (rest : Instr) (w : ℕ) → (b ≡ true → word_of (r.instr w) ≡ w) → word_of rest ≡ w → word_of (if b then r.instr w else rest) ≡ w
 by_match true r rest w here more = here refl
 by_match false r rest w here more = more
 
-comes_back : (rows : List Row) → AllComeBack rows → (w : ℕ) → w < 2 ^ 32 → word_of (look_up rows w) ≡ w
+comes_back : (rows : List Encoding) → AllComeBack rows → (w : ℕ) → w < 2 ^ 32 → word_of (look_up rows w) ≡ w
 comes_back [] all w lt = refl
 comes_back (r ∷ rows) all w lt =
     let a = field w 0 7 == r.opcode in

@@ -64,7 +64,7 @@ abbrev pub op_reg : Op → ℕ → Instr
 op_reg op w = OpReg op (rd w) (rs1 w) (rs2 w)
 
 -- a row of the table: what has to match, and what the word then is
-pub record Row : Type 0 where
+pub record Encoding : Type 0 where
   pub opcode : ℕ
   pub funct3 : Option ℕ
   pub funct7 : Option ℕ
@@ -84,11 +84,11 @@ matches None n = true
 matches (Some m) n = n == m
 
 -- a row of the table: opcode, the two fields, and the instruction that the word then is
-abbrev pub row : ℕ → Option ℕ → Option ℕ → (ℕ → Instr) → Row
+abbrev pub row : ℕ → Option ℕ → Option ℕ → (ℕ → Instr) → Encoding
 row opcode f3 f7 instr = record { opcode = opcode; funct3 = f3; funct7 = f7; instr = instr }
 
 -- the table of all instructions but ECALL and EBREAK
-abbrev pub table : List Row
+abbrev pub table : List Encoding
 table =
     row 0b0110111 any any (λ w. Lui (rd w) (imm_u w))
     ∷ row 0b0010111 any any (λ w. Auipc (rd w) (imm_u w))
@@ -139,7 +139,7 @@ table =
     ∷ []
 
 -- the instruction by the first row that the word matches, else an illegal one
-abbrev pub look_up : List Row → ℕ → Instr
+abbrev pub look_up : List Encoding → ℕ → Instr
 look_up [] w = Illegal w
 look_up (r ∷ rows) w = if field w 0 7 == r.opcode && matches r.funct3 (field w 12 3) && matches r.funct7 (field w 25 7) then r.instr w else look_up rows w
 

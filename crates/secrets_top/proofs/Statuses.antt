@@ -6,7 +6,7 @@ use Rattle.elf_loader.specs.Image.{ImageText}
 use Rattle.elf_loader.specs.declared.faults.ElfFault.{ElfFault}
 use Rattle.machine_desc.specs.declared.Desc.{Desc}
 use Rattle.machine_desc.specs.declared.fault.DescFault.{DescFault}
-use Rattle.tool_io.specs.Outside.{Shelf, Told, Wrote, WrotePart, SameCounts, NameFailed, Rose}
+use Rattle.tool_io.specs.Outside.{Shelf, Told, Wrote, WrotePrefix, SameCounts, NameFailed, Rose}
 use Rattle.run_inputs.specs.declared.refusal.Which.{Which}
 use Rattle.run_inputs.specs.declared.refusal.Refusal.{Refusal}
 use Rattle.run_inputs.specs.declared.refusal.Refusal.TheVariants.{Words, ReadDescription, DescriptionTooLong, Description, ReadImage, ImageTooLong, Image, Write, Memory}
@@ -120,7 +120,7 @@ module _ (words : List (List ℕ)) (old new : World) where
   six (Err (Refused _)) e h = absurd (omega arith)
 
   seven : (r : Result Verdict Unjudged) → Ends words old new r → status_of r ≡ 7
-      → Wants words (λ wanted. (a : Accepted wanted old.files new.files) × WrotePart (verdict_text (verdict_on a)) old.out new.out)
+      → Wants words (λ wanted. (a : Accepted wanted old.files new.files) × WrotePrefix (verdict_text (verdict_on a)) old.out new.out)
   seven (Ok v) e h = absurd (other_status v 7 (λ k. omega arith) h)
   seven (Err (Range f)) e h = absurd (omega arith)
   seven (Err (Refused Write)) e h = e
@@ -181,8 +181,8 @@ module _ (words : List (List ℕ)) (old new : World) where
     whole : (v : Verdict) → Ends words old new (Ok v) → (a : Accepted wanted old.files new.files) × Wrote (verdict_text (verdict_on a)) old.out new.out × (v ≡ verdict_on a)
     whole v e = of_wish words (λ w. (a : Accepted w old.files new.files) × Wrote (verdict_text (verdict_on a)) old.out new.out × (v ≡ verdict_on a)) wanted k e
 
-    cut : Ends words old new (Err (Refused Write)) → (a : Accepted wanted old.files new.files) × WrotePart (verdict_text (verdict_on a)) old.out new.out
-    cut e = of_wish words (λ w. (a : Accepted w old.files new.files) × WrotePart (verdict_text (verdict_on a)) old.out new.out) wanted k e
+    cut : Ends words old new (Err (Refused Write)) → (a : Accepted wanted old.files new.files) × WrotePrefix (verdict_text (verdict_on a)) old.out new.out
+    cut e = of_wish words (λ w. (a : Accepted w old.files new.files) × WrotePrefix (verdict_text (verdict_on a)) old.out new.out) wanted k e
 
     its_fault : (f : FaultyRange) → Ends words old new (Err (Range f)) → (inputs : Inputs wanted old.files new.files) × (fault_in wanted inputs.image ≡ Some f)
     its_fault f e = of_wish words (λ w. (inputs : Inputs w old.files new.files) × (fault_in w inputs.image ≡ Some f)) wanted k e.0

@@ -1,6 +1,6 @@
 -- Why no verdict is told, or not all of it: statuses and lines (docs/formats.md, "Statuses", "Notes").
 use Rattle.std.specs.Prelude.{◌≡◌, ◌⊎◌, ℕ, List, ◌++◌, Result, Ok, Err, codes, decimal}
-use Rattle.tool_io.specs.Outside.{Told, Wrote, WrotePart}
+use Rattle.tool_io.specs.Outside.{Told, Wrote, WrotePrefix}
 use Rattle.run_inputs.specs.Note.{note_line as refusal_line}
 use Rattle.run_inputs.specs.Refused.{status_of as refusal_status}
 use Rattle.secrets_top.specs.declared.ranges.RangeFault.{RangeFault}
@@ -34,4 +34,4 @@ note_line (Refused refusal) = refusal_line refusal
 -- the note gets the line of a cause, all of it or, where it fails, a part; nothing else
 abbrev pub Notes : Result Verdict Unjudged → Told → Told → Type 0
 Notes (Ok verdict) old new = new ≡ old
-Notes (Err cause) old new = Wrote (note_line cause) old new ⊎ WrotePart (note_line cause) old new
+Notes (Err cause) old new = Wrote (note_line cause) old new ⊎ WrotePrefix (note_line cause) old new

@@ -3,7 +3,7 @@
 use Rattle.std.specs.Prelude.{◌≡◌, ◌≢◌, ◌⊎◌, ℕ, List, [], ◌∷◌, Option, Some, None, Result, Ok, Err}
 use Rattle.elf_loader.specs.Image.{ImageText}
 use Rattle.machine_desc.specs.declared.Desc.{Desc}
-use Rattle.tool_io.specs.Outside.{Told, Shelf, Wrote, WrotePart, SameCounts, NameFailed, Rose}
+use Rattle.tool_io.specs.Outside.{Told, Shelf, Wrote, WrotePrefix, SameCounts, NameFailed, Rose}
 use Rattle.run_inputs.specs.Input.{MayGive, Gives, HasDesc, IsFaultyDescription, from_file, IsImage, IsFaultyImage, IsRead, Refuses}
 use Rattle.run_inputs.specs.Told.{World}
 use Rattle.run_inputs.specs.declared.refusal.Refusal.{Refusal}
@@ -55,7 +55,7 @@ abbrev pub Ends : List (List ℕ) → World → World → Result Verdict Unjudge
 Ends words old new (Ok told) = Wants words (λ wanted. (a : Accepted wanted old.files new.files) × Wrote (verdict_text (verdict_on a)) old.out new.out × (told ≡ verdict_on a))
 Ends words old new (Err (Range faulty)) =
     Wants words (λ wanted. (inputs : Inputs wanted old.files new.files) × (fault_in wanted inputs.image ≡ Some faulty)) × (new.out ≡ old.out)
-Ends words old new (Err (Refused Write)) = Wants words (λ wanted. (a : Accepted wanted old.files new.files) × WrotePart (verdict_text (verdict_on a)) old.out new.out)
+Ends words old new (Err (Refused Write)) = Wants words (λ wanted. (a : Accepted wanted old.files new.files) × WrotePrefix (verdict_text (verdict_on a)) old.out new.out)
 Ends words old new (Err (Refused Words)) = (wanted_of words ≡ None) × SameCounts old.files new.files × (new.out ≡ old.out)
 Ends words old new (Err (Refused Memory)) = (words ≢ []) × SameCounts old.files new.files × (new.out ≡ old.out)
 Ends words old new (Err (Refused refusal)) = Wants words (λ wanted. RefusedInputs wanted old.files new.files refusal) × (new.out ≡ old.out)
@@ -102,7 +102,7 @@ pub record Statuses (words : List (List ℕ)) (old new : World) (status : ℕ) :
       ⊎ ((desc : Option Desc) × HasDesc (MayGive old.files) (Some wanted.description) desc × NameFailed wanted.image old.files new.files))
   pub not_six : status ≢ 6 → SameCounts old.files new.files
   -- 7 only where the count of the sink rose, with a part of the text written; any other status leaves that count
-  pub seven : status ≡ 7 → Wants words (λ wanted. (a : Accepted wanted old.files new.files) × WrotePart (verdict_text (verdict_on a)) old.out new.out)
+  pub seven : status ≡ 7 → Wants words (λ wanted. (a : Accepted wanted old.files new.files) × WrotePrefix (verdict_text (verdict_on a)) old.out new.out)
   pub not_seven : status ≢ 7 → new.out.faults ≡ old.out.faults
   -- any status but 0, 1, 3 and 7 writes nothing
   pub nothing : ¬ IsTold status → status ≢ 7 → new.out ≡ old.out

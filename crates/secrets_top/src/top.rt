@@ -11,7 +11,7 @@ use crate::performing::perform;
 use crate::ranges::check_ranges;
 use crate::refusal::{Unjudged, note_line, status_of};
 use crate::verdict::Verdict;
-use run_inputs::{Source, read_described};
+use run_inputs::{ImageSource, read_described};
 use secret_words::read_wanted;
 use std::alloc::Global;
 use tool_io::{Files, Sink};
@@ -29,7 +29,12 @@ fn answer<F: Files, O: Sink>(
     ensures stays { SameContents (F.shelf files.old) (F.shelf files.new) }
 {
     let wanted = read_wanted(alloc, words)?;
-    let read = read_described(alloc, wanted.description, Source::File(wanted.image), files)?;
+    let read = read_described(
+        alloc,
+        wanted.description,
+        ImageSource::File(wanted.image),
+        files,
+    )?;
     check_ranges(&read.image, wanted.secret.as_slice())?;
     perform(alloc, read, wanted.secret.as_slice(), wanted.cycles, out)
 }

@@ -33,7 +33,7 @@ use Rattle.secret_marks.specs.Marks.{Marks, any_marked, first_marks}
 use Rattle.secret_marks.specs.Shows.{decides_as, operand_shows}
 use Rattle.shown_marks.specs.declared.seen.Place.{Place}
 use Rattle.shown_marks.specs.declared.seen.Seen.{Seen}
-use Rattle.shown_marks.specs.State.{HasTurn, Stands, before_of, flight_of, window_of}
+use Rattle.shown_marks.specs.State.{HasTurn, ShowsInvariant, before_of, flight_of, window_of}
 
 -- ---- whose operand tells nothing
 
@@ -70,7 +70,7 @@ module _ (d : Desc) (before : List Entry) (e : Entry) where
 -- ---- an entry in its place
 
 -- results are held back by the point that has moved
-pub moved : (s : Seen) (stands : Stands s) → MovedBy s.desc.now (flight_of stands.rest s)
+pub moved : (s : Seen) (stands : ShowsInvariant s) → MovedBy s.desc.now (flight_of stands.rest s)
 moved s stands = record { advanced = stands.advanced; model = stands.model; holds = refl }
 
 module _ (s : Seen) (p : Place) (t : HasTurn s p) where

@@ -16,7 +16,7 @@ use Rattle.secret_marks.specs.Shown.{operands_shown, shown_by}
 use Rattle.entry_marks.specs.Beside.{marks_before}
 use Rattle.shown_marks.specs.declared.seen.Place.{Place}
 use Rattle.shown_marks.specs.declared.seen.Seen.{Seen}
-use Rattle.shown_marks.specs.State.{HasTurn, Stands, before_of, each_marks, flight_of, marks_before_of, marks_in, window_of}
+use Rattle.shown_marks.specs.State.{HasTurn, ShowsInvariant, before_of, each_marks, flight_of, marks_before_of, marks_in, window_of}
 use Rattle.shown_marks.proofs.Deciding.{moved, silent, unable_silent, unwaiting_silent}
 use Rattle.shown_marks.proofs.Walking.{ShowsFrom, all_from, shows_here, shows_later, shows_nowhere}
 
@@ -24,7 +24,7 @@ use Rattle.shown_marks.proofs.Walking.{ShowsFrom, all_from, shows_here, shows_la
 abbrev pub Shows : Seen → ℕ → Type 0
 Shows s i = ShowsFrom s.desc.now (marks_in s) (window_of s) (each_marks s) i
 
-module _ (s : Seen) (stands : Stands s) where
+module _ (s : Seen) (stands : ShowsInvariant s) where
   -- a station is able where what its entry wants is there
   pub able_is : (i n : ℕ) (e : Entry) (b : Bool) → slice_get (window_of s) i ≡ Some e → is_waiting e.state ≡ true → n ≡ station_of i (window_of s) → option_map is_able (slice_get s.stations.now.held n) ≡ Some b →
       b ≡ has_sources (wants_of s.desc.now.version e) s.desc.now (before_at (window_of s) i) e

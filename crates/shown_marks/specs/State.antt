@@ -44,7 +44,7 @@ flight_of rest s = record rest {
 
 -- the parts refine the window, the point has just moved, each entry has its marks, and of a store that waits a part
 -- hasn't issued
-pub record Stands (s : Seen) : Type 0 where
+pub record ShowsInvariant (s : Seen) : Type 0 where
   pub rest : InFlight
   pub refines : Refines (flight_of rest s)
   pub step : length (each_marks s) ≡ length (window_of s)
@@ -65,7 +65,7 @@ marks_before_of s p = marks_before (each_marks s) p.position
 
 -- the entry of a place has its turn: it stands at its position, it waits at its station, and what it wants is there
 pub record HasTurn (s : Seen) (p : Place) : Type 0 where
-  pub stands : Stands s
+  pub stands : ShowsInvariant s
   pub at : slice_get (window_of s) p.position ≡ Some p.entry.now
   pub waits : is_waiting p.entry.now.state ≡ true
   pub able : has_sources (wants_of s.desc.now.version p.entry.now) s.desc.now (before_of s p) p.entry.now ≡ true

@@ -15,11 +15,11 @@ impl<'a> Seen<'a> {
     ghost use Rattle.std.specs.Option.{option_map};
     ghost use Rattle.stations.specs.Stations.{is_able};
     ghost use Rattle.secret_marks.specs.Shown.{operands_shown};
-    ghost use Rattle.shown_marks.specs.State.{HasTurn, Stands, each_marks, marks_in, window_of};
+    ghost use Rattle.shown_marks.specs.State.{HasTurn, ShowsInvariant, each_marks, marks_in, window_of};
 
     // The place of the entry that waits at a station, where what it wants is there.
     fn place_at(&self, station: u32) -> Place<'_>
-        requires stands { Stands self.now }
+        requires stands { ShowsInvariant self.now }
         requires within { station < length self.now.stations.now.held }
         requires able { option_map is_able (slice_get self.now.stations.now.held station) ≡ Some true }
         ensures turn { HasTurn self.now result }
@@ -37,7 +37,7 @@ impl<'a> Seen<'a> {
 
     // The oldest entry whose first operand shows. Entries that don't wait, or lack what they want, are passed.
     fn operands_shown(&self) -> Option<Shown>
-        requires stands { Stands self.now }
+        requires stands { ShowsInvariant self.now }
         ensures { result ≡ operands_shown self.now.desc.now (marks_in self.now) [] [] (window_of self.now)
             (each_marks self.now) }
     {

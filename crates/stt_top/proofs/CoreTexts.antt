@@ -17,7 +17,7 @@ use Rattle.report_text.specs.Report.{piece_lines, state_text}
 use Rattle.report_text.proofs.Pieces.{report_parts}
 use Rattle.trace_text.specs.TraceText.{rows_text, trace_text}
 use Rattle.trace_text.proofs.Growing.{trace_parts}
-use Rattle.tool_io.specs.Outside.{Told, Wrote, WrotePart}
+use Rattle.tool_io.specs.Outside.{Told, Wrote, WrotePrefix}
 use Rattle.tool_io.proofs.Writing.{part_more, wrote_then, wrote_then_part}
 use Rattle.pair_run.specs.Running.{ending_at}
 use Rattle.stt_top.specs.Clocking.{run_from, report_from}
@@ -27,7 +27,7 @@ use Rattle.stt_top.proofs.Turns.{same_hart}
 -- ---- The trace of a run
 
 -- a part of the rows is a part of the trace
-pub rows_alone : (d : Desc) (code : Code) (n : ℕ) (x : Machine) (s t : Told) → WrotePart (rows_text (rows d code n x)) s t → WrotePart (trace_text (trace_from d code n x)) s t
+pub rows_alone : (d : Desc) (code : Code) (n : ℕ) (x : Machine) (s t : Told) → WrotePrefix (rows_text (rows d code n x)) s t → WrotePrefix (trace_text (trace_from d code n x)) s t
 rows_alone d code n x s t p = rw (trace_parts (trace_from d code n x)) (part_more _ _ _ _ p)
 
 -- the rows and then the last line are the trace
@@ -39,17 +39,17 @@ trace_whole d code n x y ending s t u c e w =
     (wrote_then (rows_text (rows d code n x)) (end_line (ending_at (after_cycles d code n x))) s t u c.lines (subst P (e ∙ ap ending_at c.last) w))
 
 pub trace_cut : (d : Desc) (code : Code) (n : ℕ) (x y : Machine) (ending : Ending) (s t u : Told) → CameTo (rows_text (rows d code n x)) d code n x y s t → ending ≡ ending_at y
-    → WrotePart (end_line ending) t u → WrotePart (trace_text (trace_from d code n x)) s u
+    → WrotePrefix (end_line ending) t u → WrotePrefix (trace_text (trace_from d code n x)) s u
 trace_cut d code n x y ending s t u c e w =
-    let P : Ending → Type 0 = λ k. WrotePart (end_line k) t u in
+    let P : Ending → Type 0 = λ k. WrotePrefix (end_line k) t u in
     rw (trace_parts (trace_from d code n x))
     (wrote_then_part (rows_text (rows d code n x)) (end_line (ending_at (after_cycles d code n x))) s t u c.lines (subst P (e ∙ ap ending_at c.last) w))
 
 -- ---- The report of a run
 
 -- a part of the output is a part of the report
-pub output_alone : (before : Ram) (d : Desc) (code : Code) (n : ℕ) (x : Machine) (s t : Told) → WrotePart (piece_lines (pieces d code n x)) s t
-    → WrotePart (report_from before d code n x) s t
+pub output_alone : (before : Ram) (d : Desc) (code : Code) (n : ℕ) (x : Machine) (s t : Told) → WrotePrefix (piece_lines (pieces d code n x)) s t
+    → WrotePrefix (report_from before d code n x) s t
 output_alone before d code n x s t p = rw (report_parts before (run_from d code n x) (Some (after_cycles d code n x).cycle)) (part_more _ _ _ _ p)
 
 -- the state that is written is the run's last
@@ -72,9 +72,9 @@ core_report_whole before d code n x y pc regs ram ending s t u c p q m e w =
 
 pub core_report_cut : (before : Ram) (d : Desc) (code : Code) (n : ℕ) (x y : Machine) (pc : ℕ) (regs : List ℕ) (ram : Ram) (ending : Ending) (s t u : Told)
     → CameTo (piece_lines (pieces d code n x)) d code n x y s t → pc ≡ y.pc → regs ≡ y.regs → ram ≡ y.ram → ending ≡ ending_at y
-    → WrotePart (state_text (record { pc = pc; regs = regs; ram = ram }) before ending) t u → WrotePart (report_from before d code n x) s u
+    → WrotePrefix (state_text (record { pc = pc; regs = regs; ram = ram }) before ending) t u → WrotePrefix (report_from before d code n x) s u
 core_report_cut before d code n x y pc regs ram ending s t u c p q m e w =
-    let P : List ℕ → Type 0 = λ text. WrotePart text t u in
+    let P : List ℕ → Type 0 = λ text. WrotePrefix text t u in
     let z = after_cycles d code n x in
     rw (report_parts before (run_from d code n x) (Some z.cycle))
     (wrote_then_part (piece_lines (pieces d code n x)) (state_text (hart_of z) before (ending_at z)) s t u c.lines

@@ -13,7 +13,7 @@ use Rattle.report_text.specs.Report.{piece_text, piece_lines}
 use Rattle.report_text.proofs.Pieces.{piece_lines_more, piece_lines_none}
 use Rattle.trace_text.specs.TraceText.{row_text, rows_text}
 use Rattle.trace_text.proofs.Growing.{rows_text_more, rows_text_none}
-use Rattle.tool_io.specs.Outside.{Told, Wrote, WrotePart}
+use Rattle.tool_io.specs.Outside.{Told, Wrote, WrotePrefix}
 use Rattle.tool_io.proofs.Writing.{WroteUpTo, up_to_more, up_to_part, up_to_end}
 use Rattle.stt_top.specs.inner.Clocking.{CameTo}
 
@@ -31,7 +31,7 @@ module _ (text : ℕ → Machine → List ℕ) (d : Desc) (code : Code) (n : ℕ
   lines_next i y y' line told t u k e l w = record { left = k; lines = up_to_more _ line _ _ _ _ (rw e at l.lines) w }
 
   lines_part : (i : ℕ) (y y' : Machine) (line : List ℕ) (told t u : Told) → text (n - i) y ≡ line ++ text (n - (i + 1)) y'
-      → LinesLeft text d code n i x y told t → WrotePart line t u → WrotePart (text n x) told u
+      → LinesLeft text d code n i x y told t → WrotePrefix line t u → WrotePrefix (text n x) told u
   lines_part i y y' line told t u e l w = up_to_part _ line _ _ _ _ (rw e at l.lines) w
 
   lines_done : (i : ℕ) (y : Machine) (told t : Told) → text (n - i) y ≡ [] → y ≡ after_cycles d code n x → LinesLeft text d code n i x y told t → CameTo (text n x) d code n x y told t
@@ -58,7 +58,7 @@ rows_next d code n i x y y' row piece told t u h e c l w =
     lines_next (row_lines d code) d code n x i y y' (row_text row) told t u (left_next d code n i x y y' row piece h e c l.left) (next_row d code n i y y' row piece h e c) l w
 
 pub rows_part : (d : Desc) (code : Code) (n i : ℕ) (x y y' : Machine) (row : Row) (piece : List ℕ) (told t u : Told) → i < n → y.end ≡ None
-    → record { machine = y'; row = row; piece = piece } ≡ cycle d code y → RowsLeft d code n i x y told t → WrotePart (row_text row) t u → WrotePart (rows_text (rows d code n x)) told u
+    → record { machine = y'; row = row; piece = piece } ≡ cycle d code y → RowsLeft d code n i x y told t → WrotePrefix (row_text row) t u → WrotePrefix (rows_text (rows d code n x)) told u
 rows_part d code n i x y y' row piece told t u h e c l w =
     lines_part (row_lines d code) d code n x i y y' (row_text row) told t u (next_row d code n i y y' row piece h e c) l w
 
@@ -101,8 +101,8 @@ pieces_next d code n i x y y' row piece told t u h e c l w =
     lines_next (output_lines d code) d code n x i y y' (piece_text piece) told t u (left_next d code n i x y y' row piece h e c l.left) (next_piece d code n i y y' row piece h e c) l w
 
 pub pieces_part : (d : Desc) (code : Code) (n i : ℕ) (x y y' : Machine) (row : Row) (piece : List ℕ) (told t u : Told) → i < n → y.end ≡ None
-    → record { machine = y'; row = row; piece = piece } ≡ cycle d code y → PiecesLeft d code n i x y told t → WrotePart (piece_text piece) t u
-    → WrotePart (piece_lines (pieces d code n x)) told u
+    → record { machine = y'; row = row; piece = piece } ≡ cycle d code y → PiecesLeft d code n i x y told t → WrotePrefix (piece_text piece) t u
+    → WrotePrefix (piece_lines (pieces d code n x)) told u
 pieces_part d code n i x y y' row piece told t u h e c l w =
     lines_part (output_lines d code) d code n x i y y' (piece_text piece) told t u (next_piece d code n i y y' row piece h e c) l w
 

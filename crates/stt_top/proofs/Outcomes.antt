@@ -9,7 +9,7 @@ use Rattle.pair_run.specs.inner.Images.{Images}
 use Rattle.run_inputs.specs.Loaded.{loaded}
 use Rattle.pair_run.specs.declared.answer.PairAnswer.{PairAnswer}
 use Rattle.pair_run.specs.Comparison.{comparison}
-use Rattle.tool_io.specs.Outside.{Told, Shelf, Wrote, WrotePart}
+use Rattle.tool_io.specs.Outside.{Told, Shelf, Wrote, WrotePrefix}
 use Rattle.trace_text.specs.TraceText.{trace_text}
 use Rattle.window_model.specs.State.{Machine}
 use Rattle.window_model.specs.Cycle.{trace_from}
@@ -38,15 +38,15 @@ at_start f image desc d code x s =
 
 -- the part of a trace that a failing sink has taken is one of the task's trace; below, of its report
 pub trace_part : (image : ImageText) (desc d : Desc) (code : Code) (x : Machine) (n : ℕ) (out out' : Told) → Starts image desc d code x
-    → WrotePart (trace_text (trace_from d code n x)) out out' → Performs (trace_task desc image n) out out' (Err Write)
+    → WrotePrefix (trace_text (trace_from d code n x)) out out' → Performs (trace_task desc image n) out out' (Err Write)
 trace_part image desc d code x n out out' s w =
-    let P : List ℕ → Type 0 = λ t. WrotePart t out out' in
+    let P : List ℕ → Type 0 = λ t. WrotePrefix t out out' in
     (trace_work desc image n, refl, subst P (at_start (λ k c y. trace_text (trace_from k c n y)) image desc d code x s) w)
 
 pub report_part : (image : ImageText) (desc d : Desc) (code : Code) (x : Machine) (before : Ram) (n : ℕ) (out out' : Told) → Starts image desc d code x → before ≡ image.ram
-    → WrotePart (report_from before d code n x) out out' → Performs (report_task desc image n) out out' (Err Write)
+    → WrotePrefix (report_from before d code n x) out out' → Performs (report_task desc image n) out out' (Err Write)
 report_part image desc d code x before n out out' s b w =
-    let P : List ℕ → Type 0 = λ t. WrotePart t out out' in
+    let P : List ℕ → Type 0 = λ t. WrotePrefix t out out' in
     let is = ap (λ m. report_from m d code n x) b ∙ at_start (λ k c y. report_from image.ram k c n y) image desc d code x s in
     (run_work desc image n, refl, subst P is w)
 
@@ -59,7 +59,7 @@ pub compared : (d : Desc) (one two : ImageText) (n : ℕ) (answer : PairAnswer) 
     → ended ≡ compared_of answer.first → Performs (pair_task d one two n) out out' (Ok ended)
 compared d one two n answer ended out out' a w e = (pair_work answer, (answer, a, refl), w, e)
 
-pub compared_part : (d : Desc) (one two : ImageText) (n : ℕ) (answer : PairAnswer) (out out' : Told) → Answers d one two n answer → WrotePart (comparison answer) out out'
+pub compared_part : (d : Desc) (one two : ImageText) (n : ℕ) (answer : PairAnswer) (out out' : Told) → Answers d one two n answer → WrotePrefix (comparison answer) out out'
     → Performs (pair_task d one two n) out out' (Err Write)
 compared_part d one two n answer out out' a w = (pair_work answer, (answer, a, refl), w)
 

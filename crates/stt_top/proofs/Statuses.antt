@@ -4,7 +4,7 @@ use Rattle.std.proofs.Common.{◌≡◌, ◌⊎◌, ℕ, List, [], Option, Some,
 use Rattle.elf_loader.specs.Image.{ImageText}
 use Rattle.elf_loader.specs.declared.faults.ElfFault.{ElfFault}
 use Rattle.machine_desc.specs.declared.Desc.{Desc}
-use Rattle.tool_io.specs.Outside.{Shelf, Told, Wrote, WrotePart, SameCounts, NameFailed, Rose}
+use Rattle.tool_io.specs.Outside.{Shelf, Told, Wrote, WrotePrefix, SameCounts, NameFailed, Rose}
 use Rattle.tool_words.specs.Words.{CommandText, command_of}
 use Rattle.run_inputs.specs.declared.refusal.Which.{Which}
 use Rattle.stt_top.specs.declared.outcome.Ended.{Ended}
@@ -115,7 +115,7 @@ module _ (words : List (List ℕ)) (old new : World) where
   six (Err _) e h = absurd (omega arith)
 
   seven : (r : Result Ended Refusal) → Ends words old new r → status_of r ≡ 7
-      → Asks words (λ command. (done : Done command old new) × WrotePart done.work.text old.out new.out)
+      → Asks words (λ command. (done : Done command old new) × WrotePrefix done.work.text old.out new.out)
   seven (Ok ended) e h = absurd (other_status ended 7 (λ k. omega arith) h)
   seven (Err Write) e h = e
   seven (Err _) e h = absurd (omega arith)
@@ -171,8 +171,8 @@ module _ (words : List (List ℕ)) (old new : World) where
     whole : (ended : Ended) → Ends words old new (Ok ended) → (done : Done command old new) × Wrote done.work.text old.out new.out × (ended ≡ done.work.ended)
     whole ended a = of_command words (λ c. (done : Done c old new) × Wrote done.work.text old.out new.out × (ended ≡ done.work.ended)) command k a
 
-    cut : Ends words old new (Err Write) → (done : Done command old new) × WrotePart done.work.text old.out new.out
-    cut a = of_command words (λ c. (done : Done c old new) × WrotePart done.work.text old.out new.out) command k a
+    cut : Ends words old new (Err Write) → (done : Done command old new) × WrotePrefix done.work.text old.out new.out
+    cut a = of_command words (λ c. (done : Done c old new) × WrotePrefix done.work.text old.out new.out) command k a
 
     its_refusal : (e : Refusal) → Asks words (λ c. CommandRefused c old.files new.files e) → CommandRefused command old.files new.files e
     its_refusal e a = of_command words (λ c. CommandRefused c old.files new.files e) command k a

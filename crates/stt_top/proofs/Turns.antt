@@ -13,7 +13,7 @@ use Rattle.isa_step.proofs.Runs as runs
 use Rattle.isa_step.proofs.Runs.{Rest, run_goes, run_exits, run_traps}
 use Rattle.report_text.specs.Report.{piece_text, piece_lines, report_text, state_text}
 use Rattle.report_text.proofs.Pieces.{piece_lines_more, piece_lines_none, report_parts}
-use Rattle.tool_io.specs.Outside.{Told, Wrote, WrotePart}
+use Rattle.tool_io.specs.Outside.{Told, Wrote, WrotePrefix}
 use Rattle.tool_io.proofs.Writing.{WroteUpTo, up_to_start, up_to_more, up_to_part, up_to_end, part_more, wrote_then, wrote_then_part}
 use Rattle.stt_top.specs.inner.Running.{RanAs}
 use Rattle.isa_step.proofs.Shape.{run_keeps}
@@ -43,7 +43,7 @@ at_next code s s' p whole n i told t u h e q w = record {
 }
 
 pub at_part : (code : Code) (s s' : Hart) (p : List ℕ) (whole : Run) (n i : ℕ) (told t u : Told) → i < n → record { hart = s'; piece = p; stepped = Next } ≡ outcome s (isa_step code s)
-    → Turned whole (isa code s (n - i)) i told t → WrotePart (piece_text p) t u → WrotePart (piece_lines whole.pieces) told u
+    → Turned whole (isa code s (n - i)) i told t → WrotePrefix (piece_text p) t u → WrotePrefix (piece_lines whole.pieces) told u
 at_part code s s' p whole n i told t u h e q w =
     up_to_part _ (piece_text p) _ _ _ _ (rw (left_goes code s s' p n i h e) at q.lines) w
 
@@ -81,7 +81,7 @@ at_end code s whole n i told t a b q =
     q (runs.at_end code s whole n i a b q.rest_is)
 
 -- a part of the output is a part of the report
-pub output_part : (before : Ram) (run : Run) (s t : Told) → WrotePart (piece_lines run.pieces) s t → WrotePart (report_text before run None) s t
+pub output_part : (before : Ram) (run : Run) (s t : Told) → WrotePrefix (piece_lines run.pieces) s t → WrotePrefix (report_text before run None) s t
 output_part before run s t p = rw (report_parts before run None) (part_more _ _ _ _ p)
 
 -- the state of these parts
@@ -113,10 +113,10 @@ report_whole before run hart taken ended pc regs ram s t u r p q m w =
     (wrote_then (piece_lines run.pieces) (state_text run.last before (ending_of run.ended run.steps)) s t u r.lines (subst P (state_is before run hart taken ended pc regs ram s t r p q m) w))
 
 pub report_part : (before : Ram) (run : Run) (hart : Hart) (taken : ℕ) (ended : Option End) (pc : ℕ) (regs : List ℕ) (ram : Ram) (s t u : Told) → RanAs run hart taken ended s t
-    → pc ≡ hart.pc → regs ≡ hart.regs → ram ≡ hart.ram → WrotePart (state_text (hart_of pc regs ram) before (ending_of ended taken)) t u
-    → WrotePart (report_text before run None) s u
+    → pc ≡ hart.pc → regs ≡ hart.regs → ram ≡ hart.ram → WrotePrefix (state_text (hart_of pc regs ram) before (ending_of ended taken)) t u
+    → WrotePrefix (report_text before run None) s u
 report_part before run hart taken ended pc regs ram s t u r p q m w =
-    let P : List ℕ → Type 0 = λ x. WrotePart x t u in
+    let P : List ℕ → Type 0 = λ x. WrotePrefix x t u in
     rw (report_parts before run None)
     (wrote_then_part (piece_lines run.pieces) (state_text run.last before (ending_of run.ended run.steps)) s t u r.lines (subst P (state_is before run hart taken ended pc regs ram s t r p q m) w))
 

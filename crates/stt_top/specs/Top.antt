@@ -4,7 +4,7 @@ use Rattle.std.specs.Prelude.{◌≡◌, ◌≢◌, ◌⊎◌, ℕ, List, [], �
 use Rattle.elf_loader.specs.Image.{ImageText}
 use Rattle.machine_desc.specs.declared.Desc.{Desc}
 use Rattle.run_inputs.specs.Note.{Notes}
-use Rattle.tool_io.specs.Outside.{Shelf, Told, Wrote, WrotePart, SameCounts, NameFailed, Rose}
+use Rattle.tool_io.specs.Outside.{Shelf, Told, Wrote, WrotePrefix, SameCounts, NameFailed, Rose}
 use Rattle.tool_words.specs.Words.{CommandText, command_of, isa_text, run_text, trace_text, bench_text, pair_text}
 use Rattle.run_inputs.specs.declared.refusal.Which.{Which}
 use Rattle.stt_top.specs.declared.outcome.Ended.{Ended}
@@ -60,7 +60,7 @@ Asks words P = (command : CommandText) × (command_of words ≡ Some command) ×
 -- command, there are some and there was no memory, or what the command reads is refused, and nothing is written
 abbrev pub Ends : List (List ℕ) → World → World → Result Ended Refusal → Type 0
 Ends words old new (Ok ended) = Asks words (λ command. (done : Done command old new) × Wrote done.work.text old.out new.out × (ended ≡ done.work.ended))
-Ends words old new (Err Write) = Asks words (λ command. (done : Done command old new) × WrotePart done.work.text old.out new.out)
+Ends words old new (Err Write) = Asks words (λ command. (done : Done command old new) × WrotePrefix done.work.text old.out new.out)
 Ends words old new (Err Words) = (command_of words ≡ None) × SameCounts old.files new.files × (new.out ≡ old.out)
 Ends words old new (Err Memory) = (words ≢ []) × SameCounts old.files new.files × (new.out ≡ old.out)
 Ends words old new (Err refusal) = Asks words (λ command. CommandRefused command old.files new.files refusal) × (new.out ≡ old.out)
@@ -112,7 +112,7 @@ pub record Statuses (words : List (List ℕ)) (old new : World) (status : ℕ) :
       ⊎ ((which : Which) × ImageRefusedAt command old.files (place_of which) (λ desc from. FailsToRead old.files new.files from)))
   pub not_six : status ≢ 6 → SameCounts old.files new.files
   -- 7 only where the count of the sink rose, with a part of the text written; any other status leaves that count
-  pub seven : status ≡ 7 → Asks words (λ command. (done : Done command old new) × WrotePart done.work.text old.out new.out)
+  pub seven : status ≡ 7 → Asks words (λ command. (done : Done command old new) × WrotePrefix done.work.text old.out new.out)
   pub not_seven : status ≢ 7 → new.out.faults ≡ old.out.faults
   -- any status but 0, 1, 3 and 7 writes nothing
   pub nothing : ¬ IsRun status → status ≢ 7 → new.out ≡ old.out

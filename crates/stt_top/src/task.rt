@@ -10,7 +10,8 @@ ghost use Rattle.stt_top.specs.inner.Top.{ReadsTask};
 use elf_loader::Image;
 use machine_desc::Desc;
 use run_inputs::{
-    Described, Refusal, Source, Which, read_described, read_description, read_image, read_named,
+    Described, ImageSource, Refusal, Which, read_described, read_description, read_image,
+    read_named,
 };
 use std::alloc::Global;
 use tool_io::Files;
@@ -58,8 +59,8 @@ fn read_pair<F: Files>(
     ensures fits { IfOk result (λ t. InMemory (task_text t)) }
     ensures stays { SameContents (F.shelf files.old) (F.shelf files.new) }
 {
-    let first = Source::File(image);
-    let second = Source::File(image2);
+    let first = ImageSource::File(image);
+    let second = ImageSource::File(image2);
     let desc = read_description(alloc, description, files)?;
     let one = read_image(alloc, first, Which::First, Some(desc), files)?;
     let two = read_image(alloc, second, Which::Second, Some(desc), files)?;
@@ -85,7 +86,7 @@ fn read_isa<F: Files>(
     ensures stays { SameContents (F.shelf files.old) (F.shelf files.new) }
 {
     let desc = read_named(alloc, description, files)?;
-    let image = read_image(alloc, Source::File(image), Which::First, desc, files)?;
+    let image = read_image(alloc, ImageSource::File(image), Which::First, desc, files)?;
     Ok(Task::Isa { image, steps })
 }
 
@@ -111,7 +112,7 @@ pub(crate) fn read_task<F: Files>(
             image,
             cycles,
         } => {
-            let read = read_described(alloc, description, Source::File(image), files)?;
+            let read = read_described(alloc, description, ImageSource::File(image), files)?;
             Ok(Task::Report { read, cycles })
         }
         Command::Trace {
@@ -119,7 +120,7 @@ pub(crate) fn read_task<F: Files>(
             image,
             cycles,
         } => {
-            let read = read_described(alloc, description, Source::File(image), files)?;
+            let read = read_described(alloc, description, ImageSource::File(image), files)?;
             Ok(Task::Trace { read, cycles })
         }
         Command::Bench {
@@ -128,7 +129,7 @@ pub(crate) fn read_task<F: Files>(
             blocks,
             cycles,
         } => {
-            let read = read_described(alloc, description, Source::Seed(seed, blocks), files)?;
+            let read = read_described(alloc, description, ImageSource::Seed(seed, blocks), files)?;
             Ok(Task::Report { read, cycles })
         }
         Command::Pair {

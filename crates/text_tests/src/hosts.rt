@@ -8,7 +8,7 @@ use tool_io::{Files, Got, ReadFail, RealFiles};
 
 // A file with so many bytes left, of which a read gives at most `step`, and which fails after `good` reads.
 #[derive(Clone, Copy)]
-struct Source {
+struct OpenedFile {
     left: usize,
     step: usize,
     good: usize,
@@ -18,7 +18,7 @@ fn refused<T>() -> io::Result<T> {
     Err(io::Error::from(ErrorKind::Unsupported))
 }
 
-impl Read for Source {
+impl Read for OpenedFile {
     fn read(&mut self, buf: &mut [u8]) -> io::Result<usize> {
         if self.good == 0 {
             return Err(io::Error::from(ErrorKind::Other));
@@ -30,7 +30,7 @@ impl Read for Source {
     }
 }
 
-impl Write for Source {
+impl Write for OpenedFile {
     fn write(&mut self, _buf: &[u8]) -> io::Result<usize> {
         Err(io::Error::from(ErrorKind::Unsupported))
     }
@@ -40,13 +40,13 @@ impl Write for Source {
     }
 }
 
-impl Seek for Source {
+impl Seek for OpenedFile {
     fn seek(&mut self, _to: SeekFrom) -> io::Result<u64> {
         refused()
     }
 }
 
-impl OpenFile for Source {
+impl OpenFile for OpenedFile {
     fn metadata(&self) -> io::Result<Metadata> {
         refused()
     }
@@ -67,19 +67,19 @@ impl OpenFile for Source {
 // A host that has this file under every name, and does nothing but open it.
 #[derive(Drop)]
 struct Host {
-    file: Source,
+    file: OpenedFile,
 }
 
 impl rt::Files for Host {
-    type File = Source;
+    type File = OpenedFile;
 
-    type Dir = Source;
+    type Dir = OpenedFile;
 
-    fn open_file(&self, _how: &OpenOptions, _path: &str) -> io::Result<Source> {
+    fn open_file(&self, _how: &OpenOptions, _path: &str) -> io::Result<OpenedFile> {
         Ok(self.file)
     }
 
-    fn open_dir(&self, _path: &str) -> io::Result<Source> {
+    fn open_dir(&self, _path: &str) -> io::Result<OpenedFile> {
         refused()
     }
 
@@ -154,7 +154,7 @@ const READS: [(usize, usize, usize, usize, Result<Option<usize>, ReadFail>); 11]
 fn files_of_few_bytes_at_a_time(rt: HostRuntime) {
     for &(left, step, good, max, wanted) in &READS {
         let host = Host {
-            file: Source { left, step, good },
+            file: OpenedFile { left, step, good },
         };
         let answer = read(&host, rt.alloc(), "name", max);
         assert_same(

@@ -4,7 +4,7 @@ use Rattle.std.proofs.Math.Seq.{take-append-add}
 use Rattle.std.proofs.Common.{Result, IsErr}
 use Rattle.std.proofs.lemmas.Result.{MatchResult-weaker, MatchResult-from_err}
 use Rattle.tool_io.specs.declared.Failed.{Failed}
-use Rattle.tool_io.specs.Outside.{Told, Wrote, WrotePart, Writes, Rose}
+use Rattle.tool_io.specs.Outside.{Told, Wrote, WrotePrefix, Writes, Rose}
 
 -- two texts that are appended one after the other are appended as one
 pub appended_twice : (o : Option (List ℕ)) (a b : List ℕ) → option_map (λ w. w ++ b) (option_map (λ w. w ++ a) o) ≡ option_map (λ w. w ++ (a ++ b)) o
@@ -27,7 +27,7 @@ wrote_then a b s t u p q = record {
 }
 
 -- a text, and then a part of another
-pub wrote_then_part : (a b : List ℕ) (s t u : Told) → Wrote a s t → WrotePart b t u → WrotePart (a ++ b) s u
+pub wrote_then_part : (a b : List ℕ) (s t u : Told) → Wrote a s t → WrotePrefix b t u → WrotePrefix (a ++ b) s u
 wrote_then_part a b s t u p q = record {
   sent = length a + q.sent;
   appended =
@@ -44,7 +44,7 @@ take-longer (suc n) [] b = (0, refl)
 take-longer (suc n) (x ∷ a) b = let k = take-longer n a b in (suc k.0, ap (λ r. x ∷ r) k.1)
 
 -- a part of a text is a part of a longer one
-pub part_more : (a b : List ℕ) (s t : Told) → WrotePart a s t → WrotePart (a ++ b) s t
+pub part_more : (a b : List ℕ) (s t : Told) → WrotePrefix a s t → WrotePrefix (a ++ b) s t
 part_more a b s t q =
     let k = take-longer q.sent a b in
     record { sent = k.0; appended = rw k.1 q.appended; rose = q.rose; later = q.later }
@@ -68,10 +68,10 @@ up_to_more all a rest s t u p q = record {
 }
 
 -- where the next piece is written in part, the text is
-pub up_to_part : (all a rest : List ℕ) (s t u : Told) → WroteUpTo all (a ++ rest) s t → WrotePart a t u → WrotePart all s u
+pub up_to_part : (all a rest : List ℕ) (s t u : Told) → WroteUpTo all (a ++ rest) s t → WrotePrefix a t u → WrotePrefix all s u
 up_to_part all a rest s t u p q =
-    let r : WrotePart ((p.text ++ a) ++ rest) s u = part_more _ rest _ _ (wrote_then_part p.text a s t u p.wrote q) in
-    let P : List ℕ → Type 0 = λ x. WrotePart x s u in
+    let r : WrotePrefix ((p.text ++ a) ++ rest) s u = part_more _ rest _ _ (wrote_then_part p.text a s t u p.wrote q) in
+    let P : List ℕ → Type 0 = λ x. WrotePrefix x s u in
     subst P (append_assoc p.text a rest ∙ p.whole) r
 
 -- once nothing of the text is left, all of it is written
@@ -86,5 +86,5 @@ pub writes_then : (a b : List ℕ) (s t u : Told) (r : Result (Unit {0}) Failed)
 writes_then a b s t u r p q = MatchResult-weaker r q (λ _ w. wrote_then a b s t u p w) (λ _ w. wrote_then_part a b s t u p w)
 
 -- a call that hands on a fault after a part was written
-pub writes_part : (text : List ℕ) (s u : Told) (r : Result (Unit {0}) Failed) → IsErr r → WrotePart text s u → Writes text s u r
+pub writes_part : (text : List ℕ) (s u : Told) (r : Result (Unit {0}) Failed) → IsErr r → WrotePrefix text s u → Writes text s u r
 writes_part text s u r e p = MatchResult-from_err r _ _ e (λ _. p)

@@ -10,8 +10,8 @@ use Rattle.machine_desc.specs.declared.Desc.{Desc}
 use Rattle.run_inputs.specs.Loaded.{loaded}
 use Rattle.tool_io.specs.declared.Got.TheVariants.{TooLong}
 use Rattle.tool_io.specs.Outside.{Shelf, HasToCopy, SameCounts, NameFailed}
-use Rattle.run_inputs.specs.declared.sources.Source.{Source}
-use Rattle.run_inputs.specs.declared.sources.Source.TheVariants.{File, Seed}
+use Rattle.run_inputs.specs.declared.sources.ImageSource.{ImageSource}
+use Rattle.run_inputs.specs.declared.sources.ImageSource.TheVariants.{File, Seed}
 use Rattle.run_inputs.specs.declared.reading.Unread.{Unread}
 use Rattle.run_inputs.specs.declared.reading.Unread.TheVariants.{Failed as ReadFailed, TooLong as TooMany, NoMemory}
 use Rattle.run_inputs.specs.declared.refusal.Which.{Which}
@@ -35,9 +35,9 @@ TextRefused text _ = ⊥
 abbrev pub ReadsDesc : Option (List ℕ) → Shelf → Shelf → Result (Option Desc) Refusal → Type 0
 ReadsDesc name old new result = MatchResult result (λ desc. HasDesc (MayGive old) name desc × SameCounts old new) (NamedRefused name old new)
 
-abbrev pub source_of : Source → ImageFrom
-source_of (File name) = from_file name.now
-source_of (Seed seed blocks) = from_seed seed blocks.count
+abbrev pub image_from : ImageSource → ImageFrom
+image_from (File name) = from_file name.now
+image_from (Seed seed blocks) = from_seed seed blocks.count
 
 -- the refusal of a fault of loading: want of memory is one of its own
 abbrev pub refusal_of : Which → ElfFault → Refusal

@@ -6,7 +6,7 @@ use Rattle.window_model.specs.State.{Machine}
 use Rattle.window_model.specs.Cycle.{rows, pieces, after_cycles, trace_from}
 use Rattle.report_text.specs.Report.{piece_lines}
 use Rattle.trace_text.specs.TraceText.{rows_text, trace_text}
-use Rattle.tool_io.specs.Outside.{Told, Wrote, WrotePart}
+use Rattle.tool_io.specs.Outside.{Told, Wrote, WrotePrefix}
 use Rattle.tool_io.specs.declared.Failed.{Failed}
 use Rattle.stt_top.specs.declared.outcome.Ended.{Ended}
 use Rattle.stt_top.specs.inner.Running.{Tells}
@@ -20,12 +20,12 @@ pub record CameTo (text : List ℕ) (d : Desc) (code : Code) (n : ℕ) (x y : Ma
 -- the lines of the rows of at most n cycles are written, whole and with the core at their end, or in part
 abbrev pub WritesRows : Desc → Code → ℕ → Machine → Machine → Told → Told → Result (Unit {0}) Failed → Type 0
 WritesRows d code n x y old new result =
-    MatchResult result (λ _. CameTo (rows_text (rows d code n x)) d code n x y old new) (λ _. WrotePart (rows_text (rows d code n x)) old new)
+    MatchResult result (λ _. CameTo (rows_text (rows d code n x)) d code n x y old new) (λ _. WrotePrefix (rows_text (rows d code n x)) old new)
 
 -- the lines of the output of at most n cycles are written likewise
 abbrev pub WritesPieces : Desc → Code → ℕ → Machine → Machine → Told → Told → Result (Unit {0}) Failed → Type 0
 WritesPieces d code n x y old new result =
-    MatchResult result (λ _. CameTo (piece_lines (pieces d code n x)) d code n x y old new) (λ _. WrotePart (piece_lines (pieces d code n x)) old new)
+    MatchResult result (λ _. CameTo (piece_lines (pieces d code n x)) d code n x y old new) (λ _. WrotePrefix (piece_lines (pieces d code n x)) old new)
 
 -- the trace of a run of at most n cycles from a state is written, whole and with how the run ended, or in part
 abbrev pub TellsTrace : Desc → Code → ℕ → Machine → Told → Told → Result Ended Failed → Type 0

@@ -10,7 +10,7 @@ use Rattle.isa_step.specs.declared.stepped.Ran.{Ran}
 use Rattle.machine_desc.specs.declared.Desc.{Desc}
 use Rattle.window_model.specs.State.{Machine}
 use Rattle.report_text.specs.Report.{piece_lines, report_text}
-use Rattle.tool_io.specs.Outside.{Told, Wrote, WrotePart}
+use Rattle.tool_io.specs.Outside.{Told, Wrote, WrotePrefix}
 use Rattle.tool_io.specs.declared.Failed.{Failed}
 use Rattle.stt_top.specs.declared.outcome.Ended.{Ended}
 use Rattle.stt_top.specs.Outcome.{ended_of}
@@ -38,12 +38,12 @@ pub record RanAs (run : Run) (hart : Hart) (taken : ℕ) (ended : Option End) (o
 -- the lines of a run's output are written, whole and with the state at its end, or in part
 abbrev pub WritesOutput : Run → Hart → Told → Told → Result Ran Failed → Type 0
 WritesOutput run hart old new result =
-    MatchResult result (λ ran. RanAs run hart ran.taken ran.ended old new) (λ _. WrotePart (piece_lines run.pieces) old new)
+    MatchResult result (λ ran. RanAs run hart ran.taken ran.ended old new) (λ _. WrotePrefix (piece_lines run.pieces) old new)
 
 -- the text of a run with this end is written, whole and with how the run ended, or in part
 abbrev pub Tells : List ℕ → Option End → Told → Told → Result Ended Failed → Type 0
 Tells text end old new result =
-    MatchResult result (λ ended. Wrote text old new × (ended ≡ ended_of end)) (λ _. WrotePart text old new)
+    MatchResult result (λ ended. Wrote text old new × (ended ≡ ended_of end)) (λ _. WrotePrefix text old new)
 
 -- the report of a run of the instruction set, which counts no cycles, is written, whole and with how the run ended, or
 -- in part

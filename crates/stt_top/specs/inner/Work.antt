@@ -2,7 +2,7 @@
 use Rattle.std.specs.Prelude.{◌≡◌, Result, Ok, Err}
 use Rattle.run_inputs.specs.Loaded.{loaded}
 use Rattle.run_inputs.specs.Loaded.{Fits}
-use Rattle.tool_io.specs.Outside.{Told, Wrote, WrotePart}
+use Rattle.tool_io.specs.Outside.{Told, Wrote, WrotePrefix}
 use Rattle.stt_top.specs.declared.outcome.Ended.{Ended}
 use Rattle.run_inputs.specs.declared.refusal.Refusal.{Refusal}
 use Rattle.run_inputs.specs.declared.refusal.Refusal.TheVariants.{Write, Memory}
@@ -28,6 +28,6 @@ InMemory (pair_task d one two cycles) = Fits d one.ram × Fits d two.ram
 -- wanting
 abbrev pub Performs : TaskText → Told → Told → Result Ended Refusal → Type 0
 Performs task out out' (Ok ended) = (work : Work) × ComesTo task work × Wrote work.text out out' × (ended ≡ work.ended)
-Performs task out out' (Err Write) = (work : Work) × ComesTo task work × WrotePart work.text out out'
+Performs task out out' (Err Write) = (work : Work) × ComesTo task work × WrotePrefix work.text out out'
 Performs task out out' (Err Memory) = out' ≡ out
 Performs task out out' (Err refusal) = ⊥
