@@ -9,29 +9,35 @@ ghost use Rattle.secrets_top.specs.Top.{EndsWith, Statuses};
 ghost use Rattle.secrets_top.specs.Promises.{Promises};
 
 use crate::top::secrets_top;
-use run_inputs::{Refusal, refuse};
+use run_inputs::{Program, over_read};
 use std::alloc::Global;
 use std::process::ExitCode;
 use tool_io::{Files, Sink};
-use tool_words::{Refused, lend_words};
+use tool_words::Refused;
 
-// Does what the words ask for.
-fn over_words<F: Files, O: Sink, N: Sink>(
-    alloc: Global,
-    words: &[String],
-    files: &mut F,
-    out: &mut O,
-    note: &mut N,
-) -> u8
-    ensures ends { EndsWith (map string_bytes words.now)
-        (world (F.shelf files.old) (O.told out.old)) (world (F.shelf files.new) (O.told out.new))
-        (N.told note.old) (N.told note.new) result }
-    ensures stays { SameContents (F.shelf files.old) (F.shelf files.new) }
-{
-    match lend_words(alloc, words) {
-        Ok(lent) => secrets_top(alloc, lent.as_slice(), files, out, note),
-        Err(refused) => refuse(&Refusal::from(refused), note),
+/// The judge of a run, as a program over its words.
+struct Judge;
+
+impl Program for Judge {
+    ghost use Rattle.std.specs.Prelude.{Err};
+    ghost use Rattle.run_inputs.specs.declared.refusal.Refusal.TheVariants.{Memory};
+    ghost use Rattle.secrets_top.specs.declared.refusal.Unjudged.TheVariants.{Refused as Unread};
+    ghost use Rattle.secrets_top.specs.Top.{EndsWith};
+
+    ghost ends = { EndsWith };
+
+    fn top<F: Files, O: Sink, N: Sink>(
+        alloc: Global,
+        words: &[&str],
+        files: &mut F,
+        out: &mut O,
+        note: &mut N,
+    ) -> u8 {
+        secrets_top(alloc, words, files, out, note)
     }
+
+    ghost may_lack_memory = { λ words old new note note' status some refused told.
+        (Err (Unread Memory), refused.status_is, (some, refused.counts, refused.out), told) };
 }
 
 /// Does all that the program does, by its words after its name as they were read or the reason why they weren't. Where
@@ -56,8 +62,5 @@ pub fn secrets_program<F: Files, O: Sink, N: Sink>(
         × Tells (words_refused e) (N.told note.old) (N.told note.new)) }
     ensures stays { SameContents (F.shelf files.old) (F.shelf files.new) }
 {
-    match words {
-        Ok(words) => ExitCode::from(over_words(alloc, words.as_slice(), files, out, note)),
-        Err(refused) => ExitCode::from(refuse(&Refusal::from(refused), note)),
-    }
+    over_read::<Judge, F, O, N>(alloc, words, files, out, note)
 }

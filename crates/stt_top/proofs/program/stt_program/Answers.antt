@@ -1,32 +1,10 @@
--- The program over words that were read ends as it does over the words.
-use Rattle.std.proofs.Common.{map, string_bytes, ap, sym}
-use Rattle.std.specs.Process.{exit_status}
-use Rattle.run_inputs.specs.Told.{world}
-use Rattle.stt_top.proofs.OverWords.{at_ok, same_end, statuses_of, promises_of}
+-- What the statuses say, and what is promised, follows from how the program ends.
+use Rattle.stt_top.proofs.OverWords.{statuses_of, promises_of}
+use Rattle.run_inputs.proofs.OverWords.{if_ok}
 use Rattle.stt_top.proofs.program.stt_program.Goals as goal
 
-pub returns-in-Ok-clause-ends : goal.returns-in-Ok-clause-ends
-returns-in-Ok-clause-ends g c =
-    let old = world (g.F.Files.shelf c.args.files.now) (g.O.Sink.told c.args.out.now) in
-    let new = world (g.F.Files.shelf c.over_words.new.files) (g.O.Sink.told c.over_words.new.out) in
-    at_ok _ _ _ c.in-Ok.is
-    (same_end (map string_bytes c.as_slice.result.now) (map string_bytes c.in-Ok.words.items) old new (g.N.Sink.told c.args.note.now) (g.N.Sink.told c.over_words.new.note)
-    c.over_words.result (exit_status c.from.result) (ap (map string_bytes) c.as_slice.ensures.value) (sym c.from.ensures) c.over_words.ensures.ends)
+pub returns-clause-statuses : goal.returns-clause-statuses
+returns-clause-statuses g c = if_ok c.args.words _ _ (λ w e. statuses_of _ _ _ _ _ _ e) c.over_read.ensures.ends
 
-pub returns-in-Ok-clause-statuses : goal.returns-in-Ok-clause-statuses
-returns-in-Ok-clause-statuses g c =
-    let old = world (g.F.Files.shelf c.args.files.now) (g.O.Sink.told c.args.out.now) in
-    let new = world (g.F.Files.shelf c.over_words.new.files) (g.O.Sink.told c.over_words.new.out) in
-    at_ok _ _ _ c.in-Ok.is
-    (statuses_of (map string_bytes c.in-Ok.words.items) old new (g.N.Sink.told c.args.note.now) (g.N.Sink.told c.over_words.new.note) (exit_status c.from.result)
-    (same_end (map string_bytes c.as_slice.result.now) (map string_bytes c.in-Ok.words.items) old new (g.N.Sink.told c.args.note.now) (g.N.Sink.told c.over_words.new.note)
-    c.over_words.result (exit_status c.from.result) (ap (map string_bytes) c.as_slice.ensures.value) (sym c.from.ensures) c.over_words.ensures.ends))
-
-pub returns-in-Ok-clause-promises : goal.returns-in-Ok-clause-promises
-returns-in-Ok-clause-promises g c =
-    let old = world (g.F.Files.shelf c.args.files.now) (g.O.Sink.told c.args.out.now) in
-    let new = world (g.F.Files.shelf c.over_words.new.files) (g.O.Sink.told c.over_words.new.out) in
-    at_ok _ _ _ c.in-Ok.is
-    (promises_of (map string_bytes c.in-Ok.words.items) old new (g.N.Sink.told c.args.note.now) (g.N.Sink.told c.over_words.new.note) (exit_status c.from.result)
-    (same_end (map string_bytes c.as_slice.result.now) (map string_bytes c.in-Ok.words.items) old new (g.N.Sink.told c.args.note.now) (g.N.Sink.told c.over_words.new.note)
-    c.over_words.result (exit_status c.from.result) (ap (map string_bytes) c.as_slice.ensures.value) (sym c.from.ensures) c.over_words.ensures.ends))
+pub returns-clause-promises : goal.returns-clause-promises
+returns-clause-promises g c = if_ok c.args.words _ _ (λ w e. promises_of _ _ _ _ _ _ e) c.over_read.ensures.ends
