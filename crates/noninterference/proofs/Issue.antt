@@ -15,7 +15,7 @@ use Rattle.window_model.specs.State.{Machine, After}
 use Rattle.window_model.specs.declared.Divider.{Divider}
 use Rattle.window_model.specs.Order.{Place, each, each_from, first, is_load, is_store}
 use Rattle.window_model.specs.Around.{Around, around}
-use Rattle.window_model.specs.Access.{Access, Faults, Forwards, Looks, Waits, Line, Hits, Joins, Takes, cache_after, due_of, latency_of, latest, look_events, misses_after, second_after}
+use Rattle.window_model.specs.Access.{Access, Faults, Forwards, Looks, Waits, cache_after, latest, look_events, misses_after, second_after}
 use Rattle.window_model.specs.MayIssue.{effect_of, may_issue_as}
 use Rattle.window_model.specs.Ports.{Port, AddressPort, DataPort, DivPort, LoadPort, is_granted, may_at, port_of}
 use Rattle.window_model.specs.Issue.{issue, issue_entry, issue_whole, begin_as, Begun, waits, with_address, with_data, if_granted, load_as, access_of, value_loaded, is_division, after_load, divider_after}
@@ -25,6 +25,7 @@ use Rattle.window_model.specs.Shape.{SameShape}
 use Rattle.window_model.specs.Retire.{hart_of}
 use Rattle.window_model.specs.declared.Event.TheVariants as event
 use Rattle.window_model.proofs.Booleans.{both}
+use Rattle.window_model.proofs.LookedUp.{same_dues}
 use Rattle.window_model.proofs.Places.{Found, found}
 use Rattle.window_model.proofs.Issuing.{asks_division, asks_load, may_own, may_parts, load_clean, division_clean}
 use Rattle.committed_state.specs.Consistent.{IsItem, EntryInvariant, bank_in}
@@ -52,15 +53,6 @@ same_begins e e2 cycle cycle2 due due2 vs vs2 h c q g =
 
 same_waits : (e e2 : Entry) → without_outcome e ≡ without_outcome e2 → begun_without (waits e) ≡ begun_without (waits e2)
 same_waits e e2 h = ap (λ t. let b : Begun = record { entry = t; events = [] } in b) h
-
-same_due : (d : Desc) (now now2 : Around) (l : Line) → now.cycle ≡ now2.cycle → due_of d now l ≡ due_of d now2 l
-same_due d now now2 (Hits line) q = ap (λ n. n + d.cache_hit_latency) q
-same_due d now now2 (Joins line due) q = refl
-same_due d now now2 (Takes r) q = ap (λ n. n + latency_of d r) q
-
-same_dues : (d : Desc) (now now2 : Around) (found : List Line) → now.cycle ≡ now2.cycle → map (due_of d now) found ≡ map (due_of d now2) found
-same_dues d now now2 [] q = refl
-same_dues d now now2 (l ∷ found) q = ap₂ (λ due dues. due ∷ dues) (same_due d now now2 l q) (same_dues d now now2 found q)
 
 same_load_as : (a : Access) (d : Desc) (now now2 : Around) (e e2 : Entry) (f f2 : Effect) (v v2 : ℕ) → without_outcome e ≡ without_outcome e2 → now.cycle ≡ now2.cycle → begun_without (load_as a d now e f v) ≡ begun_without (load_as a d now2 e2 f2 v2)
 same_load_as (Faults c) d now now2 e e2 f f2 v v2 h q = same_begins e e2 _ _ _ _ _ _ h q (ap (λ n. n + 1) q) (ap (λ (t : Entry). event.LdFault t.serial ∷ []) h)
