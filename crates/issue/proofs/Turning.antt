@@ -16,14 +16,14 @@ use Rattle.window_model.specs.declared.Event.TheVariants as event
 use Rattle.window_model.specs.declared.Outcome.{Outcome}
 use Rattle.window_model.specs.Around.{Around}
 use Rattle.window_model.specs.State.{lines_of}
-use Rattle.window_model.specs.Access.{Line, Looks, Request, look_up, prefetched, source_of}
+use Rattle.window_model.specs.Access.{Looks, Request, look_up}
 use Rattle.window_model.specs.Order.{has_address, has_data, is_load, is_store, is_waiting}
 use Rattle.window_model.specs.Retire.{op_of, byte_count}
 use Rattle.window_model.specs.MayIssue.{effect_of}
 use Rattle.window_model.specs.Ports.{AddressPort, DataPort, is_granted, port_of}
 use Rattle.window_model.specs.Issue.{Begun, access_of, begin_as, begins, issue_entry, issue_store, load_as, waits}
 use Rattle.window_model.proofs.Booleans.{waiting_done}
-use Rattle.window_model.proofs.Issuing.{OneOrTwo, One, Two, by_load, by_prefetched, lines_are, may_parts}
+use Rattle.window_model.proofs.Issuing.{OneOrTwo, One, Two, by_load, lines_are, may_parts}
 use Rattle.window_model.specs.inner.Issue.{data_events, parts_as}
 use Rattle.window_model.proofs.Together.{data_few, entry_parts, granted_together, issue_parts}
 use Rattle.unit_ports.specs.Ports.{port_for}
@@ -37,6 +37,7 @@ use Rattle.issue.specs.Turns.{after_by, begin_entry, puts_by, puts_of}
 use Rattle.issue.proofs.Advanced.{lacks_address, lacks_data, still_undone}
 use Rattle.issue.proofs.Asking.{AsksNone, InStep, fresh_address, fresh_data, granted_may, grants_none}
 use Rattle.issue.proofs.Width.{size_is}
+use Rattle.machine_facts.proofs.Ports.{load_few}
 
 -- ---- what one in one piece comes to, by whether it is granted its port
 
@@ -212,20 +213,6 @@ module _ (d : Desc) (now : Around) (before : List Entry) (e : Entry) where
           subst (Turns e) (sym (store_turn a c d now before e s refl refl)) (store_turns a c t s refl refl)
 
 -- ---- how many events it has
-
--- a load has one for each of its lines, and one for a line that is prefetched
-ahead_few : (d : Desc) (now : Around) (found : List Line) → length (map (λ r. event.Pf r.line (source_of r)) (prefetched d now found)) ≤ 1
-ahead_few d now found = by_prefetched d now found (λ rs. length (map (λ r. event.Pf r.line (source_of r)) rs) ≤ 1) (omega arith) (λ within room none. omega arith)
-
-looks_few : (d : Desc) (now : Around) (e : Entry) (f : Effect) (v : ℕ) (lines : List ℕ) → OneOrTwo lines →
-    (let found = map (look_up d now) lines in length (load_as (Looks found (prefetched d now found)) d now e f v).events ≤ 3)
-looks_few d now e f v _ (One line) = let few = ahead_few d now (look_up d now line ∷ []) in omega (arith, few)
-looks_few d now e f v _ (Two low high up) = let few = ahead_few d now (look_up d now low ∷ look_up d now high ∷ []) in omega (arith, few)
-
-load_few : (d : Desc) (now : Around) (b : List Entry) (e : Entry) (f : Effect) (v : ℕ) → length (load_as (access_of d now b e) d now e f v).events ≤ 3
-load_few d now b e f v =
-    by_load d now (λ a. length (load_as a d now e f v).events ≤ 3) (omega arith) (λ a n some room. looks_few d now e f v (lines_of d a n) (lines_are d a n some))
-    (λ a n some full. omega arith) (λ c. omega arith) b e
 
 begin_few : (k : Kind) (d : Desc) (now : Around) (before : List Entry) (e : Entry) → length (begin_as k d now before e).events ≤ most_events_of k
 begin_few Load d now before e = load_few d now before e _ _

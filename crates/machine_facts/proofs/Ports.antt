@@ -65,7 +65,8 @@ looks_few d now a n serial =
     let one = by_prefetched d now found (λ ahead. length ahead ≤ 1) (omega arith) (λ m r f. omega arith) in
     omega (arith, sum, own_many, more_many, looked_many, two, one)
 
-load_few : (d : Desc) (now : Around) (b : List Entry) (e : Entry) (f : Effect) (v : ℕ) → length (load_as (access_of d now b e) d now e f v).events ≤ 3
+-- a load has at most three events
+pub load_few : (d : Desc) (now : Around) (b : List Entry) (e : Entry) (f : Effect) (v : ℕ) → length (load_as (access_of d now b e) d now e f v).events ≤ 3
 load_few d now b e f v = by_load d now (λ a. length (load_as a d now e f v).events ≤ 3) (omega arith) (λ a n some room. looks_few d now a n e.serial) (λ a n some r. omega arith) (λ c. omega arith) b e
 
 begin_few : (k : Kind) (d : Desc) (now : Around) (before : List Entry) (e : Entry) → length (begin_as k d now before e).events ≤ told_at (port_of k)

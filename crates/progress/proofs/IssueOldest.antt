@@ -32,7 +32,7 @@ use Rattle.window_model.specs.Issue.{Begun, busy_until_both, issue, issue_entry,
 use Rattle.window_model.specs.inner.Issue.{parts_as}
 use Rattle.window_model.proofs.Together.{address_part, data_part, entry_parts, is_whole}
 use Rattle.window_model.proofs.Issuing.{looked, may_own, requests_few}
-use Rattle.window_model.proofs.Booleans.{is_below}
+use Rattle.window_model.proofs.Booleans.{and_no, is_below}
 use Rattle.machine_facts.specs.Sized.{HasParts, Together}
 use Rattle.machine_facts.specs.Timely.{Timely, IsPending, PartDue, PartsDue, longest_division}
 use Rattle.machine_facts.proofs.Dues.{LooksSoon, looks_soon}
@@ -172,10 +172,6 @@ misses_of_tried false p o d x h = absurd (cc)
 
 -- ---- the oldest is a division: where the divider is busy, none issues
 
-none_and : (m s : Bool) → s ≡ false → (m && s) ≡ false
-none_and true s h = h
-none_and false s h = refl
-
 busy_divider : (k : Kind) (d : Desc) (now : Around) (before : List Entry) (e : Entry) → is_free now ≡ false → ((is_waiting e.state && ready d before e && may_issue_as k d now before e) && same_port (port_of k) DivPort) ≡ false
 busy_divider Div d now before e f = by (is_waiting e.state) (ready d before e) (not (any_tainted d.stt_model before e)) (is_free now) f
   where
@@ -184,8 +180,8 @@ busy_divider Div d now before e f = by (is_waiting e.state) (ready d before e) (
     by true true false n f = refl
     by true false t n f = refl
     by false r t n f = refl
-busy_divider Load d now before e f = none_and _ _ refl
-busy_divider _ d now before e f = none_and _ _ refl
+busy_divider Load d now before e f = and_no _ _ refl
+busy_divider _ d now before e f = and_no _ _ refl
 
 none_if : (b : Bool) (p : Place) (o : Option Place) → b ≡ false → o ≡ None → (if b then Some p else o) ≡ None
 none_if false p o h k = k

@@ -201,12 +201,13 @@ comes_goes e r (Begins cycle due o q) = subst (Goes e) (sym q) (record { item = 
 pub begin_goes : (k : Kind) (d : Desc) (now : Around) (b : List Entry) (e : Entry) → Goes e (begin_as k d now b e).entry
 begin_goes k d now b e = comes_goes e _ (begin_comes k d now b e)
 
--- a store of which a part issues keeps its item and serial, and doesn't wait again
-both_goes : (a c : Option ℕ) (s : Progress) → is_waiting (busy_until_both a c s) ≡ true → is_waiting s ≡ true
+-- a store waits once a part issues only where it waited before
+pub both_goes : (a c : Option ℕ) (s : Progress) → is_waiting (busy_until_both a c s) ≡ true → is_waiting s ≡ true
 both_goes (Some a) (Some c) s h = absurd (cc)
 both_goes (Some a) None s h = h
 both_goes None c s h = h
 
+-- a store of which a part issues keeps its item and serial, and doesn't wait again
 pub address_goes : (now : Around) (f : Effect) (e : Entry) → Goes e (with_address now f e)
 address_goes now f e = record { item = refl; serial = refl; waits = both_goes (Some (now.cycle + 1)) e.data_due e.state }
 

@@ -22,3 +22,4 @@ pub mod Quiet
 pub mod Telling
 pub mod Together
 pub mod LookedUp
+pub mod KindTests
