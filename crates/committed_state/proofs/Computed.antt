@@ -27,6 +27,7 @@ use Rattle.window_model.specs.Shape.{SameShape}
 use Rattle.window_model.proofs.Booleans.{both}
 use Rattle.window_model.proofs.KindTests.{jal_kind, op_is}
 use Rattle.window_model.proofs.Memory.{same_fault}
+use Rattle.window_model.proofs.Taints.{AllBelow}
 use Rattle.committed_state.specs.Computed.{Bank, as_known_by, bytes_found, bytes_over, computed, finds, known_of, loaded_or, outcome_as}
 use Rattle.committed_state.specs.Consistent.{HasOperands, IsItem, executed, is_issued}
 use Rattle.committed_state.specs.Replay.{effect_on}
@@ -98,10 +99,6 @@ pub address_is : (code : Code) (regs : List ℕ) (b : List Entry) (e : Entry) �
 address_is code regs b e item h = (access_effect code e item h).addr e.item.pc (first_operand regs b (sources e)) 0 (second_operand regs b (sources e))
 
 -- ---- operands of two windows
-
-abbrev AllBelow : ℕ → List ℕ → Type 0
-AllBelow n [] = Unit {0}
-AllBelow n (r ∷ rs) = (r < n) × AllBelow n rs
 
 -- an instruction reads registers below 32 alone
 reads_below : (i : Instr) → AllBelow 32 (reads_of i)
