@@ -14,9 +14,10 @@ use Rattle.window_model.proofs.Serials.{Falls}
 use Rattle.lsq.specs.declared.store.Store.{Store}
 use Rattle.queue_laws.specs.Window.{area_in, area_of}
 use Rattle.visibility.specs.Point.{HasAdvanced, Point, is_hidden}
+use Rattle.visibility.proofs.Moving.{Tells}
 use Rattle.refinement.proofs.Queues.{base_hidden}
 use Rattle.refinement.proofs.Visible.{told}
-use Rattle.refinement.proofs.Youngest.{Tells, retired_shown}
+use Rattle.refinement.proofs.Youngest.{retired_shown}
 use Rattle.refinement.specs.Footprint.{StoreFootprint, Terms, column, footprint_of, store_footprint, store_in}
 use Rattle.refinement.specs.Refines.{terms}
 use Rattle.refinement.specs.Roots.{base_root, source_roots}

@@ -1,17 +1,16 @@
 -- The parts once the store that is found is marked as cleared.
-use Rattle.std.proofs.Common.{◌≡◌, ℕ, zero, suc, ◌<◌, Bool, true, false, List, [], ◌∷◌, ◌++◌, length, map, Option, Some, None, refl, ap, ap₂, sym, ◌∙◌, subst, slice_get}
+use Rattle.std.proofs.Common.{◌≡◌, ℕ, ◌<◌, true, ◌∷◌, ◌++◌, length, map, Option, Some, None, ap, ap₂, sym, ◌∙◌, subst, slice_get}
 use Rattle.std.specs.Prelude.{IfSome, reverse, slice_set}
 use Rattle.std.specs.Option.{option_map}
 use Rattle.std.proofs.lemmas.Option.{slice_get_within}
 use Rattle.window_model.specs.declared.Entry.{Entry}
 use Rattle.window_model.specs.Clear.{cleared_one, violated_by}
 use Rattle.machine_desc.specs.Questions.{loads_pass}
-use Rattle.rv_types.specs.declared.Kind.{Kind}
-use Rattle.rv_types.specs.declared.Kind.TheVariants.{Store as AsStore}
-use Rattle.window_model.specs.Order.{Place, is_store}
+use Rattle.window_model.specs.Order.{Place}
 use Rattle.window_model.specs.Serials.{Rise, below}
-use Rattle.window_model.specs.Taint.{settled_as}
 use Rattle.window_model.proofs.Clearing.{cleared_goes}
+use Rattle.window_model.proofs.Lists.{set_here}
+use Rattle.window_model.proofs.Passing.{uncleared_as}
 use Rattle.rob_ring.specs.Ring.{Ring}
 use Rattle.lsq.specs.Clearing.{violated_by as violated_in}
 use Rattle.lsq.specs.Queues.{Queues, cleared_at}
@@ -30,16 +29,7 @@ use Rattle.clear.specs.Cleared.{clearing, violated, with_cleared}
 use Rattle.clear.proofs.Effects.{cleared_is, violated_is}
 use Rattle.clear.proofs.Places.{Load, Store, load_at, load_younger, set_there, stands_there, store_at}
 
-set_here : (w : List Entry) (i : ℕ) (e e2 : Entry) → slice_get w i ≡ Some e → slice_get (slice_set w i e2) i ≡ Some e2
-set_here [] i e e2 h = absurd (cc)
-set_here (x ∷ w) zero e e2 h = refl
-set_here (x ∷ w) (suc i) e e2 h = set_here w i e e2 h
-
 -- a store that isn't cleared isn't settled
-unsettled : (k : Kind) (r c : Bool) → is_store k ≡ true → c ≡ false → settled_as k r c ≡ false
-unsettled AsStore r c s u = u
-unsettled _ r c s u = absurd (cc)
-
 module _ (h : Held) (v : Described) (serial : ℕ) (w : Whole h) (s : described h ≡ v) (a : loads_pass v.desc ≡ true) (f : Some serial ≡ clearing v.desc v.machine) where
   it : Store h.desc (machine_of h) serial
   it = store_at h.desc (machine_of h) serial (subst (λ (v : Described). Some serial ≡ clearing v.desc v.machine) (sym s) f)
@@ -117,7 +107,7 @@ module _ (h : Held) (v : Described) (serial : ℕ) (w : Whole h) (s : described 
       entry = cleared_one it.place.entry;
       here = ap (λ (r : Ring). slice_get r.entries (length (below serial h.rob.entries))) ring_is ∙ set_here h.rob.entries _ it.place.entry (cleared_one it.place.entry) here;
       older = subst (λ n. it.place.entry.serial < n) l.named (load_younger h.desc (machine_of h) serial it rises l.place l.is);
-      not_past = stops_at (in_flight h) (length (below serial h.rob.entries)) it.place.entry w.refines here (unsettled it.place.entry.item.kind it.place.entry.resolved it.place.entry.cleared it.may.store it.may.fresh);
+      not_past = stops_at (in_flight h) (length (below serial h.rob.entries)) it.place.entry w.refines here (uncleared_as it.place.entry.item.kind it.place.entry.resolved it.place.entry.cleared it.may.store it.may.fresh);
     }
 
     by_answer : (o : Option ℕ) → o ≡ option_map (λ (q : Place). q.entry.serial) (violated_by it.place) → IfSome o (λ load. StopsBelow load h.point rob.entries)

@@ -17,13 +17,10 @@ use Rattle.window_model.proofs.Booleans.{some_of}
 use Rattle.window_model.proofs.Clearing.{MayClear, clear_parts}
 use Rattle.window_model.proofs.Places.{found, older_is}
 use Rattle.window_model.proofs.Serials.{all_seam, none_below, rise_head, rise_tail, rise_with}
+use Rattle.window_model.proofs.Lists.{get_seam}
 use Rattle.clear.specs.Cleared.{clearing}
 
 -- ---- a place in a list
-
-pub get_seam : (xs ys : List Entry) (y : Entry) → slice_get (xs ++ y ∷ ys) (length xs) ≡ Some y
-get_seam [] ys y = refl
-get_seam (x ∷ xs) ys y = get_seam xs ys y
 
 stands_at : (t : List Entry → Entry → Bool) (w : List Entry) (p : Place) → first t w ≡ Some p → w ≡ reverse p.before ++ p.entry ∷ p.younger
 stands_at t w p h = let f = found t [] w p h in f.all ∙ ap (λ o. o ++ p.entry ∷ p.younger) (sym (older_is t w p f))

@@ -20,7 +20,7 @@ use Rattle.committed_state.specs.Replay.{Bank, bank, bank_after, is_clear, repla
 use Rattle.committed_state.specs.Computed.{ComesTo, as_known, as_known_by, bytes_found, finds, known_of, left_out}
 use Rattle.window_model.specs.Clear.{passed, shares}
 use Rattle.committed_state.specs.Consistent.{FitsParts, EntryInvariant, is_issued, stands_before}
-use Rattle.window_model.proofs.Booleans.{both}
+use Rattle.window_model.proofs.Booleans.{and_not, both}
 use Rattle.window_model.specs.Shape.{SameShape}
 use Rattle.window_model.proofs.Memory.{length_to_le, inside, read_before, read_within, read_after, same_shape, shape_then, store_keeps}
 use Rattle.committed_state.proofs.Sees.{InLoad, before_of, byte_pick, found_data, shares_byte}
@@ -98,12 +98,6 @@ store_byte m e b v c i d le h =
 
 -- ---- at a store that no load has passed wrongly
 
--- a store that is cleared is not left out
-pub kept_in : (p c : Bool) → c ≡ true → (p && not c) ≡ false
-kept_in true true h = refl
-kept_in false true h = refl
-kept_in p false h = absurd (cc)
-
 reached : (lo s h r : Bool) → lo ≡ false → s ≡ true → h ≡ true → (not lo && (s && h && r)) ≡ r
 reached false true true r n p q = refl
 reached false true false r n p q = absurd (cc)
@@ -132,7 +126,7 @@ one_byte l ram m e b o st r le h = by_kind e.item.kind refl r
         let t : is_store e.item.kind ≡ true = ap is_store q in
         let c = st t in
         let R : Bool = reaches b (byte_count e) e.outcome in
-        let found : finds l b e ≡ R = reached (left_out l e) (is_store e.item.kind) (has_address e) R (kept_in (passed e l) e.cleared c.cleared) t c.address in
+        let found : finds l b e ≡ R = reached (left_out l e) (is_store e.item.kind) (has_address e) R (and_not (passed e l) e.cleared c.cleared) t c.address in
         let covered : covers b e ≡ R = reached false (is_store e.item.kind) (has_address e) R refl t c.address in
         byte_pick (finds l b e) ram b e o ∙ ap (λ f. if f then byte_from b e else byte_of ram b o) found
         ∙ store_byte m e b (byte_of ram b o) (subst (λ h. ComesTo e.outcome (known_of h (has_data e) (replayed_as Store m e))) c.address r) c.issued (λ t. c.datum (covered ∙ t)) le h
@@ -174,7 +168,7 @@ module _ (d : Desc) (code : Code) (s : Bank) (now : ℕ) (l : Entry) where
         address = address;
         issued = store_issued e.item.kind (has_address e) (has_data e) (is_issued e) q st.parts address;
         cleared = c;
-        datum = λ t. found_data (is_store e.item.kind) (has_address e) (passed e l) e.cleared (shares e l) (has_data e) q address (kept_in (passed e l) e.cleared c) (shares_byte l e b i t) sb;
+        datum = λ t. found_data (is_store e.item.kind) (has_address e) (passed e l) e.cleared (shares e l) (has_data e) q address (and_not (passed e l) e.cleared c) (shares_byte l e b i t) sb;
       }
 
   -- a byte of the load, where each older store is cleared

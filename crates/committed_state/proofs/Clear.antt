@@ -15,14 +15,13 @@ use Rattle.window_model.specs.Clear.{clear, cleared_one, is_violated}
 use Rattle.machine_desc.specs.Questions.{loads_pass}
 use Rattle.window_model.specs.Order.{Place, has_address}
 use Rattle.window_model.specs.Retire.{hart_of}
-use Rattle.window_model.proofs.Clearing.{Cleared, Violated}
+use Rattle.window_model.proofs.Clearing.{Cleared, NoneHas, Violated, clear_spares}
 use Rattle.window_model.proofs.EntryByEntry.{along_front}
 use Rattle.committed_state.specs.Computed.{Bank}
 use Rattle.committed_state.specs.Consistent.{EntryInvariant, Holds, ConsistentIn, FitsClearing, FitsState, bank_in}
 use Rattle.committed_state.specs.Links.{Chain, links, entry_link, item_link}
 use Rattle.committed_state.proofs.Onward.{AllSeen, stands_seen}
 use Rattle.committed_state.proofs.Sees.{Sees, moves_same, sees_clear, sees_moves}
-use Rattle.committed_state.proofs.Spared.{NoneHas, clear_spares}
 
 -- ---- entries beside a store that is cleared
 

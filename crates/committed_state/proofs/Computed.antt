@@ -1,10 +1,10 @@
 -- What makes two outcomes equal: equal effects, memory in one place, and for a load equal bytes.
 use Rattle.std.proofs.Common.{◌≡◌, ℕ, zero, suc, ◌+◌, ◌<◌, ◌≤◌, Bool, true, false, ◌||◌, List, [], ◌∷◌, Option, Some, None, refl, ap, sym, ◌∙◌, arith}
-use Rattle.std.specs.Prelude.{if◌then◌else◌, ◌==◌, ◌%◌}
+use Rattle.std.specs.Prelude.{◌==◌, ◌%◌}
 use Rattle.std.specs.List.{find, list_all}
 use Rattle.rv_types.specs.Word.{word}
 use Rattle.rv_types.specs.Decode.{decode}
-use Rattle.rv_types.specs.Kind.{kind_of, op_kind}
+use Rattle.rv_types.specs.Kind.{kind_of}
 use Rattle.rv_types.specs.Memory.{Code, Ram, load_fault, store_fault}
 use Rattle.rv_types.specs.Causes.{jump_misaligned, load_misaligned, load_outside, store_misaligned, store_outside}
 use Rattle.rv_types.specs.Isa.{Effect, effect, first_of, second_of}
@@ -13,8 +13,7 @@ use Rattle.rv_types.specs.declared.Cause.{Cause}
 use Rattle.rv_types.specs.declared.Instr.{Instr}
 use Rattle.rv_types.specs.declared.Instr.TheVariants as instr
 use Rattle.rv_types.specs.declared.Kind.{Kind}
-use Rattle.rv_types.specs.declared.Kind.TheVariants.{Jal, Load, Stop, Store}
-use Rattle.rv_types.specs.declared.Op.{Op}
+use Rattle.rv_types.specs.declared.Kind.TheVariants.{Jal, Load, Store}
 use Rattle.rv_types.specs.declared.Op.TheVariants as op
 use Rattle.window_model.specs.declared.Entry.{Entry}
 use Rattle.window_model.specs.declared.Outcome.{Outcome}
@@ -26,7 +25,9 @@ use Rattle.window_model.specs.MayIssue.{address_of, effect_of, first_operand, se
 use Rattle.window_model.specs.Issue.{outcome}
 use Rattle.window_model.specs.Shape.{SameShape}
 use Rattle.window_model.proofs.Booleans.{both}
+use Rattle.window_model.proofs.KindTests.{jal_kind, op_is}
 use Rattle.window_model.proofs.Memory.{same_fault}
+use Rattle.window_model.proofs.Taints.{AllBelow}
 use Rattle.committed_state.specs.Computed.{Bank, as_known_by, bytes_found, bytes_over, computed, finds, known_of, loaded_or, outcome_as}
 use Rattle.committed_state.specs.Consistent.{HasOperands, IsItem, executed, is_issued}
 use Rattle.committed_state.specs.Replay.{effect_on}
@@ -76,27 +77,12 @@ pub record AccessEffect (i : Instr) : Type 0 where
   pub addr : (pc a b b2 : ℕ) → (effect pc i a b2).addr ≡ (effect pc i a b).addr
   pub stored : (pc a a2 b : ℕ) → (effect pc i a2 b).stored ≡ (effect pc i a b).stored
 
-jal_no_access : (b : Bool) → is_access (if b then Jal else Stop jump_misaligned) ≡ false
-jal_no_access true = refl
-jal_no_access false = refl
-
-op_no_access : (o : Op) → is_access (op_kind o) ≡ false
-op_no_access op.Mul = refl
-op_no_access op.Mulh = refl
-op_no_access op.Mulhsu = refl
-op_no_access op.Mulhu = refl
-op_no_access op.Div = refl
-op_no_access op.Divu = refl
-op_no_access op.Rem = refl
-op_no_access op.Remu = refl
-op_no_access _ = refl
-
 -- every load and store takes its address from its first operand, and what it stores from its second
 effect_of_access : (i : Instr) → is_access (kind_of i) ≡ true → AccessEffect i
 effect_of_access (instr.Load o rd rs1 imm) h = record { next = λ pc a b a2 b2. refl; addr = λ pc a b b2. refl; stored = λ pc a a2 b. refl }
 effect_of_access (instr.Store o rs1 rs2 imm) h = record { next = λ pc a b a2 b2. refl; addr = λ pc a b b2. refl; stored = λ pc a a2 b. refl }
-effect_of_access (instr.Jal rd imm) h = absurd (let n = jal_no_access (word imm % 4 == 0) in cc)
-effect_of_access (instr.OpReg o rd rs1 rs2) h = absurd (let n = op_no_access o in cc)
+effect_of_access (instr.Jal rd imm) h = absurd (let n = jal_kind is_access (word imm % 4 == 0) jump_misaligned refl refl in cc)
+effect_of_access (instr.OpReg o rd rs1 rs2) h = absurd (let n = op_is is_access o refl refl refl in cc)
 effect_of_access _ h = absurd (cc)
 
 -- every entry that is a load or store of the program takes its address from its first operand, and what it stores from
@@ -113,10 +99,6 @@ pub address_is : (code : Code) (regs : List ℕ) (b : List Entry) (e : Entry) �
 address_is code regs b e item h = (access_effect code e item h).addr e.item.pc (first_operand regs b (sources e)) 0 (second_operand regs b (sources e))
 
 -- ---- operands of two windows
-
-abbrev AllBelow : ℕ → List ℕ → Type 0
-AllBelow n [] = Unit {0}
-AllBelow n (r ∷ rs) = (r < n) × AllBelow n rs
 
 -- an instruction reads registers below 32 alone
 reads_below : (i : Instr) → AllBelow 32 (reads_of i)

@@ -38,6 +38,7 @@ use Rattle.committed_state.proofs.Operands.{all_known_executed}
 use Rattle.window_model.specs.declared.Divider.{Divider}
 use Rattle.window_model.proofs.EntryByEntry.{map_each}
 use Rattle.window_model.proofs.Issuing.{MayIssue, by_after_load, by_issue, by_served, load_behind, some_bytes}
+use Rattle.window_model.proofs.KindTests.{store_kind}
 
 -- an entry stays as it is, or begins in this cycle with this outcome
 data Comes (cycle : ℕ) (e : Entry) (o : Outcome) (r : Entry) : Type 0 where
@@ -181,10 +182,6 @@ module _ (d : Desc) (code : Code) (x : Machine) (b : List Entry) (e : Entry) (h 
         stored = λ h. absurd (let z = p.1 in cc);
       } in
       subst (λ r. Kept d code (bank_of x) (x.cycle + 1) b e r) (sym q) (record { stands = made; moves = on; link = same_link e.resolved e l refl t.0 })
-
-store_kind : (k : Kind) → is_store k ≡ true → k ≡ Store
-store_kind Store h = refl
-store_kind _ h = absurd (cc)
 
 -- ---- the window after Issue
 

@@ -22,7 +22,7 @@ use Rattle.window_model.specs.Order.{fault_of, has_address, has_data, is_done, i
 use Rattle.window_model.specs.Rename.{at_once}
 use Rattle.window_model.specs.Retire.{addr_of, byte_count}
 use Rattle.window_model.specs.Taint.{address_tainted}
-use Rattle.window_model.proofs.Booleans.{both}
+use Rattle.window_model.proofs.Booleans.{and_no, both}
 use Rattle.committed_state.specs.Computed.{Bank, bytes_found, finds}
 use Rattle.committed_state.specs.Consistent.{FitsClearing, IsDueBy, EntryInvariant, is_issued, stands_before}
 use Rattle.committed_state.proofs.Known.{both_parts, done_has}
@@ -77,10 +77,6 @@ not_after : (n : ℕ) (a : Option ℕ) → IsDueBy n a → is_before (Some n) a 
 not_after n None h = refl
 not_after n (Some a) h = grind (arith, nat_tests, h)
 
-and_false : (a b : Bool) → b ≡ false → (a && b) ≡ false
-and_false true b h = h
-and_false false b h = refl
-
 found_so : (p c co : Bool) → p ≡ false → (not (p && c) && co) ≡ co
 found_so false c co h = refl
 found_so true c co h = absurd (cc)
@@ -90,7 +86,7 @@ module _ (d : Desc) (code : Code) (s : Bank) (now : ℕ) (l : Entry) (begins : l
   S = EntryInvariant d code s now
 
   not_passed : (b : List Entry) (e : Entry) → S b e → passed e l ≡ false
-  not_passed b e st = and_false (is_load l.item.kind) (is_before l.issued e.addr_due) (ap (λ i. is_before i e.addr_due) begins ∙ not_after now e.addr_due st.due)
+  not_passed b e st = and_no (is_load l.item.kind) (is_before l.issued e.addr_due) (ap (λ i. is_before i e.addr_due) begins ∙ not_after now e.addr_due st.due)
 
   find_now : (b : List Entry) (a : ℕ) → Behind S b → find (finds l a) b ≡ find (covers a) b
   find_now [] a h = refl

@@ -19,7 +19,7 @@ use Rattle.window_model.specs.Issue.{busy_until_both, so_far, with_address, with
 use Rattle.window_model.specs.Order.{base_of, has_address, has_data, is_done, is_load, is_store, others_of, sources}
 use Rattle.window_model.specs.Rename.{at_once}
 use Rattle.window_model.specs.Retire.{hart_of, stored_of}
-use Rattle.window_model.proofs.Booleans.{or_true}
+use Rattle.window_model.proofs.Booleans.{and_no, or_true}
 use Rattle.window_model.proofs.Issuing.{MayGo, gone_parts}
 use Rattle.committed_state.specs.Computed.{Bank, ComesTo, as_known_by, bytes_over, computed, known_of, outcome_as}
 use Rattle.committed_state.specs.Consistent.{FitsClearing, FitsParts, FitsState, HasOperands, EntryInvariant, all_executed, all_issued, all_issued_by, bank_in, is_issued}
@@ -63,11 +63,6 @@ fits_busy None None e h r k = (h, r, k)
 store_all : (k : Kind) (a c i : Bool) → k ≡ Store → all_issued_by k a c i ≡ (a && c)
 store_all Store a c i q = refl
 store_all _ a c i q = absurd (cc)
-
-and_no : (a c : Bool) → c ≡ false → (a && c) ≡ false
-and_no true false h = refl
-and_no false false h = refl
-and_no a true h = absurd (cc)
 
 -- what has to hold of a store that is or isn't cleared stays as its address comes or stays
 fits_clearing : (p : Bool) (e r : Entry) → r.item ≡ e.item → r.cleared ≡ e.cleared → (has_address r ≡ false → has_address e ≡ false) → FitsClearing p e → FitsClearing p r

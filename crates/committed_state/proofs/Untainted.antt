@@ -14,19 +14,19 @@ use Rattle.window_model.specs.declared.Progress.TheVariants.{Waiting, Done}
 use Rattle.window_model.specs.Around.{Around}
 use Rattle.window_model.specs.Order.{base_of, has_address, has_data, is_done, is_faulty, is_load, is_store, is_waiting, sources}
 use Rattle.window_model.specs.Taint.{passes, safe_as, settled_as, tainted, any_tainted, address_tainted}
-use Rattle.window_model.specs.Fill.{completed, completes, completes_at}
+use Rattle.window_model.specs.Fill.{completed, completes}
 use Rattle.window_model.specs.MayIssue.{effect_of}
 use Rattle.window_model.specs.Issue.{issue_entry, begun, busy_until_both, is_division, with_address, with_data}
 use Rattle.window_model.specs.Rename.{at_once, renamed}
 use Rattle.window_model.specs.Cycle.{cycle}
 use Rattle.window_model.specs.Along.{Along}
-use Rattle.window_model.proofs.Booleans.{both, done_waits, waiting_done}
+use Rattle.window_model.proofs.Booleans.{and_no, both, completes_waits, done_waits, waiting_done}
 use Rattle.window_model.specs.Clear.{cleared_one}
 use Rattle.window_model.proofs.Passing.{passes_begun, passes_cleared, passes_done, passes_resolved}
 use Rattle.committed_state.specs.Guarded.{IsGuarded, AllGuarded}
 use Rattle.committed_state.proofs.Clears.{Clears, AllClear, clears_same, any_not, clean_then, clean_rest}
 use Rattle.window_model.proofs.EntryByEntry.{along_push, along_drops, place_on}
-use Rattle.window_model.proofs.Issuing.{MayIssue, Comes, Remains, Begins, by_issue, begin_comes, gone_parts, load_clean, division_clean}
+use Rattle.window_model.proofs.Issuing.{Begins, Comes, MayIssue, Remains, begin_comes, both_goes, by_issue, division_clean, gone_parts, load_clean}
 use Rattle.window_model.proofs.Resolving.{resolved_one}
 
 module _ (model : SttModel) where
@@ -60,16 +60,11 @@ module _ (model : SttModel) where
 
   -- ---- what the phase Complete keeps
 
-  -- an entry that completes isn't waiting
-  not_waiting : (t : Progress) (cycle : ℕ) → completes_at cycle t ≡ true → is_waiting t ≡ false
-  not_waiting Waiting cycle h = absurd (cc)
-  not_waiting _ cycle h = refl
-
   pub guarded_completed : (cycle : ℕ) (b : List Entry) (e : Entry) → G b e → G b (completed cycle e) × Clears e (completed cycle e)
   guarded_completed cycle b e h = by_due (completes cycle e) refl
     where
       by_due : (c : Bool) → completes cycle e ≡ c → let r = (if c then record e { state = Done } else e) in G b r × Clears e r
-      by_due true q = (record { load = h.load; division = h.division; fresh = λ q. absurd (cc); whole = λ w t. h.whole (not_waiting e.state cycle q) t }, record { item = refl; still = λ m. passes_done m e })
+      by_due true q = (record { load = h.load; division = h.division; fresh = λ q. absurd (cc); whole = λ w t. h.whole (completes_waits e.state cycle q) t }, record { item = refl; still = λ m. passes_done m e })
       by_due false q = (h, clears_same e)
 
   -- ---- what the phase Issue keeps
@@ -93,11 +88,6 @@ module _ (model : SttModel) where
   whole_or (Some a) None t h q = h q
   whole_or None c t h q = h q
 
-  waits_or : (a c : Option ℕ) (t : Progress) → is_waiting (busy_until_both a c t) ≡ true → is_waiting t ≡ true
-  waits_or (Some a) (Some c) t h = absurd (cc)
-  waits_or (Some a) None t h = h
-  waits_or None c t h = h
-
   no_load : (k : Kind) → is_store k ≡ true → is_load k ≡ true → ⊥
   no_load Store t l = absurd (cc)
   no_load _ t l = absurd (cc)
@@ -119,10 +109,6 @@ module _ (model : SttModel) where
       still Futuristic p = absurd (let w = h.whole (done_waits e.state (safe_done e.item.kind e t p)) t in cc)
       still Off p = refl
 
-  and_no : (a c : Bool) → c ≡ false → (a && c) ≡ false
-  and_no true c h = h
-  and_no false c h = refl
-
   -- a store stays guarded as its address part issues
   address_goes : (now : Around) (f : Effect) (b : List Entry) (e : Entry) → is_store e.item.kind ≡ true → G b e → has_address e ≡ false → G b (with_address now f e) × Clears e (with_address now f e)
   address_goes now f b e t h n =
@@ -130,7 +116,7 @@ module _ (model : SttModel) where
         record {
           load = λ i l. absurd (no_load e.item.kind t l);
           division = λ i l. absurd (no_division e.item.kind t l);
-          fresh = λ w. h.fresh (waits_or due e.data_due e.state w);
+          fresh = λ w. h.fresh (both_goes due e.data_due e.state w);
           whole = λ w q. whole_or due e.data_due e.state (λ z. (both (has_address e) _ (h.whole z t)).1) w;
         },
         part_clears b e (with_address now f e) t h (ap (λ a. a && has_data e) n) refl refl refl,
@@ -143,7 +129,7 @@ module _ (model : SttModel) where
         record {
           load = λ i l. absurd (no_load e.item.kind t l);
           division = λ i l. absurd (no_division e.item.kind t l);
-          fresh = λ w. h.fresh (waits_or e.addr_due due e.state w);
+          fresh = λ w. h.fresh (both_goes e.addr_due due e.state w);
           whole = λ w q. whole_or e.addr_due due e.state (λ z. ap (λ a. a && true) (both (has_address e) _ (h.whole z t)).0) w;
         },
         part_clears b e (with_data now f e) t h (and_no (has_address e) (has_data e) n) refl refl refl,

@@ -1,5 +1,5 @@
 -- The parts once an entry is Done.
-use Rattle.std.proofs.Common.{◌≡◌, ℕ, zero, suc, ◌<◌, Bool, not, false, List, [], ◌∷◌, length, Option, Some, None, refl, ap, sym, ◌∙◌, subst, slice_get}
+use Rattle.std.proofs.Common.{◌≡◌, ℕ, ◌<◌, Bool, not, false, length, Option, Some, None, refl, ap, sym, ◌∙◌, subst, slice_get}
 use Rattle.std.specs.Prelude.{slice_set}
 use Rattle.std.specs.Option.{option_map}
 use Rattle.std.specs.Slice.Scan.{HoldsNowhere, holds_at}
@@ -8,6 +8,7 @@ use Rattle.window_model.specs.declared.Entry.{Entry}
 use Rattle.window_model.specs.Fill.{completes}
 use Rattle.window_model.specs.Order.{is_waiting}
 use Rattle.window_model.proofs.Booleans.{some_of}
+use Rattle.window_model.proofs.Lists.{set_here}
 use Rattle.machine_facts.proofs.Parts.{IsEntry}
 use Rattle.rob_ring.specs.Ring.{IsNext, Ring, is_busy}
 use Rattle.stations.specs.Stations.{Stations}
@@ -29,11 +30,6 @@ is_inside h v i w s a =
     slice_get_within h.rob.entries i k.0 k.1
 
 -- ---- what is there once it is set
-
-set_here : (w : List Entry) (i : ℕ) (e e2 : Entry) → slice_get w i ≡ Some e → slice_get (slice_set w i e2) i ≡ Some e2
-set_here [] i e e2 h = absurd (cc)
-set_here (x ∷ w) zero e e2 h = refl
-set_here (x ∷ w) (suc i) e e2 h = set_here w i e e2 h
 
 set_there : (h : Held) (i : ℕ) (e : Entry) (rob : Ring) → slice_get h.rob.entries i ≡ Some e → rob ≡ record (h.rob) { entries = slice_set h.rob.entries i (done e) } → slice_get rob.entries i ≡ Some (done e)
 set_there h i e rob here sets = ap (λ (r : Ring). slice_get r.entries i) sets ∙ set_here h.rob.entries i e (done e) here

@@ -1,21 +1,17 @@
 -- Phase Retire leaves parts that hold what the machine then holds, and stand for it.
-use Rattle.std.proofs.Common.{◌≡◌, ℕ, ◌+◌, ◌-◌, ◌≤◌, true, List, [], ◌∷◌, ◌++◌, length, take, drop, Option, Some, None, refl, ap, sym, ◌∙◌, subst, arith}
-use Rattle.std.specs.Prelude.{is_some, not}
+use Rattle.std.proofs.Common.{◌≡◌, ℕ, ◌+◌, ◌-◌, ◌≤◌, List, [], ◌∷◌, ◌++◌, length, take, drop, Option, None, refl, ap, sym, ◌∙◌, subst, arith}
 use Rattle.std.specs.List.{AllByRecursion as Each}
 use Rattle.circular_buffer.specs.Buffer.{Buffer, buffer, keep_last}
-use Rattle.rv_types.specs.Memory.{Ram, store_fault}
+use Rattle.rv_types.specs.Memory.{Ram}
 use Rattle.rv_types.specs.declared.End.{End}
 use Rattle.machine_desc.proofs.EveryDesc.{every_desc}
 use Rattle.window_model.specs.declared.Entry.{Entry}
-use Rattle.window_model.specs.declared.Outcome.{Outcome}
-use Rattle.window_model.specs.Order.{fault_of, has_address, has_data, is_done, is_store}
-use Rattle.window_model.specs.Retire.{retire, addr_of, byte_count}
-use Rattle.window_model.proofs.Booleans.{both, done_waits}
+use Rattle.window_model.specs.Retire.{retire, byte_count}
 use Rattle.window_model.specs.Rename.{CallAlone}
 use Rattle.window_model.specs.Row.{Row}
 use Rattle.window_model.specs.State.{Machine}
-use Rattle.machine_facts.specs.Sized.{Sized, FaultIs, FitsMemory, HasOutcome, HasParts}
-use Rattle.machine_facts.proofs.SizedRetire.{sized_retire}
+use Rattle.machine_facts.specs.Sized.{Sized, FitsMemory, HasOutcome, HasParts}
+use Rattle.machine_facts.proofs.SizedRetire.{no_fault, sized_retire, stored_at}
 use Rattle.rob_ring.specs.Ring.{Ring}
 use Rattle.rob_ring.specs.declared.beside.Sources.{Sources}
 use Rattle.rename_taint.specs.declared.Write.{Write}
@@ -36,19 +32,11 @@ use Rattle.core_parts.proofs.Whole.{shown_by}
 
 -- ---- memory takes what a Done store writes
 
-takes_by : (ram : Ram) (width : ℕ) (o : Option Outcome) → FaultIs ram width o → is_some o ≡ true → fault_of o ≡ None → store_fault ram (addr_of o) width ≡ None
-takes_by ram width None f s n = absurd (cc)
-takes_by ram width (Some o) f s n = sym f ∙ n
-
--- the address part of a store that is Done has issued, since the store doesn't wait
-done_address : (e : Entry) → HasParts e → is_store e.item.kind ≡ true → is_done e.state ≡ true → has_address e ≡ true
-done_address e p s d = (both (has_address e) (has_data e) (p s ∙ ap not (done_waits e.state d))).0
-
 -- memory takes what each entry writes, where each fits memory and has its parts and outcome
 pub each_takes : (ram : Ram) (es : List Entry) → Each (FitsMemory ram) es → Each HasOutcome es → Each HasParts es → Each (TakesStore ram) es
 each_takes ram [] m o p = tt
 each_takes ram (e ∷ es) m o p =
-    (λ s d n. (let a = done_address e p.0 s d in takes_by ram (byte_count e) e.outcome (m.0 s a) (o.0 s a) n), each_takes ram es m.1 o.1 p.1)
+    (λ s d n. (let a = stored_at e p.0 s d in no_fault ram (byte_count e) e.outcome (m.0 s a) (o.0 s a) n), each_takes ram es m.1 o.1 p.1)
 
 -- ---- the queues' room stays
 

@@ -11,12 +11,9 @@ use Rattle.window_model.specs.Along.{Along}
 use Rattle.window_model.specs.Taint.{visible}
 use Rattle.window_model.proofs.Before.{all_reverse}
 use Rattle.visibility.specs.Point.{CanAdvance, HasAdvanced, HasMoved, IsPoint, NotPast, Passed, Point, next_after, passes}
+use Rattle.visibility.proofs.Moving.{Tells}
 
 -- ---- what it says of each entry is all that is to be kept
-
--- the visibility point tells whether an entry is visible
-abbrev pub Tells : Point → List Entry → Entry → Type 0
-Tells p before e = nat_le e.serial p.serial ≡ visible p.model before
 
 -- entries below the point pass
 all_below : (p : Point) (s : ℕ) (es : List Entry) → All (λ e. e.serial < s) es → s ≤ p.serial → Passed p es → list_all (passes p.model) es ≡ true

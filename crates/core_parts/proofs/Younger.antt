@@ -1,5 +1,5 @@
 -- The parts once the youngest entries are gone.
-use Rattle.std.proofs.Common.{◌≡◌, ℕ, List, [], ◌∷◌, ◌++◌, length, take, Option, ap, sym, subst, arith}
+use Rattle.std.proofs.Common.{◌≡◌, ℕ, List, [], ◌++◌, length, take, Option, ap, sym, subst, arith}
 use Rattle.std.specs.Prelude.{nat_lt}
 use Rattle.std.specs.List.{AllByRecursion as Each, filter}
 use Rattle.circular_buffer.specs.Buffer.{Buffer, buffer}
@@ -8,11 +8,12 @@ use Rattle.window_model.specs.declared.Entry.{Entry}
 use Rattle.window_model.specs.Resolve.{freed_from}
 use Rattle.window_model.specs.declared.Divider.{Divider}
 use Rattle.window_model.specs.State.{Machine}
-use Rattle.window_model.proofs.Counts.{Evolves, evolves_thins, goes_same}
+use Rattle.window_model.proofs.Counts.{evolves_thins}
 use Rattle.window_model.proofs.Lists.{each_left}
 use Rattle.machine_facts.specs.Sized.{Sized}
 use Rattle.machine_facts.proofs.Parts.{IsEntry, WindowFits, parts, whole}
 use Rattle.machine_facts.proofs.SizedWindow.{thinner}
+use Rattle.machine_facts.proofs.ClearPhases.{evolves_front}
 use Rattle.rob_ring.specs.Ring.{Ring, below}
 use Rattle.rob_ring.specs.declared.beside.Sources.{Sources}
 use Rattle.rename_taint.specs.declared.Write.{Write}
@@ -29,15 +30,11 @@ use Rattle.refinement.proofs.Steps.{refines_dropped}
 
 -- ---- a window that is cut has no more of anything
 
-evolves_left : (a b : List Entry) → Evolves (a ++ b) a
-evolves_left [] b = tt
-evolves_left (e ∷ a) b = (goes_same e, evolves_left a b)
-
 pub sized_dropped : (d : Desc) (x : Machine) (a b : List Entry) (pc : Option ℕ) (v : Divider) → x.window ≡ a ++ b → Sized d x → Sized d (record x { window = a; queue = []; fetch_pc = pc; divider = v })
 sized_dropped d x a b pc v e s =
     let f = parts d x s in
     whole d (record x { window = a; queue = []; fetch_pc = pc; divider = v }) (record {
-      window = thinner d (a ++ b) a (evolves_thins (a ++ b) a (evolves_left a b)) (subst (WindowFits d) e f.window);
+      window = thinner d (a ++ b) a (evolves_thins (a ++ b) a (evolves_front a b)) (subst (WindowFits d) e f.window);
       entries = each_left (IsEntry d x.ram) a b (subst (Each (IsEntry d x.ram)) e f.entries);
       queue = record { queue = omega arith; item_kinds = tt };
       predictor = f.predictor;

@@ -1,4 +1,5 @@
-//! Tests of the instruction set's step, of the core and its phases, and of the pair of runs, as a caller sees them.
+//! Tests of the instruction set's step, of the core and its phases, of the core with marks beside it, and of the pair
+//! of runs, as a caller sees them.
 //!
 //! They use public items alone, so they stand above the crates that they test, and cost no more than their own proof
 //! (`docs/working.md`, "Where tests stand").
@@ -20,6 +21,8 @@ mod images;
 mod instructions;
 #[cfg(test)]
 mod lines;
+#[cfg(test)]
+mod marked;
 #[cfg(test)]
 mod pairs;
 #[cfg(test)]

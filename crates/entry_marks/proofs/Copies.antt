@@ -6,6 +6,7 @@ use Rattle.window_model.specs.declared.Entry.{Entry}
 use Rattle.window_model.specs.Order.{is_done}
 use Rattle.secret_marks.specs.declared.EntryMarks.{EntryMarks}
 use Rattle.secret_marks.specs.Marks.{Marks, leaves_as, left}
+use Rattle.secret_marks.proofs.Retire.{left_none}
 use Rattle.entry_marks.specs.declared.oldest.LeavingEntry.{LeavingEntry}
 use Rattle.entry_marks.specs.Oldest.{IsCopied, done_heads}
 use Rattle.entry_marks.proofs.Before.{drop_step}
@@ -87,13 +88,6 @@ leaves_next base count window marks m k e mark lt here here2 =
     ap (λ n. left base n (drop k window) m (drop k marks)) more
     ∙ ap₂ (λ w o. left base (suc (count - (k + 1))) w m o) (drop_step window k (k + 1) e refl here) (drop_step marks k (k + 1) mark refl here2)
 
--- where no entry is left to leave, the marks stay
-all_left : (base : ℕ) (window : List Entry) (m : Marks) (marks : List EntryMarks) → left base 0 window m marks ≡ m
-all_left base [] m [] = refl
-all_left base [] m (mark ∷ marks) = refl
-all_left base (e ∷ window) m [] = refl
-all_left base (e ∷ window) m (mark ∷ marks) = refl
-
 -- where no entry leaves, the marks are as they were
 pub none_leaves : (base n : ℕ) (window : List Entry) (m : Marks) (marks : List EntryMarks) → n ≡ 0 → left base n window m marks ≡ m
-none_leaves base n window m marks none = ap (λ n. left base n window m marks) none ∙ all_left base window m marks
+none_leaves base n window m marks none = ap (λ n. left base n window m marks) none ∙ left_none base window m marks

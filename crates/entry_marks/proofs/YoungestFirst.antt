@@ -6,6 +6,7 @@ use Rattle.std.proofs.Math.Seq.{set-append_seam, take-append_seam}
 use Rattle.std.proofs.lemmas.Option.{get_or_from_slice_get, slice_get_within}
 use Rattle.window_model.specs.declared.Entry.{Entry}
 use Rattle.window_model.specs.Order.{before_at, sources}
+use Rattle.window_model.proofs.Lists.{get_seam}
 use Rattle.secret_marks.specs.declared.EntryMarks.{EntryMarks}
 use Rattle.secret_marks.specs.declared.WordMarks.{WordMarks}
 use Rattle.secret_marks.specs.Words.{either}
@@ -53,10 +54,6 @@ seam xs k x at ys =
     ∙ ap (λ y. (take k xs ++ y ∷ []) ++ ys) (get_or_from_slice_get xs k x x at)
     ∙ append_assoc (take k xs) (x ∷ []) ys
 
-get_seam : {A : Type 0} (xs : List A) (x : A) (ys : List A) → slice_get (xs ++ x ∷ ys) (length xs) ≡ Some x
-get_seam [] x ys = refl
-get_seam (y ∷ xs) x ys = get_seam xs x ys
-
 module _ (cycle base : ℕ) (m : Marks) (window : List Entry) (owns : List EntryMarks) where
   -- the marks once the entries from position k on have those with which Issue leaves them
   abbrev pub left_from : ℕ → List EntryMarks
@@ -101,7 +98,7 @@ module _ (cycle base : ℕ) (m : Marks) (window : List Entry) (owns : List Entry
     gets now is =
         let (own, own_is) = own_here in
         let shape = is ∙ unwalked own own_is in
-        let at_k : slice_get now k ≡ Some own = ap₂ (λ xs i. slice_get xs i) shape (sym count) ∙ get_seam (take k owns) own rest in
+        let at_k : slice_get now k ≡ Some own = ap₂ (λ xs i. slice_get xs i) shape (sym count) ∙ get_seam (take k owns) rest own in
         let older : take k now ≡ take k owns = ap₂ (λ xs i. take i xs) shape (sym count) ∙ take-append_seam (take k owns) (own ∷ rest) in (
           own,
           at_k,

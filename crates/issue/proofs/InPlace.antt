@@ -26,6 +26,7 @@ use Rattle.refinement.specs.InFlight.{InFlight}
 use Rattle.refinement.specs.Refines.{Refines}
 use Rattle.refinement.specs.Stations.{left_held}
 use Rattle.window_model.proofs.Serials.{all_at, all_left, all_right}
+use Rattle.window_model.proofs.Lists.{set_here}
 use Rattle.issue.specs.declared.decide.Put.{Put}
 use Rattle.issue.specs.Puts.{ArePuts, IsPut, known_in, placed, width_for}
 use Rattle.issue.proofs.Turning.{issues_here, placed_push}
@@ -49,12 +50,6 @@ ties_more d entries held queues now held_now queues_now put t k =
     (λ p s. refines_issued (record p { version = d.version; tracked = loads_pass d; window = now; held = held_now; queues = queues_now }) put.position k.old new (width_for (byte_count k.old)) (t p s) k.here k.waits k.issues k.stay (λ t. k.tracks))
 
 -- ---- entries that are put in place
-
--- an entry that comes in a place stands there
-get_set : (es : List Entry) (i : ℕ) (e e2 : Entry) → slice_get es i ≡ Some e → slice_get (slice_set es i e2) i ≡ Some e2
-get_set [] i e e2 h = absurd (cc)
-get_set (x ∷ es) zero e e2 h = refl
-get_set (x ∷ es) (suc i) e e2 h = get_set es i e e2 h
 
 -- at a position of the window one entry alone stands
 one_there : (es : List Entry) (i : ℕ) (a b : Entry) → slice_get es i ≡ Some a → slice_get es i ≡ Some b → a ≡ b
@@ -188,7 +183,7 @@ module _ (d : Desc) (puts : List Put) (rob : Ring) (stations : Stations) (queues
     ring_is = h here.old here.here
 
     new_there : slice_get r2.entries put.position ≡ Some new
-    new_there = ap (λ (r : Ring). slice_get r.entries put.position) ring_is ∙ get_set r.entries put.position here.old new here.here
+    new_there = ap (λ (r : Ring). slice_get r.entries put.position) ring_is ∙ set_here r.entries put.position here.old new here.here
 
     -- the position of the entry that was put is in the window that has it
     pub still_within : put.position < length r2.entries

@@ -27,7 +27,7 @@ use Rattle.machine_facts.proofs.SizedWindow.{thinner}
 -- ---- a store that is cleared, and what is left of the younger entries
 
 -- a window of which only the oldest entries are left has evolved
-evolves_front : (front back : List Entry) → Evolves (front ++ back) front
+pub evolves_front : (front back : List Entry) → Evolves (front ++ back) front
 evolves_front [] back = tt
 evolves_front (e ∷ front) back = (goes_same e, evolves_front front back)
 

@@ -15,12 +15,11 @@ use Rattle.window_model.specs.declared.Entry.{Entry}
 use Rattle.window_model.specs.declared.Item.{Item}
 use Rattle.window_model.specs.declared.Checkpoint.{Checkpoint}
 use Rattle.window_model.specs.declared.Miss.{Miss}
-use Rattle.window_model.specs.declared.Progress.{Progress}
-use Rattle.window_model.specs.declared.Progress.TheVariants.{Waiting, Busy, Done}
+use Rattle.window_model.specs.declared.Progress.TheVariants.{Waiting, Done}
 use Rattle.window_model.specs.declared.Target.{Target}
 use Rattle.window_model.specs.State.{Machine, opening}
 use Rattle.window_model.specs.Order.{Place, first, each_from, is_waiting, is_faulty, is_store}
-use Rattle.window_model.specs.Fill.{fill, complete, completed, completes, completes_at, is_due, lines}
+use Rattle.window_model.specs.Fill.{fill, complete, completed, completes, is_due, lines}
 use Rattle.window_model.specs.Resolve.{resolve, Learnt, learn, learn_as, squash, keep}
 use Rattle.window_model.specs.Around.{Around, around}
 use Rattle.window_model.specs.Access.{Request, cache_after, line_at, misses_after, prefetched, register, requests, second_after}
@@ -28,7 +27,7 @@ use Rattle.window_model.specs.Ports.{LoadPort, may_at}
 use Rattle.window_model.specs.Issue.{Begun, issue, issue_entry, access_of, after_load}
 use Rattle.window_model.specs.Rename.{rename, rename_one, renamed, fits, at_once}
 use Rattle.window_model.specs.Fetch.{fetch, fetch_one, item_at, instr_at, kind_at}
-use Rattle.window_model.proofs.Booleans.{below}
+use Rattle.window_model.proofs.Booleans.{below, completes_waits}
 use Rattle.window_model.proofs.Lists.{each_then, each_map, each_join, each_left, each_right, each_push, each_replicate, filter_shortens}
 use Rattle.window_model.proofs.Placing.{Taken, resolve_keep, taught}
 use Rattle.window_model.proofs.Counts.{Evolves, evolves_same, evolves_thins, map_evolves, place_evolves, completed_goes}
@@ -83,18 +82,12 @@ sized_fill d x i s =
       registers = f.registers;
     })
 
--- an entry that completes isn't waiting
-not_waiting : (t : Progress) (cycle : ℕ) → completes_at cycle t ≡ true → is_waiting t ≡ false
-not_waiting (Busy due) cycle h = refl
-not_waiting Waiting cycle h = absurd (cc)
-not_waiting Done cycle h = refl
-
 complete_entry : (d : Desc) (ram : Ram) (cycle : ℕ) (e : Entry) → IsEntry d ram e → IsEntry d ram (completed cycle e)
 complete_entry d ram cycle e h = by_due (completes cycle e) refl
   where
     by_due : (b : Bool) → completes cycle e ≡ b → IsEntry d ram (if b then record e { state = Done } else e)
     by_due false q = h
-    by_due true q = record { kind = h.kind; memory = h.memory; outcome = h.outcome; parts = λ st. h.parts st ∙ ap not (not_waiting e.state cycle q); together = h.together }
+    by_due true q = record { kind = h.kind; memory = h.memory; outcome = h.outcome; parts = λ st. h.parts st ∙ ap not (completes_waits e.state cycle q); together = h.together }
 
 -- a machine keeps its sizes over Complete
 pub sized_complete : (d : Desc) (x : Machine) → IsDesc d → Sized d x → Sized d (complete x).machine

@@ -1,5 +1,5 @@
 -- Retire keeps sizes and entries, and leaves memory where it is.
-use Rattle.std.proofs.Common.{◌≡◌, ℕ, Bool, true, false, not, ◌&&◌, refl, List, ◌∷◌, length, Option, Some, None, ap, sym, ◌∙◌, subst}
+use Rattle.std.proofs.Common.{◌≡◌, ℕ, true, not, List, ◌∷◌, length, Option, Some, None, ap, sym, ◌∙◌, subst}
 use Rattle.std.specs.Prelude.{is_some}
 use Rattle.std.specs.List.{AllByRecursion as Each}
 use Rattle.rv_types.specs.Memory.{Ram, store_fault}
@@ -12,7 +12,7 @@ use Rattle.window_model.specs.declared.Entry.{Entry}
 use Rattle.window_model.specs.declared.Outcome.{Outcome}
 use Rattle.window_model.specs.Shape.{SameShape}
 use Rattle.window_model.specs.State.{Machine}
-use Rattle.window_model.specs.Order.{is_store, is_done, is_waiting, has_address, has_data, value_of, fault_of}
+use Rattle.window_model.specs.Order.{is_store, is_done, has_address, has_data, value_of, fault_of}
 use Rattle.window_model.specs.Retire.{retire, head_leaves, addr_of, lines_in, stored_of, byte_count, may_leave, trap_of}
 use Rattle.window_model.proofs.Booleans.{both, done_waits}
 use Rattle.window_model.proofs.Lists.{each_then}
@@ -35,13 +35,9 @@ fault_is ram ram2 width (Some o) k h = h ∙ sym (same_fault _ _ ram ram2 o.addr
 over_shape : (d : Desc) (ram ram2 : Ram) → SameShape ram ram2 → (e : Entry) → IsEntry d ram e → IsEntry d ram2 e
 over_shape d ram ram2 k e h = record { kind = h.kind; memory = λ s a. fault_is ram ram2 (byte_count e) e.outcome k (h.memory s a); outcome = h.outcome; parts = h.parts; together = h.together }
 
--- a store that doesn't wait has its address
-both_there : (a c w : Bool) → (a && c) ≡ not w → w ≡ false → a ≡ true
-both_there true c w h q = refl
-both_there false c w h q = absurd (cc)
-
+-- the address part of a store that is Done has issued, since the store doesn't wait
 pub stored_at : (e : Entry) → HasParts e → is_store e.item.kind ≡ true → is_done e.state ≡ true → has_address e ≡ true
-stored_at e h s l = both_there (has_address e) (has_data e) (is_waiting e.state) (h s) (done_waits e.state l)
+stored_at e h s l = (both (has_address e) (has_data e) (h s ∙ ap not (done_waits e.state l))).0
 
 -- ---- what a head leaves
 
@@ -50,8 +46,8 @@ record Lies (d : Desc) (ram : Ram) (x : Machine) : Type 0 where
   sized : Sized d x
   shape : SameShape ram x.ram
 
--- a store that may retire writes inside memory
-no_fault : (ram : Ram) (width : ℕ) (o : Option Outcome) → FaultIs ram width o → is_some o ≡ true → fault_of o ≡ None → store_fault ram (addr_of o) width ≡ None
+-- memory takes what a store writes whose outcome fits memory and has no fault
+pub no_fault : (ram : Ram) (width : ℕ) (o : Option Outcome) → FaultIs ram width o → is_some o ≡ true → fault_of o ≡ None → store_fault ram (addr_of o) width ≡ None
 no_fault ram width None h s f = absurd (cc)
 no_fault ram width (Some o) h s f = sym h ∙ f
 

@@ -4,8 +4,6 @@ use Rattle.std.specs.Prelude.{if◌then◌else◌, reverse, is_some}
 use Rattle.std.specs.List.{AllByRecursion as Each}
 use Rattle.rv_types.specs.Memory.{Code}
 use Rattle.rv_types.specs.declared.End.{End}
-use Rattle.rv_types.specs.declared.Kind.{Kind}
-use Rattle.rv_types.specs.declared.Kind.TheVariants.{Store, Call}
 use Rattle.machine_desc.specs.declared.Desc.{Desc}
 use Rattle.window_model.specs.declared.Entry.{Entry}
 use Rattle.window_model.specs.declared.Progress.{Progress}
@@ -17,7 +15,7 @@ use Rattle.window_model.specs.Cycle.{begins_cycle, cycle}
 use Rattle.window_model.specs.Fetch.{fetch}
 use Rattle.window_model.specs.Fill.{complete, completed, completes}
 use Rattle.window_model.specs.Issue.{Begun, after_load, begin_as, issue, issue_entry}
-use Rattle.window_model.specs.Order.{Place, each_from, is_done, is_waiting}
+use Rattle.window_model.specs.Order.{Place, each_from, is_waiting}
 use Rattle.window_model.specs.Rename.{rename, renamed}
 use Rattle.window_model.specs.Retire.{retire, unless_ended}
 use Rattle.window_model.specs.State.{Machine, nothing, then_does}
@@ -25,6 +23,7 @@ use Rattle.window_model.proofs.Clearing.{clear_keep}
 use Rattle.window_model.proofs.Issuing.{Begins, Comes, Remains, begin_comes, by_issue, gone_parts}
 use Rattle.window_model.proofs.Quiet.{at_retire, cycle_is}
 use Rattle.window_model.proofs.Walks.{fetch_keep, rename_keep}
+use Rattle.window_model.proofs.Booleans.{done_waits}
 use Rattle.machine_facts.specs.Timely.{PartsDue}
 use Rattle.committed_state.specs.Computed.{Bank}
 use Rattle.committed_state.specs.Consistent.{FitsState, EntryInvariant}
@@ -36,6 +35,7 @@ use Rattle.secret_marks.specs.Marks.{Marks, goes_mark, is_at, issued_from, issue
 use Rattle.secret_marks.specs.Shown.{resolved_shown, shown_by}
 use Rattle.secret_marks.specs.Shows.{outcome_marked}
 use Rattle.secret_marks.specs.Watch.{Watched, then_watches, watch_cycle, watch_fetch, watch_issue, watch_retire}
+use Rattle.secret_marks.proofs.Retire.{marks_place}
 use Rattle.entry_marks.proofs.Copies.{none_leaves}
 use Rattle.entry_marks.proofs.Fitting.{retire_went}
 use Rattle.marked_core.specs.InStep.{IssuedBy, NotYet}
@@ -134,18 +134,13 @@ cut_unexposed (suc n) (e ∷ window) (mark ∷ marks) h = (h.0, cut_unexposed n 
 
 -- ---- Retire
 
-leaves_window : (k : Kind) (base : ℕ) (e : Entry) (mark : EntryMarks) (rest : List EntryMarks) (m : Marks) → (leaves_as k base e mark rest m).window ≡ rest
-leaves_window Store base e mark rest m = refl
-leaves_window Call base e mark rest m = refl
-leaves_window _ base e mark rest m = refl
-
 left_unexposed : (base : ℕ) (gone rest : List Entry) (m : Marks) (marks : List EntryMarks) → m.window ≡ marks → Unexposed (gone ++ rest) marks →
     Unexposed rest (left base (length gone) (gone ++ rest) m marks).window
 left_unexposed base [] rest m marks e h =
     subst (λ (n : Marks). Unexposed rest n.window) (sym (none_leaves base 0 rest m marks refl)) (subst (Unexposed rest) (sym e) h)
 left_unexposed base (y ∷ gone) rest m [] e h = subst (Unexposed rest) (sym e) (no_mark rest)
 left_unexposed base (y ∷ gone) rest m (mark ∷ marks) e h =
-    left_unexposed base gone rest (leaves_as y.item.kind base y mark marks m) marks (leaves_window y.item.kind base y mark marks m) h.1
+    left_unexposed base gone rest (leaves_as y.item.kind base y mark marks m) marks (marks_place y.item.kind base y mark marks m) h.1
 
 retire_unexposed : (d : Desc) (x : Machine) (m : Marks) → Unexposed x.window m.window → let t = watch_retire d x m in Unexposed t.machine.window t.marks.window
 retire_unexposed d x m h =
@@ -172,11 +167,6 @@ fits_no_wait Done e f h = refl
 pub none_waits : (d : Desc) (code : Code) (s : Bank) (now : ℕ) (b es : List Entry) → Along (EntryInvariant d code s now) b es → Each NoWait es
 none_waits d code s now b [] h = tt
 none_waits d code s now b (e ∷ es) h = (fits_no_wait e.state e h.0.state, none_waits d code s now (e ∷ b) es h.1)
-
-done_no_wait : (s : Progress) → is_done s ≡ true → is_waiting s ≡ false
-done_no_wait Waiting h = absurd (cc)
-done_no_wait (Busy due) h = refl
-done_no_wait Done h = refl
 
 -- what Issue makes of an entry is resolved where the entry is, and has then issued when that has
 abbrev Stays : Entry → Entry → Type 0
@@ -301,7 +291,7 @@ module _ (d : Desc) (code : Code) (x : Machine) (m : Marks) where
       resolved_shown (cycle d code x).machine.window (watch_cycle d code x m).marks.window ≡ None
   cycle_unexposed w i p h =
       let y = (retire d (at_retire d x)).machine in
-      let rest = found_by_issue NoWait (λ e h k. refl) (λ d b e may h k. done_no_wait e.state may.done) (λ e h. h) d x w in
+      let rest = found_by_issue NoWait (λ e h k. refl) (λ d b e may h k. done_waits e.state may.done) (λ e h. h) d x w in
       let u : Unexposed (cycle d code x).machine.window (watch_cycle d code x m).marks.window =
       subst (λ (z : Machine). Unexposed z.window (watch_cycle d code x m).marks.window) (sym (cycle_is d code x))
       (subst (λ (k : Marks). Unexposed (unless_ended y.end (nothing y) (then_does (issue d y) (λ z. then_does (rename d z) (fetch d code)))).machine.window k.window) (halves d code x m)

@@ -19,14 +19,14 @@ use Rattle.window_model.specs.Dependence.{bit_index, bit_set}
 use Rattle.window_model.specs.Order.{Place, first, first_from, fault_of, has_address, is_load, is_store}
 use Rattle.window_model.specs.Resolve.{freed_from}
 use Rattle.window_model.specs.Retire.{addr_of, byte_count}
-use Rattle.window_model.proofs.Clearing.{clear_parts}
+use Rattle.window_model.proofs.Clearing.{clear_parts, passed_load}
 use Rattle.window_model.proofs.Places.{Found, found}
+use Rattle.window_model.proofs.Booleans.{and_tests}
 use Rattle.noninterference.specs.Alike.{Alike, shown, shown_after, without_outcome}
 use Rattle.noninterference.specs.Laws.{ClearTellsNothing}
 use Rattle.noninterference.specs.Outcomes.{OutcomesAgree, SameEntry, SameOutcome, SameOutcomes, but_value}
 use Rattle.noninterference.proofs.Letting.{same_covers}
 use Rattle.noninterference.proofs.Looking.{any_same_list, same_rest}
-use Rattle.noninterference.proofs.May.{and_tests}
 use Rattle.noninterference.proofs.Operand.{same_address}
 use Rattle.noninterference.proofs.Places.{SamePlaces, SameShape, SeenAlike, first_same, left_over, peel, reverse_alike, same_length}
 
@@ -50,13 +50,6 @@ addr_but (Some o) None h = absurd (cc)
 load_alike : (k : Kind) (model : SttModel) (b : List Entry) (e e2 : Entry) → is_load k ≡ true → SameOutcome k model b e e2 → (addr_of e.outcome ≡ addr_of e2.outcome) × (fault_of e.outcome ≡ fault_of e2.outcome)
 load_alike Load model b e e2 q h = addr_but e.outcome e2.outcome h.0
 load_alike _ model b e e2 q h = absurd (cc)
-
-passed_load : (store load : Entry) → passed store load ≡ true → is_load load.item.kind ≡ true
-passed_load store load h = by_kind (is_load load.item.kind) _ h
-  where
-    by_kind : (l b : Bool) → (l && b) ≡ true → l ≡ true
-    by_kind true b h = refl
-    by_kind false b h = absurd (cc)
 
 -- two stores that cover the same bytes find the same loads violated
 module _ (e e2 : Entry) (h : without_outcome e ≡ without_outcome e2) (same : (a : ℕ) → covers a e ≡ covers a e2) where

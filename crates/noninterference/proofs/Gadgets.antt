@@ -1,9 +1,8 @@
 -- The law at work: no secret byte shows in the trace of a program whose path doesn't load it.
-use Rattle.std.proofs.Common.{◌≡◌, ℕ, suc, ◌+◌, ◌<◌, ◌-◌, ◌%◌, ◌^◌, Bool, true, ◌&&◌, List, [], ◌∷◌, ◌++◌, Option, Some, None, refl, ap, ap₂, sym, ◌∙◌, subst, arith, lit<, false}
-use Rattle.std.specs.Prelude.{◌==◌, if◌then◌else◌, replicate, nat_le, slice_index}
+use Rattle.std.proofs.Common.{◌≡◌, ℕ, suc, ◌+◌, ◌<◌, ◌-◌, ◌^◌, true, List, [], ◌∷◌, ◌++◌, refl, ap, ap₂, sym, ◌∙◌, subst, arith, lit<}
+use Rattle.std.specs.Prelude.{◌==◌, replicate, slice_index}
 use Rattle.std.specs.List.{list_any, AllByRecursion as Each}
 use Rattle.std.proofs.lemmas.List.Elements.{All-from_recursion, recursion_from_All, All-append, All-replicate}
-use Rattle.std.proofs.lemmas.Bool.Decides.{nat_tests}
 use Rattle.rv_types.specs.Decode.{decode}
 use Rattle.rv_types.specs.Memory.{Agree}
 use Rattle.rv_types.specs.Isa.{Hart, isa_step, start}
@@ -12,25 +11,13 @@ use Rattle.machine_desc.specs.declared.Desc.{Desc}
 use Rattle.machine_desc.specs.declared.SttModel.{SttModel}
 use Rattle.machine_desc.specs.declared.SttModel.TheVariants.{Spectre, Futuristic, Off}
 use Rattle.window_model.specs.Cycle.{trace}
-use Rattle.window_model.specs.Committed.{Aligned}
 use Rattle.window_model.specs.Path.{path}
 use Rattle.window_model.specs.Taint.{protects}
-use Rattle.window_model.proofs.Worked.{code_of, memory, bounds_check, fault, store, branch, divisor, injection}
+use Rattle.window_model.proofs.Worked.{aligned_words, bounds_check, branch, code_of, divisor, fault, injection, memory, store}
 use Rattle.noninterference.specs.Gadgets.{loaded_by, HidesSecret, BoundsCheckBypass, TaintedStoreAddress, TaintedBranch, TaintedDivisor, TargetInjection, FaultShadow, FaultShadowSpectre, SpeculativeStoreBypass, store_bypass}
 use Rattle.noninterference.proofs.Runs.{same_trace, fewer}
 
 -- ---- the premises of the law
-
-aligned_if : (a b : Bool) (o : Option ℕ) (w : ℕ) → (if a && b then o else None) ≡ Some w → b ≡ true
-aligned_if true true o w h = refl
-aligned_if true false o w h = absurd (cc)
-aligned_if false b o w h = absurd (cc)
-
-aligned_words : (words : List ℕ) → Aligned (code_of words)
-unfolding code_of
-aligned_words words pc w h =
-    let t : (pc % 4 == 0) ≡ true = aligned_if (nat_le 0x10000 pc) (pc % 4 == 0) _ w h in
-    grind (arith, nat_tests)
 
 -- the addresses of the bound's bytes
 abbrev bound : List ℕ

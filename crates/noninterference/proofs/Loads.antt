@@ -1,10 +1,10 @@
 -- What the instructions of loads and stores say.
-use Rattle.std.proofs.Common.{◌≡◌, ℕ, Bool, true, false, List, Option, Some, None, refl, ap, sym, ◌∙◌, ◌||◌, subst}
-use Rattle.std.specs.Prelude.{if◌then◌else◌, ◌%◌, ◌==◌}
+use Rattle.std.proofs.Common.{◌≡◌, ℕ, Bool, true, false, List, Option, Some, None, refl, ap, sym, ◌∙◌, subst}
+use Rattle.std.specs.Prelude.{◌%◌, ◌==◌}
 use Rattle.std.specs.List.{list_any, AllByRecursion as All}
 use Rattle.rv_types.specs.Word.{word}
 use Rattle.rv_types.specs.Decode.{decode}
-use Rattle.rv_types.specs.Kind.{kind_of, op_kind}
+use Rattle.rv_types.specs.Kind.{kind_of}
 use Rattle.rv_types.specs.Regs.{reads_of}
 use Rattle.rv_types.specs.Causes.{jump_misaligned, outside_code}
 use Rattle.rv_types.specs.Memory.{Code, load_fault, range, bytes_at}
@@ -12,22 +12,22 @@ use Rattle.rv_types.specs.Path.{loads_of, unless_fault}
 use Rattle.rv_types.specs.Isa.{Effect, effect}
 use Rattle.rv_types.specs.declared.Cause.{Cause}
 use Rattle.rv_types.specs.declared.Instr.{Instr}
-use Rattle.rv_types.specs.declared.Op.{Op}
 use Rattle.rv_types.specs.declared.Kind.{Kind}
-use Rattle.rv_types.specs.declared.Kind.TheVariants.{Alu, Mul, Div, Load, Jal, Stop}
+use Rattle.rv_types.specs.declared.Kind.TheVariants.{Load, Jal, Stop}
 use Rattle.rv_types.specs.declared.Instr.TheVariants as instr
 use Rattle.rv_types.specs.declared.Op.TheVariants as op
 use Rattle.machine_desc.specs.declared.SttModel.{SttModel}
 use Rattle.window_model.specs.declared.Entry.{Entry}
-use Rattle.window_model.specs.Order.{base_of, is_load, is_store}
+use Rattle.window_model.specs.Order.{base_of, is_load}
 use Rattle.window_model.specs.Retire.{byte_count, width_in}
 use Rattle.window_model.specs.Taint.{tainted, any_tainted, address_tainted}
 use Rattle.window_model.specs.Fetch.{instr_at, kind_at}
 use Rattle.window_model.specs.Shape.{SameShape}
+use Rattle.window_model.proofs.KindTests.{jal_kind, op_is}
 use Rattle.window_model.proofs.Memory.{inside}
 use Rattle.committed_state.specs.Computed.{Bank, outcome_as}
 use Rattle.committed_state.specs.Replay.{effect_on, replayed_as}
-use Rattle.committed_state.proofs.Computed.{outcome_same}
+use Rattle.committed_state.proofs.Computed.{access_effect, is_access, outcome_same}
 use Rattle.committed_state.specs.Consistent.{IsItem}
 use Rattle.noninterference.specs.InStep.{byte}
 use Rattle.noninterference.proofs.SameBytes.{same_bytes}
@@ -43,22 +43,6 @@ load_same s s2 e e2 p i f b =
     ap (λ (f : Effect). bytes_at s2.ram f.addr w) (sym f) ∙ sym (same_bytes s.ram s2.ram a w p r.0 r.1 (subst (λ c. All (λ a. byte s.ram a ≡ byte s2.ram a) (unless_fault c (range a w))) n b)) in
     sym (outcome_same s.ram s2.ram e.item.instr p Load (effect_on s e) (effect_on s2 e2) _ _ (sym f) (λ l n. bytes n)) ∙ ap (λ i. outcome_as Load s2.ram i (effect_on s2 e2) (bytes_at s2.ram (effect_on s2 e2).addr (width_in i))) i
 
--- a test that no kind of a JAL meets, and one that no kind of an OP instruction meets
-pub jal_kind : (f : Kind → Bool) (b : Bool) (c : Cause) → f Jal ≡ false → f (Stop c) ≡ false → f (if b then Jal else Stop c) ≡ false
-jal_kind f true c j t = j
-jal_kind f false c j t = t
-
-pub op_is : (f : Kind → Bool) (o : Op) → f Mul ≡ false → f Div ≡ false → f Alu ≡ false → f (op_kind o) ≡ false
-op_is f op.Mul m d a = m
-op_is f op.Mulh m d a = m
-op_is f op.Mulhsu m d a = m
-op_is f op.Mulhu m d a = m
-op_is f op.Div m d a = d
-op_is f op.Divu m d a = d
-op_is f op.Rem m d a = d
-op_is f op.Remu m d a = d
-op_is f _ m d a = a
-
 -- the bytes that a load's instruction loads in a step are those of its access in the replay
 pub is_load_instr : (i : Instr) → kind_of i ≡ Load → (s : Bank) (e : Entry) → e.item.instr ≡ i →
     loads_of (record { pc = e.item.pc; regs = s.regs; ram = s.ram }) i ≡ unless_fault (load_fault s.ram (effect_on s e).addr (byte_count e)) (range (effect_on s e).addr (byte_count e))
@@ -66,18 +50,6 @@ is_load_instr (instr.Load op rd rs1 imm) k s e q = rw q refl
 is_load_instr (instr.Jal rd imm) k s e q = absurd (let j = jal_kind is_load (word imm % 4 == 0) jump_misaligned refl refl in let t = ap is_load k in cc)
 is_load_instr (instr.OpReg o rd rs1 rs2) k s e q = absurd (let j = op_is is_load o refl refl refl in let t = ap is_load k in cc)
 is_load_instr _ k s e q = absurd (cc)
-
--- the kind is a load's or a store's
-abbrev pub is_access : Kind → Bool
-is_access k = is_load k || is_store k
-
--- the address of a load or store comes from its base alone
-access_address : (i : Instr) → is_access (kind_of i) ≡ true → (pc a b c : ℕ) → (effect pc i a b).addr ≡ (effect pc i a c).addr
-access_address (instr.Load op rd rs1 imm) k pc a b c = refl
-access_address (instr.Store op rs1 rs2 imm) k pc a b c = refl
-access_address (instr.Jal rd imm) k pc a b c = absurd (let j = jal_kind is_access (word imm % 4 == 0) jump_misaligned refl refl in cc)
-access_address (instr.OpReg o rd rs1 rs2) k pc a b c = absurd (let j = op_is is_access o refl refl refl in cc)
-access_address _ k pc a b c = absurd (cc)
 
 -- what is no stop stands in the program, with its instruction
 pub word_of : (code : Code) (e : Entry) (f : Kind → Bool) → IsItem code e.item → ((c : Cause) → f (Stop c) ≡ false) → f e.item.kind ≡ true → (w : ℕ) × (code e.item.pc ≡ Some w) × (e.item.instr ≡ decode w) × (e.item.kind ≡ kind_of (decode w))
@@ -102,9 +74,7 @@ one_source f _ k = refl
 
 -- the address of an entry that is a load or store comes from its base alone
 pub by_base : (code : Code) (e : Entry) → IsItem code e.item → is_access e.item.kind ≡ true → (pc a b c : ℕ) → (effect pc e.item.instr a b).addr ≡ (effect pc e.item.instr a c).addr
-by_base code e item k pc a b c =
-    let w = word_of code e is_access item (λ c. refl) k in
-    let q = access_address (decode w.0) (ap is_access (sym w.3) ∙ k) pc a b c in rw w.2 q
+by_base code e item k pc a b c = (access_effect code e item k).addr pc a c b
 
 -- a load whose base is untainted has no tainted operand
 pub load_untainted : (code : Code) (model : SttModel) (b : List Entry) (e : Entry) → IsItem code e.item → is_load e.item.kind ≡ true → address_tainted model b e ≡ false → any_tainted model b e ≡ false

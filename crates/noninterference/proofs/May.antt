@@ -1,5 +1,5 @@
 -- Issue: who may issue at a port, who asks for it and who is granted one is seen alike.
-use Rattle.std.proofs.Common.{◌≡◌, ℕ, ◌+◌, Bool, true, false, not, ◌&&◌, List, [], ◌∷◌, refl, ap, ap₂, sym, ◌∙◌}
+use Rattle.std.proofs.Common.{◌≡◌, ℕ, ◌+◌, false, not, ◌&&◌, List, [], ◌∷◌, refl, ap, ap₂, sym, ◌∙◌}
 use Rattle.std.specs.Prelude.{if◌then◌else◌, nat_lt, ◌==◌}
 use Rattle.rv_types.specs.Causes.{load_misaligned, load_outside}
 use Rattle.rv_types.specs.Memory.{load_fault, range}
@@ -21,7 +21,7 @@ use Rattle.window_model.specs.Ready.{all_known, ready}
 use Rattle.window_model.specs.Retire.{byte_count}
 use Rattle.window_model.specs.Shape.{SameShape}
 use Rattle.window_model.specs.Taint.{address_tainted, any_tainted}
-use Rattle.window_model.proofs.Booleans.{not_true}
+use Rattle.window_model.proofs.Booleans.{and_tests, not_true}
 use Rattle.window_model.proofs.Memory.{same_fault}
 use Rattle.noninterference.specs.Alike.{Alike, without_outcome}
 use Rattle.noninterference.specs.Outcomes.{SameOutcomes}
@@ -29,13 +29,6 @@ use Rattle.noninterference.proofs.Effects.{address_alike}
 use Rattle.noninterference.proofs.Letting.{stores_let_alike}
 use Rattle.noninterference.proofs.Looking.{any_same_list, same_kind, same_sources, same_tainted}
 use Rattle.noninterference.proofs.Operand.{same_address, same_all_known, same_stores_done}
-
--- the second of two tests is asked where the first holds
-pub and_tests : (a a2 c c2 : Bool) → a ≡ a2 → (a ≡ true → c ≡ c2) → (a && c) ≡ (a2 && c2)
-and_tests true true c c2 p h = h refl
-and_tests false false c c2 p h = refl
-and_tests true false c c2 p h = absurd (cc)
-and_tests false true c c2 p h = absurd (cc)
 
 module _ (d : Desc) (x x2 : Machine) (r : Alike x x2) (place : SameShape x.ram x2.ram) where
   abbrev now : Around

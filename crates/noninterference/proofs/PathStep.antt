@@ -29,11 +29,12 @@ use Rattle.committed_state.specs.Links.{entry_link}
 use Rattle.committed_state.specs.Computed.{Bank, ComesTo, as_known}
 use Rattle.committed_state.specs.Replay.{bank_after, replayed}
 use Rattle.committed_state.proofs.Bytes.{some_is}
+use Rattle.committed_state.proofs.Computed.{is_access}
 use Rattle.committed_state.proofs.Heads.{item_of, goes_on}
 use Rattle.committed_state.proofs.Known.{done_has, issued_of, known_all}
 use Rattle.committed_state.proofs.Onward.{of_item}
 use Rattle.committed_state.proofs.Turn.{item_eq, step_as, replayed_next}
-use Rattle.noninterference.proofs.Loads.{is_access, word_of}
+use Rattle.noninterference.proofs.Loads.{word_of}
 use Rattle.noninterference.proofs.Paths.{path_goes}
 use Rattle.noninterference.proofs.Faults.{hart, entry_of, no_fault, passed_over}
 

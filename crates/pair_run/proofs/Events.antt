@@ -13,14 +13,10 @@ use Rattle.window_model.specs.declared.Look.{Look}
 use Rattle.window_model.specs.declared.Look.TheVariants.{Hit, Miss, Join, Second}
 use Rattle.window_model.specs.declared.Way.{Way}
 use Rattle.window_model.specs.declared.Way.TheVariants.{Taken, NotTaken, Jump}
+use Rattle.window_model.proofs.Booleans.{both}
 
 abbrev pub same : Event → Event → Bool
 same a b = ghosts.eq a b
-
-both : (a b : Bool) → (a && b) ≡ true → (a ≡ true) × (b ≡ true)
-both true true e = (refl, refl)
-both true false e = absurd (cc)
-both false b e = absurd (cc)
 
 same_look : (a b : Look) → look.ghosts.eq a b ≡ true → a ≡ b
 same_look Hit Hit e = refl

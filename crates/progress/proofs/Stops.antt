@@ -1,5 +1,5 @@
 -- A cycle in which nothing retires and the run doesn't end: Retire changes nothing, and the oldest entry may not go.
-use Rattle.std.proofs.Common.{◌≡◌, ℕ, ◌+◌, ◌≤◌, Bool, true, false, not, ◌&&◌, List, [], ◌∷◌, None, refl, ap, sym, ◌∙◌, subst, arith}
+use Rattle.std.proofs.Common.{◌≡◌, ℕ, ◌+◌, ◌≤◌, Bool, false, not, ◌&&◌, List, [], ◌∷◌, None, refl, ap, sym, ◌∙◌, subst, arith}
 use Rattle.rv_types.specs.Isa.{Step, Goes, Exits, Traps, call}
 use Rattle.rv_types.specs.declared.Kind.{Kind}
 use Rattle.rv_types.specs.declared.Kind.TheVariants.{Store, Call}
@@ -9,6 +9,7 @@ use Rattle.window_model.specs.State.{Machine}
 use Rattle.window_model.specs.Retire.{Retired, hart_of, stays, may_leave, store_waits, head_leaves, call_leaves, retire}
 use Rattle.window_model.proofs.Calls.{CallDoes, call_does}
 use Rattle.window_model.proofs.Walks.{Halts, NoTurn, HasEnded, NoHead, HeadStays, StoreWaits, retire_by}
+use Rattle.window_model.proofs.Booleans.{and_not}
 
 -- the entry may leave as the first of a cycle, and doesn't wait as a store
 abbrev pub may_go : Entry → Bool
@@ -37,18 +38,13 @@ head_retires Call d e rest x = call_retires e rest x (call (hart_of x)) (call_do
 head_retires Store d e rest x = refl
 head_retires _ d e rest x = refl
 
-waits : (l w : Bool) → w ≡ true → (l && not w) ≡ false
-waits true true h = refl
-waits false w h = refl
-waits true false h = absurd (cc)
-
 -- where no turn follows, no fewer have retired, whatever the reason is
 halted : (n : ℕ) (stored : Bool) (x : Machine) → Halts n stored x → Turned n stored x (stays x)
 halted n stored x (NoTurn q) = record { retired = omega arith; stops = λ l. absurd (omega arith) }
 halted n stored x (HasEnded e q) = record { retired = omega arith; stops = λ l s u. absurd (cc) }
 halted n stored x (NoHead q) = record { retired = omega arith; stops = λ l s u r. (refl, subst Stuck (sym q) tt) }
 halted n stored x (HeadStays e rest q l) = record { retired = omega arith; stops = λ m s u r. (refl, subst Stuck (sym q) (ap (λ b. b && not (store_waits false e)) l)) }
-halted n stored x (StoreWaits e rest q w) = record { retired = omega arith; stops = λ m s u r. (refl, subst Stuck (sym q) (waits (may_leave e) (store_waits false e) (sym (ap (λ b. store_waits b e) s) ∙ w))) }
+halted n stored x (StoreWaits e rest q w) = record { retired = omega arith; stops = λ m s u r. (refl, subst Stuck (sym q) (and_not (may_leave e) (store_waits false e) (sym (ap (λ b. store_waits b e) s) ∙ w))) }
 
 pub retire_turned : (d : Desc) (x : Machine) → Turned d.core_retire_width false x (retire d x)
 retire_turned d =

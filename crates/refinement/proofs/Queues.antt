@@ -8,6 +8,7 @@ use Rattle.lsq.specs.Queues.{older}
 use Rattle.lsq.specs.declared.store.Store.{Store as QueuedStore}
 use Rattle.queue_laws.specs.Window.{Shown, ShownClearing, ShownLoad, hides, shown_cleared, shown_clearing, shown_entry, shown_load, shown_reader, tainted_stores}
 use Rattle.visibility.specs.Point.{HasAdvanced, Point, is_hidden}
+use Rattle.visibility.proofs.Moving.{Tells}
 use Rattle.window_model.proofs.Booleans.{or_false}
 use Rattle.window_model.proofs.EntryByEntry.{along_front}
 use Rattle.window_model.proofs.Serials.{Falls}
@@ -22,7 +23,7 @@ use Rattle.refinement.proofs.Lists.{halves, map_back, map_same, map_twice, if_ma
 use Rattle.refinement.proofs.Serials.{below_is}
 use Rattle.refinement.proofs.Steps.{footprints_below}
 use Rattle.refinement.proofs.Visible.{operands_told, told}
-use Rattle.refinement.proofs.Youngest.{Tells, retired_shown, unretired_in}
+use Rattle.refinement.proofs.Youngest.{retired_shown, unretired_in}
 use Rattle.refinement.specs.Footprint.{Footprint, StoreFootprint, Terms, column, footprint_of, load_in, store_footprint, store_in}
 use Rattle.refinement.specs.Refines.{footprints, terms}
 use Rattle.refinement.specs.Roots.{base_root, source_roots, unretired}

@@ -10,6 +10,7 @@ use Rattle.stations.specs.Stations.{Station, able_as, nothing_at, source_of}
 use Rattle.stations.specs.declared.wants.Part.{Part}
 use Rattle.stations.specs.declared.wants.Wants.{Wants}
 use Rattle.visibility.specs.Point.{HasAdvanced, Point}
+use Rattle.visibility.proofs.Moving.{Tells}
 use Rattle.window_model.proofs.Booleans.{or_false}
 use Rattle.window_model.proofs.Serials.{behind_at}
 use Rattle.window_model.specs.Along.{Along, Behind, Fact}
@@ -18,7 +19,7 @@ use Rattle.window_model.specs.Ready.{all_known, gives, holds, is_known}
 use Rattle.window_model.specs.Taint.{visible}
 use Rattle.window_model.specs.declared.Entry.{Entry}
 use Rattle.refinement.proofs.Stations.{has_station}
-use Rattle.refinement.proofs.Youngest.{Tells, few_reads}
+use Rattle.refinement.proofs.Youngest.{few_reads}
 use Rattle.refinement.specs.InFlight.{InFlight, hold_in}
 use Rattle.refinement.specs.Refines.{Refines}
 use Rattle.refinement.specs.Stations.{station_of}

@@ -7,6 +7,7 @@ use Rattle.std.specs.Prelude.{map, reverse}
 use Rattle.rob_ring.specs.declared.beside.Sources.{Sources}
 use Rattle.rv_types.specs.Regs.{two}
 use Rattle.visibility.specs.Point.{HasAdvanced, HasMoved, Point, is_hidden}
+use Rattle.visibility.proofs.Moving.{Tells}
 use Rattle.window_model.proofs.Serials.{Falls, behind_at, falls, rise_head, behind}
 use Rattle.window_model.specs.Along.{Along, Behind, Fact}
 use Rattle.window_model.specs.Order.{base_of, before_at, sources, is_done, is_load}
@@ -14,7 +15,7 @@ use Rattle.window_model.specs.Serials.{Rise}
 use Rattle.window_model.specs.Taint.{tainted, visible}
 use Rattle.window_model.specs.declared.Entry.{Entry}
 use Rattle.refinement.proofs.Sources.{sources_are}
-use Rattle.refinement.proofs.Youngest.{Tells, few_reads, retired_shown, root_tells}
+use Rattle.refinement.proofs.Youngest.{few_reads, retired_shown, root_tells}
 use Rattle.refinement.specs.Roots.{root_of_source, source_roots, unretired, youngest_root}
 use Rattle.refinement.specs.Telling.{OperandsTold, TellsVisible, TellsOperands, TellsGiven, TellsTaint}
 use Rattle.refinement.specs.Waiters.{oldest_of, gives_at}

@@ -11,6 +11,7 @@ use Rattle.rv_types.specs.declared.Instr.{Instr}
 use Rattle.rv_types.specs.declared.Kind.{Kind}
 use Rattle.rv_types.specs.declared.Kind.TheVariants.{Load}
 use Rattle.visibility.specs.Point.{Point, is_hidden}
+use Rattle.visibility.proofs.Moving.{Tells}
 use Rattle.window_model.proofs.Booleans.{or_false}
 use Rattle.window_model.proofs.Serials.{Falls}
 use Rattle.window_model.proofs.Taints.{none_any, tainted_cons}
@@ -176,10 +177,6 @@ none_hidden point (e ∷ before) a r = by_writes (writes r e) (none_hidden point
         is_hidden point (if w then root_written e.item.kind e.serial (map (youngest_root before) (sources e)) else youngest_root before r) ≡ false
     by_writes true h = by_kind e.item.kind h
     by_writes false h = h r
-
--- the point tells whether an entry is visible
-abbrev pub Tells : Point → List Entry → Entry → Type 0
-Tells p before e = nat_le e.serial p.serial ≡ visible p.model before
 
 -- the youngest root is hidden exactly where the value is tainted
 pub root_tells : (p : Point) (before : List Entry) → Behind (Tells p) before → Behind Falls before → (r : ℕ) → is_hidden p.serial (youngest_root before r) ≡ tainted p.model before r

@@ -1,5 +1,5 @@
 -- The parts once an entry has taught the predictor and is marked as resolved.
-use Rattle.std.proofs.Common.{◌≡◌, ℕ, zero, suc, ◌+◌, ◌<◌, Bool, true, false, List, [], ◌∷◌, ◌++◌, length, Option, Some, None, refl, ap, ap₂, sym, ◌∙◌, subst, arith, slice_get}
+use Rattle.std.proofs.Common.{◌≡◌, ℕ, ◌+◌, ◌<◌, Bool, true, false, List, [], ◌∷◌, ◌++◌, length, Option, Some, None, refl, ap, ap₂, sym, ◌∙◌, subst, arith, slice_get}
 use Rattle.std.specs.Prelude.{◌^◌, slice_set}
 use Rattle.std.proofs.lemmas.List.{append-nil, append_assoc}
 use Rattle.std.proofs.lemmas.Option.{slice_get_within}
@@ -44,6 +44,7 @@ use Rattle.refinement.proofs.Steps.{refines_resolved, stops_at}
 use Rattle.resolve.specs.Taken.{resolving, true_next}
 use Rattle.resolve.proofs.Effects.{marked, recalled, right_is, wrong_is}
 use Rattle.window_model.specs.Serials.{Rise}
+use Rattle.window_model.proofs.Lists.{set_here}
 use Rattle.resolve.proofs.Picked.{Taken, picked, inside, taken}
 
 -- ---- which entry is picked
@@ -86,11 +87,6 @@ remembered_here : (h : Held) (So : Desc → Type 0) → Whole h → Remembered h
 remembered_here h So w each = each h.desc (ap (λ (s : Sizes). s.counters) w.made) (ap (λ (s : Sizes). s.directions) w.made) (ap (λ (s : Sizes). s.returns) w.made)
 
 -- ---- the sizes of the machine stay
-
-set_here : (w : List Entry) (i : ℕ) (e e2 : Entry) → slice_get w i ≡ Some e → slice_get (slice_set w i e2) i ≡ Some e2
-set_here [] i e e2 h = absurd (cc)
-set_here (x ∷ w) zero e e2 h = refl
-set_here (x ∷ w) (suc i) e e2 h = set_here w i e e2 h
 
 sized_marked : (d : Desc) (x : Machine) (i : ℕ) (e : Entry) → slice_get x.window i ≡ Some e → Sized d x → Sized d (marked d i e x)
 sized_marked d x i e h s =

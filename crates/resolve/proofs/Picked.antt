@@ -11,6 +11,7 @@ use Rattle.window_model.specs.Resolve.{may_resolve}
 use Rattle.window_model.proofs.Booleans.{some_of}
 use Rattle.window_model.proofs.Places.{found}
 use Rattle.window_model.proofs.Resolving.{placed}
+use Rattle.window_model.proofs.Lists.{get_seam}
 use Rattle.resolve.specs.Taken.{resolving}
 
 -- the oldest entry that may be resolved, at position i of the window
@@ -38,10 +39,6 @@ inside d w i k =
     omega (arith, all, sum, n)
 
 -- ---- the entry at its position
-
-pub get_seam : (xs ys : List Entry) (y : Entry) → slice_get (xs ++ y ∷ ys) (length xs) ≡ Some y
-get_seam [] ys y = refl
-get_seam (x ∷ xs) ys y = get_seam xs ys y
 
 -- the entry e, at position i of the window, is the oldest that may be resolved
 pub record Taken (d : Desc) (w : List Entry) (i : ℕ) (e : Entry) : Type 0 where

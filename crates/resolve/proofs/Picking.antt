@@ -13,9 +13,9 @@ use Rattle.window_model.proofs.Serials.{Falls}
 use Rattle.rob_ring.specs.Beside.{each_roots}
 use Rattle.visibility.specs.Pick.{can_resolve, pick_from}
 use Rattle.visibility.specs.Point.{HasAdvanced, Point}
+use Rattle.visibility.proofs.Moving.{Tells}
 use Rattle.refinement.proofs.Sources.{roots_are}
 use Rattle.refinement.proofs.Visible.{operands_told, told}
-use Rattle.refinement.proofs.Youngest.{Tells}
 use Rattle.refinement.specs.Roots.{source_roots, unretired}
 use Rattle.refinement.specs.Waiters.{oldest_of}
 use Rattle.resolve.specs.Taken.{PicksFirst}

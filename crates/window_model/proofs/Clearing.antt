@@ -1,16 +1,23 @@
 -- Clear at the place that it finds: the store there is cleared, and what is younger stays, or goes from a load on.
-use Rattle.std.proofs.Common.{◌≡◌, Bool, true, false, not, ◌&&◌, List, [], ◌∷◌, ◌++◌, refl, ap, sym, ◌∙◌}
+use Rattle.std.proofs.Common.{◌≡◌, Bool, true, false, not, ◌&&◌, List, [], ◌∷◌, ◌++◌, Option, Some, None, refl, ap, sym, ◌∙◌, subst, append_assoc}
+use Rattle.std.proofs.lemmas.List.{append-nil, reverse-append}
 use Rattle.std.specs.Prelude.{if◌then◌else◌, reverse}
+use Rattle.std.specs.List.{AllByRecursion as Each}
 use Rattle.machine_desc.specs.declared.Desc.{Desc}
 use Rattle.window_model.specs.declared.Entry.{Entry}
 use Rattle.window_model.specs.State.{Machine, nothing}
-use Rattle.window_model.specs.Order.{Place, first, has_address, is_store}
+use Rattle.window_model.specs.Order.{Place, first, first_from, has_address, is_load, is_store}
 use Rattle.window_model.specs.Taint.{address_tainted}
 use Rattle.machine_desc.specs.Questions.{loads_pass}
-use Rattle.window_model.specs.Clear.{clear, clear_at, clear_with, cleared_one, clears, is_violated, may_clear, violated_by, violates}
+use Rattle.window_model.specs.Clear.{clear, clear_at, clear_with, cleared_one, clears, is_violated, may_clear, passed, violated_by, violates}
 use Rattle.window_model.proofs.Booleans.{both, not_true}
 use Rattle.window_model.proofs.Counts.{Goes}
-use Rattle.window_model.proofs.Places.{Found, by_place, older_is}
+use Rattle.window_model.proofs.Lists.{each_push}
+use Rattle.window_model.proofs.Places.{by_place, older_is}
+
+-- only a load passes a store
+pub passed_load : (store load : Entry) → passed store load ≡ true → is_load load.item.kind ≡ true
+passed_load store load h = (both (is_load load.item.kind) _ h).0
 
 -- ---- what a store that may be cleared is
 
@@ -46,27 +53,51 @@ pub record Violated (p q : Place) : Type 0 where
   pub younger : p.younger ≡ reverse q.before ++ q.entry ∷ q.younger
   pub has : is_violated p.entry q.entry ≡ true
 
-stands_at : (t : List Entry → Entry → Bool) (w : List Entry) (p : Place) → Found t [] w p → w ≡ reverse p.before ++ p.entry ∷ p.younger
-stands_at t w p f = f.all ∙ ap (λ o. o ++ p.entry ∷ p.younger) (sym (older_is t w p f))
+-- no entry in the list has the property
+abbrev pub NoneHas : (Entry → Bool) → List Entry → Type 0
+NoneHas f es = Each (λ e. f e ≡ false) es
 
--- what is kept where a store is cleared alone, and where a load goes with it, Clear keeps
+-- what holds where none has the property, and of the oldest that has it, holds of the first that is found
+module _ (f : Entry → Bool) (w : List Entry) (P : Option Place → Type 0) (none : NoneHas f w → P None)
+    (some : (q : Place) → w ≡ reverse q.before ++ q.entry ∷ q.younger → f q.entry ≡ true → NoneHas f (reverse q.before) → P (Some q)) where
+  walk : (b es : List Entry) → w ≡ reverse b ++ es → NoneHas f (reverse b) → P (first_from (λ b e. f e) b es)
+  walk b [] q n = none (subst (NoneHas f) (sym (q ∙ append-nil (reverse b))) n)
+  walk b (e ∷ es) q n =
+      let more : reverse (e ∷ b) ≡ reverse b ++ e ∷ [] = reverse-append (e ∷ []) b in
+      by_test (f e) refl
+      (λ h. walk (e ∷ b) es (q ∙ sym (append_assoc (reverse b) (e ∷ []) es) ∙ ap (λ r. r ++ es) (sym more)) (subst (NoneHas f) (sym more) (each_push (λ e. f e ≡ false) (reverse b) e n h)))
+    where
+      by_test : (t : Bool) → f e ≡ t → (f e ≡ false → P (first_from (λ b e. f e) (e ∷ b) es)) → P (if t then Some (record { before = b; entry = e; younger = es }) else first_from (λ b e. f e) (e ∷ b) es)
+      by_test true h more = some (record { before = b; entry = e; younger = es }) q h n
+      by_test false h more = more h
+
+  pub by_oldest : P (first (λ b e. f e) w)
+  by_oldest = walk [] w refl tt
+
+-- what is kept where a store is cleared and no load is violated, and where the oldest that is goes, Clear keeps
 module _ (d : Desc) (P : Machine → Type 0)
-    (stays : (x : Machine) (p : Place) → Cleared d x p → P x → P (clears p x).machine)
-    (cuts : (x : Machine) (p q : Place) → Cleared d x p → Violated p q → P x → P (violates d p q x).machine) where
-  by_violated : (x : Machine) (p : Place) → Cleared d x p → P x → P (clear_with d p (violated_by p) x).machine
-  by_violated x p t h =
-      by_place (λ between e. is_violated p.entry e) p.younger (λ o. P (clear_with d p o x).machine) (stays x p t h)
-      (λ q f. cuts x p q t (record { younger = stands_at (λ between e. is_violated p.entry e) p.younger q f; has = f.has }) h)
+    (stays : (x : Machine) (p : Place) → Cleared d x p → NoneHas (is_violated p.entry) p.younger → P x → P (clears p x).machine)
+    (cuts : (x : Machine) (p q : Place) → Cleared d x p → Violated p q → NoneHas (is_violated p.entry) (reverse q.before) → P x → P (violates d p q x).machine) where
+  by_load : (x : Machine) (p : Place) → Cleared d x p → P x → P (clear_with d p (violated_by p) x).machine
+  by_load x p t h =
+      by_oldest (is_violated p.entry) p.younger (λ o. P (clear_with d p o x).machine) (λ n. stays x p t n h)
+      (λ q y v n. cuts x p q t (record { younger = y; has = v }) n h)
 
   by_store : loads_pass d ≡ true → (x : Machine) → P x → P (clear_at d (first (may_clear d) x.window) x).machine
   by_store a x h =
       by_place (may_clear d) x.window (λ o. P (clear_at d o x).machine) h
-      (λ p f. by_violated x p (record { loads_pass = a; window = stands_at (may_clear d) x.window p f; parts = clear_parts d p.before p.entry f.has }) h)
+      (λ p f.
+      let all = f.all ∙ ap (λ o. o ++ p.entry ∷ p.younger) (sym (older_is (may_clear d) x.window p f)) in
+      by_load x p (record { loads_pass = a; window = all; parts = clear_parts d p.before p.entry f.has }) h)
 
-  -- what is kept where a store is cleared alone, and where a violated load goes with it, Clear keeps
-  pub clear_keep : (x : Machine) → P x → P (clear d x).machine
-  clear_keep x h = by_passing (loads_pass d) refl
+  pub clear_spares : (x : Machine) → P x → P (clear d x).machine
+  clear_spares x h = by_passing (loads_pass d) refl
     where
       by_passing : (b : Bool) → loads_pass d ≡ b → P (if b then clear_at d (first (may_clear d) x.window) x else nothing x).machine
       by_passing true a = by_store a x h
       by_passing false a = h
+
+-- what is kept where a store is cleared alone, and where a violated load goes with it, Clear keeps
+pub clear_keep : (d : Desc) (P : Machine → Type 0) → ((x : Machine) (p : Place) → Cleared d x p → P x → P (clears p x).machine) →
+    ((x : Machine) (p q : Place) → Cleared d x p → Violated p q → P x → P (violates d p q x).machine) → (x : Machine) → P x → P (clear d x).machine
+clear_keep d P stays cuts = clear_spares d P (λ x p t n h. stays x p t h) (λ x p q t u n h. cuts x p q t u h)

@@ -21,3 +21,5 @@ pub mod Walks
 pub mod Quiet
 pub mod Telling
 pub mod Together
+pub mod LookedUp
+pub mod KindTests

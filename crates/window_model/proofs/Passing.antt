@@ -106,7 +106,8 @@ passes_leaving Spectre e l t c w = left_settled e.item.kind e.resolved e.cleared
 passes_leaving Futuristic e l t c w = let b = both (is_done e.state) _ l in left_safe e.item.kind e b.0 b.1 t c w
 passes_leaving Off e l t c w = refl
 
-uncleared_as : (k : Kind) (r c : Bool) → is_store k ≡ true → c ≡ false → settled_as k r c ≡ false
+-- a store that isn't cleared isn't settled
+pub uncleared_as : (k : Kind) (r c : Bool) → is_store k ≡ true → c ≡ false → settled_as k r c ≡ false
 uncleared_as Store r c s u = u
 uncleared_as _ r c s u = absurd (cc)
 

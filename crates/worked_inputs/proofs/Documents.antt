@@ -8,7 +8,7 @@ use Prim.Native.String.{String}
 use Rattle.toml.specs.Data.{Data, integer, string, table, Members, member, no_members, get_member, same_key}
 use Rattle.machine_desc.specs.declared.fault.DescFault.{DescFault}
 use Rattle.machine_desc.specs.Description.{Contents, document_contents}
-use Rattle.worked_inputs.proofs.Written.{description_fault}
+use Rattle.run_inputs.specs.Note.{description_fault}
 use Rattle.worked_inputs.proofs.Tables.{is_text}
 
 -- a value: a whole number, a text

@@ -8,7 +8,7 @@ use Rattle.elf_loader.specs.declared.faults.ElfFault.{ElfFault}
 use Rattle.elf_loader.specs.Fields.{half, word, has_magic}
 use Rattle.elf_loader.specs.Faults.{header_fault}
 use Rattle.elf_loader.specs.Image.{ImageText, segment_at, ram_fault, ram_after, code_of, image_of}
-use Rattle.worked_inputs.proofs.Written.{image_fault}
+use Rattle.run_inputs.specs.Note.{image_fault}
 use Rattle.worked_inputs.proofs.Tables.{all, is_text}
 use Rattle.worked_inputs.proofs.Files.{bytes_of, header_with, header, part, load}
 

@@ -11,7 +11,7 @@ use Rattle.machine_desc.specs.declared.fault.DescFault.{DescFault}
 use Rattle.machine_desc.specs.declared.keys.Key.{Key}
 use Rattle.machine_desc.specs.declared.keys.Key.TheVariants.{CoreFetchWidth, CoreRetireWidth, CoreRob, CoreStations, CoreLoads, CoreStores, CoreQueue, UnitsAlus, UnitsMulLatency, PredictorCounters, PredictorBtb, CacheSets, CacheWays, CacheLine, CacheHitLatency, CacheMissLatency, CacheMshrs, RamBase, RamSize, RamMisaligned, PredictorDepend, PredictorHistory, PredictorReturns, CacheSecondSets, CacheSecondWays, CacheSecondLatency, CachePrefetch}
 use Rattle.machine_desc.specs.Description.{key_fault, number as number_of_key}
-use Rattle.worked_inputs.proofs.Written.{description_fault}
+use Rattle.run_inputs.specs.Note.{description_fault}
 use Rattle.worked_inputs.proofs.Tables.{all, is_text}
 use Rattle.worked_inputs.proofs.Documents.{with_key}
 

@@ -1,5 +1,4 @@
 pub mod Tables
-pub mod Written
 pub mod Documents
 pub mod Keys
 pub mod Named
