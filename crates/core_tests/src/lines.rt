@@ -9,7 +9,7 @@ use window_model::{Event, Look, Progress};
 pub static ANY_ADDRESS: &str =
     "version = 2\n[core]\nfetch_width = 2\nretire_width = 2\nrob = 16\nstations = 8\nloads = 4\nstores = 4\nqueue = 8\n[units]\nalus = 2\nmul_latency = 3\n[predictor]\ncounters = 16\nbtb = 4\n[cache]\nsets = 2\nways = 2\nline = 16\nhit_latency = 2\nmiss_latency = 10\nmshrs = 2\n[ram]\nbase = 65536\nsize = 65536\nmisaligned = 1\n[stt]\nmodel = \"spectre\"\n";
 
-/// The same with one line in the cache, and two in a second level.
+/// The example description with accesses at any address, one line in the cache, and two in a second level.
 pub static TWO_LEVELS: &str =
     "version = 2\n[core]\nfetch_width = 2\nretire_width = 2\nrob = 16\nstations = 8\nloads = 4\nstores = 4\nqueue = 8\n[units]\nalus = 2\nmul_latency = 3\n[predictor]\ncounters = 16\nbtb = 4\n[cache]\nsets = 1\nways = 1\nline = 16\nhit_latency = 2\nmiss_latency = 10\nmshrs = 2\nsecond_sets = 1\nsecond_ways = 2\nsecond_latency = 5\n[ram]\nbase = 65536\nsize = 65536\nmisaligned = 1\n[stt]\nmodel = \"spectre\"\n";
 

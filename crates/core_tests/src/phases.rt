@@ -170,7 +170,7 @@ fn nothing_is_in_flight_at_first(rt: HostRuntime) -> Result<(), Fail> {
     Ok(())
 }
 
-// They do over both tables, under this description with four words fetched a cycle.
+// The flights go as worked over both tables, under this description with four words fetched a cycle.
 fn go_under(rt: &impl Abort, alloc: Global, text: &str, flights: &[Flight]) -> Result<(), Fail> {
     for flight in flights {
         let desc = changed(rt, alloc, text, &[WIDE, model_of(flight.model)])?;
@@ -180,7 +180,7 @@ fn go_under(rt: &impl Abort, alloc: Global, text: &str, flights: &[Flight]) -> R
     Ok(())
 }
 
-// They do under the example description in this version.
+// The flights go as worked under the example description in this version.
 fn go_as_worked(
     rt: &impl Abort,
     alloc: Global,

@@ -21,7 +21,7 @@ pub enum Word {
     Sum,
 }
 
-/// Its instruction.
+/// The instruction of a word.
 pub fn instr_of(word: Word) -> Instr {
     let rs1 = Reg { number: 1 };
     match word {

@@ -16,7 +16,7 @@ fn jump(rd: u8, rs1: u8) -> Instr {
     }
 }
 
-// It comes from 0x10000.
+// An item that was fetched from the address 0x10000.
 fn item(kind: Kind, instr: Instr) -> Item {
     Item {
         pc: 0x10000,

@@ -78,7 +78,7 @@ pub fn goes(rt: &impl Abort, alloc: Global, case: &Case<'_>) -> Result<(), Fail>
 /// A trace of 100 cycles: what is changed in the description, the code, the data, the status and the trace.
 pub type Traced<'a> = (&'a [Change<'a>], &'a [u32], &'a [u8], u8, &'a str);
 
-/// Each of these traces is so.
+/// The trace of each row is what the row says.
 pub fn all_traced(rt: &impl Abort, alloc: Global, rows: &[Traced<'_>]) -> Result<(), Fail> {
     for (changes, code, data, status, out) in rows {
         let case = Case {

@@ -20,7 +20,7 @@ pub struct Run {
     pub trace: &'static str,
 }
 
-// Each of these runs goes so.
+// Each run has the status and the trace that its row says.
 fn all_go(rt: &impl Abort, alloc: Global, runs: &[Run]) -> Result<(), Fail> {
     for wanted in runs {
         let words = ["trace", "d.toml", "p.elf", "--cycles", wanted.cycles];

@@ -72,7 +72,7 @@ fn refuse_description(rt: &impl Abort, alloc: Global, text: &[u8], note: &str) -
     all_refuse(rt, alloc, &DESCRIBED, reads, (4, note))
 }
 
-// These words end as the exit of two instructions does.
+// A run of these words ends as the exit of two instructions does.
 fn exits(rt: &impl Abort, alloc: Global, words: &[&str], reads: Reads<'_>) -> Result<(), Fail> {
     let left = run(alloc, words, reads, NOTHING)?;
     assert_same(rt, &left.note.as_slice(), &b"".as_slice());

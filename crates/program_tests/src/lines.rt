@@ -2,7 +2,7 @@
 //! independent model wrote (`tools/evaluate/runs/README.md`, which has these and more by the same names).
 use crate::evaluated::Run;
 
-/// The runs.
+/// Runs of accesses in two lines, of a second level and of the prefetch.
 pub static RUNS: [Run; 5] = [
     Run {
         name: "memory_and_second",

@@ -54,7 +54,7 @@ const SHORT: [(&str, &[u32], u8, &str); 3] = [
     ("6", &test_programs::ENDLESS, 3, traces::ENDLESS),
 ];
 
-// This case goes so under both models.
+// A case comes to what it says under both models.
 fn goes_under_both(rt: &impl Abort, alloc: Global, case: &Case<'_>) -> Result<(), Fail> {
     goes(rt, alloc, case)?;
     let other = Case {

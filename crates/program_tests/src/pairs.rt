@@ -225,7 +225,7 @@ fn told_of(rt: &impl Abort, alloc: Global, one: State, two: State) -> Result<(),
     Ok(())
 }
 
-// Each two of them are.
+// Each two of these states are told apart where they differ.
 fn all_told_of(rt: &impl Abort, alloc: Global, states: &[State]) -> Result<(), Fail> {
     for one in states {
         for two in states {

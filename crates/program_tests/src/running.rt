@@ -19,9 +19,9 @@ pub struct Reads<'a> {
 /// What is to fail, by its number, 0 for nothing.
 #[derive(Clone, Copy)]
 pub struct Failures {
-    /// A read.
+    /// The read that fails.
     pub read: u64,
-    /// A put of the output, which lets so many bytes go out before.
+    /// The put of the output that fails, which lets so many bytes go out before.
     pub put: u64,
     pub sent: usize,
     /// A put of the note, which lets so many bytes go out before.
@@ -29,7 +29,7 @@ pub struct Failures {
     pub noted: usize,
 }
 
-/// Nothing fails.
+/// No read and no put fails.
 pub const NOTHING: Failures = Failures {
     read: 0,
     put: 0,

@@ -35,10 +35,10 @@ const STORE_BYPASS: [u32; 11] = [
     0x0000_0073,
 ];
 
-// Version 2.
+// The description is one of version 2.
 const VERSION_2: Change<'static> = ("[core]", "version = 2\n[core]");
 
-// Loads pass stores.
+// The description lets loads pass stores.
 const PASSING: Change<'static> = ("[predictor]", "[predictor]\ndepend = 16");
 
 const PASSES: [Traced<'static>; 2] = [

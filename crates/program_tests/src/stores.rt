@@ -7,7 +7,7 @@ use crate::running::{NOTHING, Reads, run};
 use crate::texts::{Change, changed};
 use std::test::Fail;
 
-/// Version 2.
+/// The description is one of version 2.
 const VERSION_2: Change<'static> = ("[core]", "version = 2\n[core]");
 
 const TRACES: [Traced<'static>; 6] = [

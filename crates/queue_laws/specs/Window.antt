@@ -123,8 +123,8 @@ shown_clearing e = record { serial = e.serial; known_from = e.addr_due; cleared 
 abbrev pub clearings_in : List Entry → List ShownClearing
 clearings_in es = map shown_clearing (filter (λ e. is_store e.item.kind) es)
 
--- of each load the queues hold what it reads and when it issued, and of each store when its address became known, and
--- whether it is cleared
+-- the queues hold what each load reads and when it issued, and of each store when its address became known, and whether
+-- it is cleared
 pub record Tracks (q : Queues) (window : List Entry) : Type 0 where
   pub loads : map shown_load q.loads ≡ readers_in window
   pub stores : map shown_cleared q.stores ≡ clearings_in window

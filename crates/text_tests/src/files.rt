@@ -39,7 +39,7 @@ const READS: [(&str, usize, &str); 6] = [
     ("a", 9, "abc"),
 ];
 
-// Of files that never fail.
+// Reads of files that never fail: the name, the most bytes, and what comes of it.
 const NEVER: [(&str, usize, &str); 3] = [("a", 3, "abc"), ("a", 2, "too long"), ("c", 0, "")];
 
 #[test]
