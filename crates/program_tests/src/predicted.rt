@@ -3,7 +3,7 @@
 //! names).
 use crate::evaluated::Run;
 
-/// The runs.
+/// Runs with the return stack, with global history, and with every other setting.
 pub static RUNS: [Run; 4] = [
     Run {
         name: "return_by_stack",
