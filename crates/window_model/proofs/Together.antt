@@ -15,8 +15,8 @@ use Rattle.window_model.specs.Order.{is_store, has_address, has_data, sources, b
 use Rattle.window_model.specs.Ready.{ready, all_known}
 use Rattle.window_model.specs.MayIssue.{Asks, asks_by_parts, effect_of, may_issue}
 use Rattle.window_model.specs.Ports.{AddressPort, DataPort, asking, is_granted, may_at, part_may, port_of, same_port}
-use Rattle.window_model.specs.Issue.{Begun, if_granted, issue_entry, issue_store, issue_whole, with_address, with_data}
-use Rattle.window_model.specs.inner.Issue.{data_events, parts_as, parts_with}
+use Rattle.window_model.specs.Issue.{Begun, if_granted, issue_entry, issue_store, issue_whole, parts_with, with_address, with_data}
+use Rattle.window_model.specs.inner.Issue.{data_events, parts_as}
 
 -- ---- what a part asks for
 

@@ -134,13 +134,17 @@ store_in_one d now before e =
     let both = is_granted d now AddressPort before e && is_granted d now DataPort before e in
     if_granted both (λ e. with_data now f (with_address now f e)) (event.Agu e.serial ∷ []) e
 
--- a store of version 2 issues by parts, each with its event: those that are granted their ports, the address first
+-- a store of this effect by whether each part is granted its port, the address first, with these events of its data
+abbrev pub parts_with : Bool → Bool → List Event → Around → Effect → Entry → Begun
+parts_with address datum events now f e =
+    let a = if_granted address (with_address now f) (event.Agu e.serial ∷ []) e in
+    let b = if_granted datum (with_data now f) events a.entry in
+    record { entry = b.entry; events = a.events ++ b.events }
+
+-- a store of version 2 issues by parts, each with its event: those that are granted their ports
 abbrev pub store_by_parts : Desc → Around → List Entry → Entry → Begun
 store_by_parts d now before e =
-    let f = effect_of now.regs before e in
-    let a = if_granted (is_granted d now AddressPort before e) (with_address now f) (event.Agu e.serial ∷ []) e in
-    let b = if_granted (is_granted d now DataPort before e) (with_data now f) (event.Std e.serial ∷ []) a.entry in
-    record { entry = b.entry; events = a.events ++ b.events }
+    parts_with (is_granted d now AddressPort before e) (is_granted d now DataPort before e) (event.Std e.serial ∷ []) now (effect_of now.regs before e) e
 
 -- what a store becomes in its version
 abbrev pub issue_store : Desc → Around → List Entry → Entry → Begun
