@@ -9,7 +9,8 @@ use Rattle.window_model.specs.declared.Miss.{Miss}
 use Rattle.window_model.specs.State.{Machine}
 use Rattle.window_model.specs.Around.{Around, around}
 use Rattle.window_model.specs.Order.{Place, first}
-use Rattle.window_model.specs.Access.{Access, Line, line_behind, prefetched, request, requests}
+use Rattle.window_model.specs.declared.lookup.Line.{Line}
+use Rattle.window_model.specs.Access.{Access, line_behind, prefetched, request, requests}
 use Rattle.window_model.specs.Ports.{DivPort, LoadPort, may_at}
 use Rattle.window_model.specs.Issue.{access_of, after_load, divider_after, issue, taken_for}
 use Rattle.window_model.proofs.Issuing.{by_load, by_prefetched, looked}

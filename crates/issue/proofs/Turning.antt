@@ -16,7 +16,9 @@ use Rattle.window_model.specs.declared.Event.TheVariants as event
 use Rattle.window_model.specs.declared.Outcome.{Outcome}
 use Rattle.window_model.specs.Around.{Around}
 use Rattle.window_model.specs.State.{lines_of}
-use Rattle.window_model.specs.Access.{Line, Looks, Request, look_up, prefetched, source_of}
+use Rattle.window_model.specs.declared.lookup.Line.{Line}
+use Rattle.window_model.specs.declared.lookup.Request.{Request}
+use Rattle.window_model.specs.Access.{Looks, look_up, prefetched, source_of}
 use Rattle.window_model.specs.Order.{has_address, has_data, is_load, is_store, is_waiting}
 use Rattle.window_model.specs.Retire.{op_of, byte_count}
 use Rattle.window_model.specs.MayIssue.{effect_of}

@@ -3,7 +3,8 @@ use Rattle.std.specs.Prelude.{ℕ, List, [], ◌++◌, Option, None, Some}
 use Rattle.machine_desc.specs.declared.Desc.{Desc}
 use Rattle.window_model.specs.declared.Divider.{Divider}
 use Rattle.window_model.specs.declared.Miss.{Miss}
-use Rattle.window_model.specs.Access.{Access, Looks, Request, cache_after, misses_after, requests, second_after}
+use Rattle.window_model.specs.declared.lookup.Request.{Request}
+use Rattle.window_model.specs.Access.{Access, Looks, cache_after, misses_after, requests, second_after}
 
 -- the cache after the load's access, if a load was tried
 abbrev pub cache_left : Desc → Option Access → List (List ℕ) → List (List ℕ)

@@ -1,8 +1,8 @@
 //! What a load finds (`docs/machine.md`, "Loads", "Second level"): bytes of older stores, the cache, or misses.
-use crate::lines::{Line, Lines, Request};
+use crate::lines::Lines;
 use crate::seen::Seen;
 use rv_types::Cause;
-use window_model::lines_of;
+use window_model::{Line, Request, lines_of};
 
 /// What the access of a load comes to.
 #[derive(Clone, Copy, Debug, PartialEq, Eq)]
@@ -20,16 +20,16 @@ pub(crate) enum Access {
 impl<'a> Seen<'a> {
     ghost use Rattle.std.specs.Prelude.{◌≡◌, ◌==◌, ◌≤◌, ◌<◌, ◌+◌, ◌^◌, IsTrue, map};
     ghost use Rattle.std.specs.List.{find};
-    ghost use Rattle.std.specs.Option.{option_map, option_to_list};
+    ghost use Rattle.std.specs.Option.{option_to_list};
     ghost use Rattle.window_model.specs.State.{lines_of};
     ghost use Rattle.window_model.specs.Access.{joined, line_behind, look_up, prefetched, prefetches, request, unless_lacking};
-    ghost use Rattle.issue.specs.Accesses.{as_access, as_line, as_lines, as_request, found};
+    ghost use Rattle.issue.specs.Accesses.{as_access, as_lines, found};
     ghost use Rattle.issue.specs.State.{IssueInvariant, around_of};
 
     // A line that takes a miss register: it comes from the second level, where that has it.
     fn request(&self, line: u32) -> Request
         requires stands { IssueInvariant self.now }
-        ensures { as_request result ≡ request self.now.desc.now (around_of self.now) line }
+        ensures { result ≡ request self.now.desc.now (around_of self.now) line }
     {
         Request {
             line,
@@ -40,7 +40,7 @@ impl<'a> Seen<'a> {
     // A line that the cache lacks.
     fn join(&self, line: u32) -> Line
         requires stands { IssueInvariant self.now }
-        ensures { as_line result ≡ joined self.now.desc.now (around_of self.now) line
+        ensures { result ≡ joined self.now.desc.now (around_of self.now) line
             (find (λ m. m.line == line) self.now.mshrs.now.misses) }
     {
         match self.mshrs.find(line) {
@@ -52,7 +52,7 @@ impl<'a> Seen<'a> {
     // What looking up a line comes to: it hits, joins a miss register, or takes one.
     fn look_up(&self, line: u32) -> Line
         requires stands { IssueInvariant self.now }
-        ensures { as_line result ≡ look_up self.now.desc.now (around_of self.now) line }
+        ensures { result ≡ look_up self.now.desc.now (around_of self.now) line }
     {
         if self.tags.holds(line) {
             return Line::Hits(line);
@@ -96,8 +96,7 @@ impl<'a> Seen<'a> {
     // The line behind an access, if it is prefetched: it takes the register that is left.
     fn prefetched(&self, lines: &Lines) -> Option<Request>
         requires stands { IssueInvariant self.now }
-        ensures { option_to_list (option_map as_request result)
-            ≡ prefetched self.now.desc.now (around_of self.now) (as_lines lines.now) }
+        ensures { option_to_list result ≡ prefetched self.now.desc.now (around_of self.now) (as_lines lines.now) }
     {
         if !self.prefetches(lines) {
             return None;

@@ -1,20 +1,20 @@
 //! A load that is granted its port (`docs/machine.md`, "Loads"): its access, its value from older stores' bytes and
 //! memory's, and what becomes of it.
 ghost use Rattle.std.specs.Prelude.{◌≡◌};
-ghost use Rattle.std.specs.Option.{option_map, option_to_list};
+ghost use Rattle.std.specs.Option.{option_to_list};
 ghost use Rattle.window_model.specs.Access.{look_events};
 ghost use Rattle.window_model.specs.inner.Row.{HasRoom, with_events};
-ghost use Rattle.issue.specs.Accesses.{as_lines, as_request};
+ghost use Rattle.issue.specs.Accesses.{as_lines};
 
 use crate::access::Access;
 use crate::begin::{begun, outcome};
-use crate::lines::{Line, Lines, Request};
+use crate::lines::Lines;
 use crate::seen::{Place, Seen};
 use lsq::{LoadRequest, Merged};
 use rob_ring::Issued;
 use rv_alu::extend;
 use rv_effect::Effect;
-use window_model::{Event, Row};
+use window_model::{Event, Line, Request, Row};
 
 /// What a load finds: how its bytes are served, and its value.
 #[derive(Clone, Copy, Debug, PartialEq, Eq)]
@@ -29,7 +29,7 @@ pub(crate) struct Loaded {
 fn tell_lines(serial: u64, lines: &Lines, ahead: Option<Request>, row: &mut Row)
     requires room { HasRoom 3 row.old }
     ensures { row.new ≡ with_events row.old
-        (look_events serial (as_lines lines.now) (option_to_list (option_map as_request ahead))) }
+        (look_events serial (as_lines lines.now) (option_to_list ahead)) }
 {
     row.push(Event::Ld(serial, lines.lower.line(), lines.lower.look()));
     if let Some(upper) = &lines.upper {
@@ -52,7 +52,7 @@ impl<'a> Seen<'a> {
     ghost use Rattle.window_model.specs.Retire.{byte_count};
     ghost use Rattle.window_model.specs.inner.Row.{HasRoom};
     ghost use Rattle.visibility.specs.Point.{is_hidden};
-    ghost use Rattle.issue.specs.Accesses.{as_access, as_line, as_lines};
+    ghost use Rattle.issue.specs.Accesses.{as_access, as_lines};
     ghost use Rattle.issue.specs.State.{HasTurn, around_of, before_of, here};
     ghost use Rattle.issue.specs.Pending.{passes_here};
     ghost use Rattle.issue.specs.Turns.{Comes, access_from, effect_here, loads, value_from};
@@ -102,7 +102,7 @@ impl<'a> Seen<'a> {
 
     // The cycle in which a line is there.
     fn due_of(&self, line: &Line) -> u64
-        ensures { result ≡ due_of self.now.desc.now (around_of self.now) (as_line line.now) }
+        ensures { result ≡ due_of self.now.desc.now (around_of self.now) line.now }
     {
         let cycle = self.cycle as u64;
         match line {

@@ -17,7 +17,8 @@ use Rattle.window_model.specs.State.{Machine, lines_of}
 use Rattle.window_model.specs.Order.{Place, each_from, is_store}
 use Rattle.window_model.specs.Fill.{is_due, completed, completes, completes_at}
 use Rattle.window_model.specs.Around.{Around}
-use Rattle.window_model.specs.Access.{Access, Faults, Forwards, Looks, Waits, Request, due_by, due_of, latency_of, look_up, misses_after, prefetched, register, request, requests}
+use Rattle.window_model.specs.declared.lookup.Request.{Request}
+use Rattle.window_model.specs.Access.{Access, Faults, Forwards, Looks, Waits, due_by, due_of, latency_of, look_up, misses_after, prefetched, register, request, requests}
 use Rattle.window_model.specs.SecondLevel.{second_has}
 use Rattle.window_model.specs.MayIssue.{effect_of}
 use Rattle.window_model.specs.Issue.{Begun, issue_entry, begin_as, busy_until_both, load_as, with_address, access_of, time_of, divider_after}

@@ -11,7 +11,10 @@ use Rattle.window_model.specs.SecondLevel.{second_has, second_set_of, second_tou
 use Rattle.window_model.specs.Sets.{is_in, moved_up}
 use Rattle.window_model.specs.State.{lines_of, set_of}
 use Rattle.window_model.specs.Retire.{has_line, touched}
-use Rattle.window_model.specs.Access.{Line, Hits, Joins, Takes, Request, Access, Looks, Waits, joined, look_up, line_at, line_behind, prefetched, register, request_by, requests, unless_lacking}
+use Rattle.window_model.specs.declared.lookup.Line.{Line}
+use Rattle.window_model.specs.declared.lookup.Line.TheVariants.{Hits, Joins, Takes}
+use Rattle.window_model.specs.declared.lookup.Request.{Request}
+use Rattle.window_model.specs.Access.{Access, Looks, Waits, joined, look_up, line_at, line_behind, prefetched, register, request_by, requests, unless_lacking}
 use Rattle.window_model.proofs.Issuing.{OneOrTwo, One, Two, lines_are}
 use Rattle.machine_facts.specs.InTurn.{left_by, InTurn, in_turn, ahead_of, access_in_turn, OthersStay, AccessesGoInTurn, AccessesLeaveInTurn}
 use Rattle.machine_facts.proofs.Requests.{line_found}

@@ -19,7 +19,8 @@ use Rattle.window_model.specs.MayIssue.{effect_of}
 use Rattle.window_model.specs.Ports.{Port, AluPort, MulPort, DivPort, AddressPort, DataPort, LoadPort, port_of, ports, asking, is_granted, may_at}
 use Rattle.window_model.specs.Issue.{Begun, issue, issue_entry, issue_whole, if_granted, with_address, with_data, begin_as, load_as, access_of, waits}
 use Rattle.window_model.proofs.Together.{data_events, entry_parts, issue_parts}
-use Rattle.window_model.specs.Access.{Request, line_at, look_at, look_events, look_up, prefetched, source_of}
+use Rattle.window_model.specs.declared.lookup.Request.{Request}
+use Rattle.window_model.specs.Access.{line_at, look_at, look_events, look_up, prefetched, source_of}
 use Rattle.window_model.proofs.Issuing.{by_after_load, by_load, by_prefetched, looked}
 use Rattle.window_model.proofs.Telling.{lines_few}
 use Rattle.window_model.proofs.Booleans.{below}

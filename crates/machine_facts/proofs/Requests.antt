@@ -6,7 +6,9 @@ use Rattle.std.specs.Prelude.{◌==◌, map}
 use Rattle.machine_desc.specs.declared.Desc.{Desc}
 use Rattle.window_model.specs.Around.{Around}
 use Rattle.window_model.specs.State.{lines_of}
-use Rattle.window_model.specs.Access.{Line, Request, line_at, line_behind, look_up, prefetched, request, request_by, requests}
+use Rattle.window_model.specs.declared.lookup.Line.{Line}
+use Rattle.window_model.specs.declared.lookup.Request.{Request}
+use Rattle.window_model.specs.Access.{line_at, line_behind, look_up, prefetched, request, request_by, requests}
 use Rattle.window_model.proofs.Issuing.{OneOrTwo, One, Two, by_line, by_prefetched, lines_are, looked}
 
 -- the request is of the level that has its line, and no miss register waits for that line

@@ -23,7 +23,8 @@ use Rattle.window_model.specs.Order.{Place, first, each_from, is_waiting, is_fau
 use Rattle.window_model.specs.Fill.{fill, complete, completed, completes, completes_at, is_due, lines}
 use Rattle.window_model.specs.Resolve.{resolve, Learnt, learn, learn_as, squash, keep}
 use Rattle.window_model.specs.Around.{Around, around}
-use Rattle.window_model.specs.Access.{Request, cache_after, line_at, misses_after, prefetched, register, requests, second_after}
+use Rattle.window_model.specs.declared.lookup.Request.{Request}
+use Rattle.window_model.specs.Access.{cache_after, line_at, misses_after, prefetched, register, requests, second_after}
 use Rattle.window_model.specs.Ports.{LoadPort, may_at}
 use Rattle.window_model.specs.Issue.{Begun, issue, issue_entry, access_of, after_load}
 use Rattle.window_model.specs.Rename.{rename, rename_one, renamed, fits, at_once}

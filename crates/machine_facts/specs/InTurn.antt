@@ -8,7 +8,9 @@ use Rattle.window_model.specs.State.{lines_of}
 use Rattle.window_model.specs.Around.{Around}
 use Rattle.window_model.specs.SecondLevel.{second_touched}
 use Rattle.window_model.specs.Retire.{touched}
-use Rattle.window_model.specs.Access.{Line, Request, Access, Looks, Waits, look_up, line_at, request_by, requests, line_behind, unless_lacking, register, cache_after, second_after, misses_after}
+use Rattle.window_model.specs.declared.lookup.Line.{Line}
+use Rattle.window_model.specs.declared.lookup.Request.{Request}
+use Rattle.window_model.specs.Access.{Access, Looks, Waits, look_up, line_at, request_by, requests, line_behind, unless_lacking, register, cache_after, second_after, misses_after}
 
 -- what a line that was looked up leaves: it moves to the front of its set, where the cache has it, and a line that
 -- takes a miss register does so, and moves to the front of its set of the second level

@@ -16,7 +16,8 @@ use Rattle.window_model.specs.Taint.{any_tainted, address_tainted}
 use Rattle.window_model.specs.Around.{Around, around}
 use Rattle.window_model.specs.MayIssue.{effect_of}
 use Rattle.window_model.specs.Issue.{time_of, access_of}
-use Rattle.window_model.specs.Access.{Line, Forwards, Looks, Waits, access, access_at, all_covered, any_store_hidden, covers, line_behind, look_up, prefetched, prefetches, request_by, requests, unless_lacking}
+use Rattle.window_model.specs.declared.lookup.Line.{Line}
+use Rattle.window_model.specs.Access.{Forwards, Looks, Waits, access, access_at, all_covered, any_store_hidden, covers, line_behind, look_up, prefetched, prefetches, request_by, requests, unless_lacking}
 use Rattle.window_model.specs.Shape.{SameShape}
 use Rattle.window_model.proofs.Booleans.{neither}
 use Rattle.window_model.proofs.Memory.{same_fault}

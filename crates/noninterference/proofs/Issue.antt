@@ -15,7 +15,9 @@ use Rattle.window_model.specs.State.{Machine, After}
 use Rattle.window_model.specs.declared.Divider.{Divider}
 use Rattle.window_model.specs.Order.{Place, each, each_from, first, is_load, is_store}
 use Rattle.window_model.specs.Around.{Around, around}
-use Rattle.window_model.specs.Access.{Access, Faults, Forwards, Looks, Waits, Line, Hits, Joins, Takes, cache_after, due_of, latency_of, latest, look_events, misses_after, second_after}
+use Rattle.window_model.specs.declared.lookup.Line.{Line}
+use Rattle.window_model.specs.declared.lookup.Line.TheVariants.{Hits, Joins, Takes}
+use Rattle.window_model.specs.Access.{Access, Faults, Forwards, Looks, Waits, cache_after, due_of, latency_of, latest, look_events, misses_after, second_after}
 use Rattle.window_model.specs.MayIssue.{effect_of, may_issue_as}
 use Rattle.window_model.specs.Ports.{Port, AddressPort, DataPort, DivPort, LoadPort, is_granted, may_at, port_of}
 use Rattle.window_model.specs.Issue.{issue, issue_entry, issue_whole, begin_as, Begun, waits, with_address, with_data, if_granted, load_as, access_of, value_loaded, is_division, after_load, divider_after}

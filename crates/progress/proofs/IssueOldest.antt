@@ -25,7 +25,8 @@ use Rattle.window_model.specs.Taint.{any_tainted}
 use Rattle.window_model.specs.Ready.{ready, all_known}
 use Rattle.window_model.specs.Fill.{is_due}
 use Rattle.window_model.specs.Around.{Around, around, is_free}
-use Rattle.window_model.specs.Access.{Access, Faults, Forwards, Looks, Waits, Line, access_at, all_covered, any_store_hidden, look_up, misses_after, prefetched, requests, unless_lacking}
+use Rattle.window_model.specs.declared.lookup.Line.{Line}
+use Rattle.window_model.specs.Access.{Access, Faults, Forwards, Looks, Waits, access_at, all_covered, any_store_hidden, look_up, misses_after, prefetched, requests, unless_lacking}
 use Rattle.window_model.specs.Retire.{op_of, byte_count}
 use Rattle.window_model.specs.MayIssue.{effect_of, may_issue_as}
 use Rattle.window_model.specs.Ports.{AddressPort, DataPort, DivPort, LoadPort, is_granted, may_at, ports, port_of, same_port}

@@ -16,7 +16,8 @@ use Rattle.window_model.specs.Along.{Along, Fact}
 use Rattle.window_model.specs.State.{Machine, After, lines_of, nothing}
 use Rattle.window_model.specs.Around.{Around, around}
 use Rattle.window_model.specs.Order.{Place, each_from, first, first_from, is_store}
-use Rattle.window_model.specs.Access.{Access, Waits, Request, cache_after, look_events, look_up, misses_after, second_after}
+use Rattle.window_model.specs.declared.lookup.Request.{Request}
+use Rattle.window_model.specs.Access.{Access, Waits, cache_after, look_events, look_up, misses_after, second_after}
 use Rattle.window_model.specs.MayIssue.{effect_of}
 use Rattle.window_model.specs.Ports.{AddressPort, DataPort, DivPort, LoadPort, port_of, ports, asking, is_granted, may_at}
 use Rattle.window_model.specs.Issue.{Begun, issue, issue_entry, issue_store, issue_whole, begin_as, if_granted, with_address, with_data, load_as, access_of, value_loaded, waits, after_load, divider_after}

@@ -12,6 +12,9 @@ use Rattle.window_model.specs.declared.Event.TheVariants as event
 use Rattle.window_model.specs.declared.Look.{Look}
 use Rattle.window_model.specs.declared.Look.TheVariants as look
 use Rattle.window_model.specs.declared.Outcome.{Outcome}
+use Rattle.window_model.specs.declared.lookup.Line.{Line}
+use Rattle.window_model.specs.declared.lookup.Line.TheVariants.{Hits, Joins, Takes}
+use Rattle.window_model.specs.declared.lookup.Request.{Request}
 use Rattle.machine_desc.specs.declared.SttModel.{SttModel}
 use Rattle.window_model.specs.State.{Miss, lines_of}
 use Rattle.window_model.specs.Around.{Around}
@@ -54,16 +57,9 @@ any_store_hidden model (e ∷ before) = is_store e.item.kind && address_tainted 
 
 -- ---- what a load's access finds
 
--- a line that takes a miss register, and whether it comes from memory or from the second level
-pub record Request : Type 0 where
-  pub line : ℕ
-  pub from_memory : Bool
-
--- what one line comes to: the cache has it, a register waits for it until a cycle, or it takes a register
-pub data Line : Type 0 where
-  Hits : ℕ → Line
-  Joins : ℕ → ℕ → Line
-  Takes : Request → Line
+-- What one line comes to is a `Line` of the code: the cache has it (`Hits`), a register waits for it until a cycle
+-- (`Joins`), or it takes a register (`Takes`). A line that takes a register is a `Request`: it says whether the line
+-- comes from memory or from the second level.
 
 -- what an access comes to: a fault, older stores have all its bytes, its lines and what is prefetched with them, or too
 -- few registers

@@ -1,0 +1,98 @@
+//! What looking up the lines of an access comes to (`docs/machine.md`, "Loads", "Second level").
+use crate::Look;
+use machine_desc::Desc;
+
+/// A line that takes a miss register.
+#[derive(Clone, Copy, Debug, PartialEq, Eq)]
+pub struct Request {
+    /// The first address of the line.
+    pub line: u32,
+    /// Whether the line comes from memory, and not from the second level.
+    pub from_memory: bool,
+}
+
+impl Request {
+    ghost use Rattle.std.specs.Prelude.{◌≡◌, ◌<◌, ◌^◌};
+    ghost use Rattle.window_model.specs.Access.{register, source_of};
+
+    /// Where the line comes from: the second level, or memory.
+    pub fn source(&self) -> Look
+        ensures { result ≡ source_of self.now }
+    {
+        if self.from_memory {
+            return Look::Miss;
+        }
+        Look::Second
+    }
+
+    /// The cycle in which the line comes, if it takes a miss register in this cycle.
+    pub fn due(&self, cycle: u64, desc: &Desc) -> u64
+        requires soon { cycle < 2 ^ 32 }
+        ensures { result ≡ (register desc.now cycle self.now).due }
+    {
+        if self.from_memory {
+            return cycle + desc.cache_miss_latency as u64;
+        }
+        cycle + desc.cache_second_latency as u64
+    }
+}
+
+/// What looking up one line comes to. A line is named by its first address.
+#[derive(Clone, Copy, Debug, PartialEq, Eq)]
+pub enum Line {
+    /// The cache has the line.
+    Hits(u32),
+    /// A miss register waits for the line, until this cycle.
+    Joins(u32, u64),
+    /// The line takes a miss register.
+    Takes(Request),
+}
+
+impl Line {
+    ghost use Rattle.std.specs.Prelude.{◌≡◌, ◌≤◌, length};
+    ghost use Rattle.std.specs.Option.{option_to_list};
+    ghost use Rattle.window_model.specs.Access.{line_at, look_at, request_by};
+
+    /// The line, if it takes a miss register.
+    pub fn request(&self) -> Option<Request>
+        ensures { option_to_list result ≡ request_by self.now }
+    {
+        match *self {
+            Line::Takes(request) => Some(request),
+            _ => None,
+        }
+    }
+
+    /// How many miss registers it takes.
+    pub fn registers(&self) -> u32
+        ensures number { result ≡ length (request_by self.now) }
+        ensures few { result ≤ 1 }
+    {
+        match self {
+            Line::Takes(_) => 1,
+            _ => 0,
+        }
+    }
+
+    /// The first address of the line that was looked up.
+    pub fn line(&self) -> u32
+        ensures { result ≡ line_at self.now }
+    {
+        match *self {
+            Line::Hits(line) => line,
+            Line::Joins(line, _) => line,
+            Line::Takes(request) => request.line,
+        }
+    }
+
+    /// Where the line was found, as the trace tells it.
+    pub fn look(&self) -> Look
+        ensures { result ≡ look_at self.now }
+    {
+        match self {
+            Line::Hits(_) => Look::Hit,
+            Line::Joins(_, _) => Look::Join,
+            Line::Takes(request) => request.source(),
+        }
+    }
+}
