@@ -1,10 +1,9 @@
 -- What the parts that are lent tell of the machine that is shown.
-use Rattle.std.proofs.Common.{◌≡◌, ℕ, ◌<◌, Bool, true, false, List, [], ◌∷◌, length, map, Option, Some, None, refl, ap, ap₂, sym, ◌∙◌, subst, arith, slice_get}
+use Rattle.std.proofs.Common.{◌≡◌, ℕ, ◌<◌, Bool, true, false, List, [], ◌∷◌, length, map, Some, None, refl, ap, sym, ◌∙◌, subst, arith, slice_get}
 use Rattle.std.specs.Prelude.{nat_le, if◌then◌else◌}
 use Rattle.std.proofs.lemmas.Bool.Decides.{nat_tests}
 use Rattle.machine_desc.specs.declared.SttModel.{SttModel}
 use Rattle.window_model.specs.declared.Entry.{Entry}
-use Rattle.lsq.specs.declared.store.Store.{Store}
 use Rattle.queue_laws.specs.Window.{StandFor, Tracks}
 use Rattle.machine_desc.specs.Questions.{loads_pass}
 use Rattle.window_model.specs.Order.{each_from, is_store}
@@ -19,7 +18,7 @@ use Rattle.refinement.proofs.Table.{names_root, names_writer}
 use Rattle.refinement.proofs.Visible.{tells_visible}
 use Rattle.refinement.specs.Footprint.{StoreFootprint, Terms, column, footprint_of, store_footprint, store_in}
 use Rattle.refinement.specs.Refines.{terms}
-use Rattle.refinement.specs.Roots.{base_root, source_roots, unretired}
+use Rattle.refinement.specs.Roots.{base_root, source_roots}
 use Rattle.refinement.specs.Telling.{MovedBy, hold_of}
 use Rattle.refinement.specs.Waiters.{oldest_of}
 use Rattle.std.specs.List.{cons_option}

@@ -27,7 +27,7 @@ use Rattle.issue.specs.Turns.{Goes, after_of, divider_by, load_by, parts_by, put
 use Rattle.issue.proofs.Choosing.{no_division, no_load}
 use Rattle.issue.proofs.Noting.{few_puts, only_both, same_row}
 use Rattle.issue.proofs.Testing.{asked_address_load, asked_data_load, asked_divider, asked_less, asked_only, data_left}
-use Rattle.issue.proofs.Turning.{few_parts, not_alone, parts_as, parts_put, store_turn}
+use Rattle.issue.proofs.Turning.{few_parts, not_alone, parts_here, parts_put, store_turn}
 
 -- a part of a store issues, where the address part does, or the data part alone
 pub some_part : (a c : Bool) → (a ≡ true) ⊎ ((a ≡ false) × (c ≡ true)) → (a || c) ≡ true
@@ -41,7 +41,7 @@ one_at_least false true h = omega arith
 one_at_least false false h = absurd (cc)
 
 -- what is made of an entry, part by part
-same_parts : (a c : Bool) (s : Seen) (p : Place) → parts_by a c s p ≡ parts_as a c s.desc.now (around_of s) (before_of s p) p.entry.now
+same_parts : (a c : Bool) (s : Seen) (p : Place) → parts_by a c s p ≡ parts_here a c s.desc.now (around_of s) (before_of s p) p.entry.now
 same_parts true true s p = refl
 same_parts true false s p = refl
 same_parts false true s p = refl
@@ -62,7 +62,7 @@ module _ (s : Seen) (p : Place) (ports first new : Ports) (address stored : Bool
   abbrev e : Entry
   e = p.entry.now
 
-  turn_is : here issue_entry s p ≡ parts_as address stored d now before e
+  turn_is : here issue_entry s p ≡ parts_here address stored d now before e
   turn_is = store_turn address stored d now before e store (sym g) (sym g2)
 
   -- ---- the ports that a store takes
@@ -148,7 +148,7 @@ module _ (s : Seen) (p : Place) (ports first new : Ports) (address stored : Bool
   -- the turn of a store of which no part issues
   pub stayed : (decided : Decided) (row : Row) → address ≡ false → stored ≡ false → HadTurn s p ports decided row new decided row
   stayed decided row x y =
-      let stays : here issue_entry s p ≡ waits e = turn_is ∙ ap₂ (λ a c. parts_as a c d now before e) x y in
+      let stays : here issue_entry s p ≡ waits e = turn_is ∙ ap₂ (λ a c. parts_here a c d now before e) x y in
       record {
         puts = sym (ap (λ b. decided.puts.items ++ puts_of p.position p.station b) stays ∙ append-nil decided.puts.items);
         row_is = sym (ap (λ b. with_events row b.events) stays ∙ same_row row);

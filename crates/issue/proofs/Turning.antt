@@ -1,5 +1,5 @@
 -- What an entry's turn comes to: it waits on, or it goes on with an event.
-use Rattle.std.proofs.Common.{◌≡◌, ℕ, ◌+◌, ◌<◌, ◌≤◌, Bool, true, false, ◌&&◌, Option, List, [], ◌∷◌, ◌++◌, length, refl, ap, ap₂, sym, subst, ◌∙◌, inl, inr, arith, append-nil, slice_get, Some, eqb-true}
+use Rattle.std.proofs.Common.{◌≡◌, ℕ, ◌+◌, ◌<◌, ◌≤◌, Bool, true, false, ◌&&◌, List, [], ◌∷◌, ◌++◌, length, refl, ap, ap₂, sym, subst, ◌∙◌, inl, inr, arith, append-nil, slice_get, Some, eqb-true}
 use Rattle.std.specs.Prelude.{◌==◌, ◌||◌, if◌then◌else◌, map, slice_set, ◌⊎◌}
 use Rattle.std.specs.List.{All}
 use Rattle.std.proofs.lemmas.List.{set_at}
@@ -23,10 +23,11 @@ use Rattle.window_model.specs.Order.{has_address, has_data, is_load, is_store, i
 use Rattle.window_model.specs.Retire.{op_of, byte_count}
 use Rattle.window_model.specs.MayIssue.{effect_of}
 use Rattle.window_model.specs.Ports.{AddressPort, DataPort, is_granted, port_of}
-use Rattle.window_model.specs.Issue.{Begun, access_of, begin_as, begins, if_granted, issue_entry, issue_store, load_as, waits, with_address, with_data}
+use Rattle.window_model.specs.Issue.{Begun, access_of, begin_as, begins, issue_entry, issue_store, load_as, waits}
 use Rattle.window_model.proofs.Booleans.{waiting_done}
 use Rattle.window_model.proofs.Issuing.{OneOrTwo, One, Two, by_load, by_prefetched, lines_are, may_parts}
-use Rattle.window_model.proofs.Together.{entry_parts, granted_together, issue_parts}
+use Rattle.window_model.specs.inner.Issue.{data_events, parts_as}
+use Rattle.window_model.proofs.Together.{data_few, entry_parts, granted_together, issue_parts}
 use Rattle.unit_ports.specs.Ports.{port_for}
 use Rattle.rob_ring.specs.Issued.{issued_of, with_issued}
 use Rattle.refinement.specs.Noted.{PartsGoOn, TracksOn}
@@ -34,7 +35,7 @@ use Rattle.refinement.specs.Stations.{Issues, station_of}
 use Rattle.issue.specs.declared.decide.Put.{Put}
 use Rattle.issue.specs.Ports.{most_events_of}
 use Rattle.issue.specs.Puts.{ArePuts, IsPut, issue_by, issue_in, placed, width_for}
-use Rattle.issue.specs.Turns.{after_by, begin_entry, data_events, puts_by, puts_of}
+use Rattle.issue.specs.Turns.{after_by, begin_entry, puts_by, puts_of}
 use Rattle.issue.proofs.Advanced.{lacks_address, lacks_data, still_undone}
 use Rattle.issue.proofs.Asking.{AsksNone, InStep, fresh_address, fresh_data, granted_may, grants_none}
 use Rattle.issue.proofs.Width.{size_is}
@@ -56,19 +57,15 @@ turn_is b d now before e s h = turn_by e.item.kind b d now before e s h
 
 -- ---- what a store comes to, by whether each of its parts is granted its port
 
-abbrev pub parts_as : Bool → Bool → Desc → Around → List Entry → Entry → Begun
-parts_as a c d now before e =
-    let f = effect_of now.regs before e in
-    let g = if_granted a (with_address now f) (event.Agu e.serial ∷ []) e in
-    let r = if_granted c (with_data now f) (data_events d e) g.entry in
-    record { entry = r.entry; events = g.events ++ r.events }
+abbrev pub parts_here : Bool → Bool → Desc → Around → List Entry → Entry → Begun
+parts_here a c d now before e = parts_as a c d now (effect_of now.regs before e) e
 
 pub store_turn : (a c : Bool) (d : Desc) (now : Around) (before : List Entry) (e : Entry) → is_store e.item.kind ≡ true → is_granted d now AddressPort before e ≡ a → is_granted d now DataPort before e ≡ c →
-    issue_entry d now before e ≡ parts_as a c d now before e
+    issue_entry d now before e ≡ parts_here a c d now before e
 store_turn a c d now before e s p q =
     entry_parts d now before e
     ∙ ap (λ s. if s then issue_parts d now before e else (if is_granted d now (port_of e.item.kind) before e then begin_as e.item.kind d now before e else waits e)) s
-    ∙ ap₂ (λ a c. parts_as a c d now before e) p q
+    ∙ ap₂ (λ a c. parts_here a c d now before e) p q
 
 -- an entry that asks for no port waits on
 pub turn_none : (d : Desc) (now : Around) (before : List Entry) (e : Entry) → AsksNone d now before e → issue_entry d now before e ≡ waits e
@@ -136,13 +133,13 @@ begin_turns _ d now before e s w = one_event now e _ _ _ s w
 
 -- what is tracked of a store stays
 parts_track : (a c : Bool) (d : Desc) (now : Around) (before : List Entry) (e : Entry) →
-    TracksOn (width_for (byte_count e)) e (parts_as a c d now before e).entry
+    TracksOn (width_for (byte_count e)) e (parts_here a c d now before e).entry
 parts_track true true d now before e = record { cleared = refl; unread = λ l h. refl; size = size_is (op_of e.item.instr) }
 parts_track true false d now before e = record { cleared = refl; unread = λ l h. refl; size = size_is (op_of e.item.instr) }
 parts_track false true d now before e = record { cleared = refl; unread = λ l h. refl; size = size_is (op_of e.item.instr) }
 parts_track false false d now before e = record { cleared = refl; unread = λ l h. refl; size = size_is (op_of e.item.instr) }
 
-parts_turns : (a c : Bool) (d : Desc) (now : Around) (before : List Entry) (e : Entry) → ((a || c) ≡ true → is_waiting e.state ≡ true) → (a ≡ false → c ≡ true → (d.version == 1) ≡ false) → Turns e (parts_as a c d now before e)
+parts_turns : (a c : Bool) (d : Desc) (now : Around) (before : List Entry) (e : Entry) → ((a || c) ≡ true → is_waiting e.state ≡ true) → (a ≡ false → c ≡ true → (d.version == 1) ≡ false) → Turns e (parts_here a c d now before e)
 parts_turns false false d now before e w v = inl refl
 parts_turns true true d now before e w v = inr (record {
   event = event.Agu e.serial;
@@ -201,7 +198,7 @@ module _ (d : Desc) (now : Around) (before : List Entry) (e : Entry) where
   not_alone false v p q = v
   not_alone true v p q = let one : d.version ≡ 1 = eqb-true _ _ v in let same = granted_together d now one before e in absurd (cc)
 
-  store_turns : (a c : Bool) → InStep d e → is_store e.item.kind ≡ true → is_granted d now AddressPort before e ≡ a → is_granted d now DataPort before e ≡ c → Turns e (parts_as a c d now before e)
+  store_turns : (a c : Bool) → InStep d e → is_store e.item.kind ≡ true → is_granted d now AddressPort before e ≡ a → is_granted d now DataPort before e ≡ c → Turns e (parts_here a c d now before e)
   store_turns a c t s p q = parts_turns a c d now before e (part_waits a c t s p q) (λ x y. not_alone (d.version == 1) refl (p ∙ x) (q ∙ y))
 
   pub entry_turns : InStep d e → Turns e (issue_entry d now before e)
@@ -240,25 +237,18 @@ begin_few _ d now before e = omega arith
 pub few_events : (d : Desc) (now : Around) (before : List Entry) (e : Entry) → length (begin_entry d now before e).events ≤ most_events_of e.item.kind
 few_events d now before e = begin_few e.item.kind d now before e
 
-data_few : (d : Desc) (e : Entry) (v : Bool) → (d.version == 1) ≡ v → length (data_events d e) ≤ 1
-data_few d e v q = by_version (d.version == 1)
-  where
-    by_version : (v : Bool) → length (if v then [] else event.Std e.serial ∷ []) ≤ 1
-    by_version true = omega arith
-    by_version false = omega arith
-
 -- the events of a store are at most one for each part that issues
-pub few_parts : (a c : Bool) (d : Desc) (now : Around) (before : List Entry) (e : Entry) → length (parts_as a c d now before e).events ≤ one_if a + one_if c
-few_parts true true d now before e = let few = data_few d e (d.version == 1) refl in omega (arith, few)
+pub few_parts : (a c : Bool) (d : Desc) (now : Around) (before : List Entry) (e : Entry) → length (parts_here a c d now before e).events ≤ one_if a + one_if c
+few_parts true true d now before e = let few = data_few d e in omega (arith, few)
 few_parts true false d now before e = omega arith
-few_parts false true d now before e = let few = data_few d e (d.version == 1) refl in omega (arith, few)
+few_parts false true d now before e = let few = data_few d e in omega (arith, few)
 few_parts false false d now before e = omega arith
 
 -- a store of which a part issues has a put, since it has an event
 pub parts_put : (a c : Bool) (d : Desc) (now : Around) (before : List Entry) (e : Entry) → (a || c) ≡ true → (a ≡ false → c ≡ true → (d.version == 1) ≡ false) →
-    after_by (parts_as a c d now before e).entry (parts_as a c d now before e).events ≡ Some (issued_of (parts_as a c d now before e).entry)
+    after_by (parts_here a c d now before e).entry (parts_here a c d now before e).events ≡ Some (issued_of (parts_here a c d now before e).entry)
 parts_put true c d now before e h v = refl
-parts_put false true d now before e h v = ap (λ one. after_by (parts_as false true d now before e).entry (if one then [] else event.Std e.serial ∷ [])) (v refl refl)
+parts_put false true d now before e h v = ap (λ one. after_by (parts_here false true d now before e).entry (if one then [] else event.Std e.serial ∷ [])) (v refl refl)
 parts_put false false d now before e h v = absurd (cc)
 
 -- ---- the puts of the entries' turns

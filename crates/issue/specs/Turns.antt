@@ -1,5 +1,5 @@
 -- What becomes of an entry that has its turn, in its place (docs/machine.md, "Issue").
-use Rattle.std.specs.Prelude.{◌≡◌, ◌==◌, ℕ, Bool, List, [], ◌∷◌, ◌++◌, Option, None, Some, if◌then◌else◌}
+use Rattle.std.specs.Prelude.{◌≡◌, ℕ, Bool, List, [], ◌∷◌, ◌++◌, Option, None, Some, if◌then◌else◌}
 use Rattle.std.specs.Option.{option_map, option_to_list}
 use Rattle.rv_effect.specs.Seen.{seen}
 use Rattle.rv_effect.specs.declared.fields.Effect as made
@@ -15,6 +15,7 @@ use Rattle.window_model.specs.MayIssue.{effect_of}
 use Rattle.window_model.specs.Issue.{Begun, access_of, begin_as, if_granted, load_as, taken_for, value_loaded, with_address, with_data}
 use Rattle.window_model.specs.Retire.{byte_count}
 use Rattle.window_model.specs.Row.{Row}
+use Rattle.window_model.specs.inner.Issue.{data_events}
 use Rattle.window_model.specs.inner.Row.{with_events}
 use Rattle.rob_ring.specs.Issued.{issued_of}
 use Rattle.rob_ring.specs.declared.issued.Issued.{Issued}
@@ -39,10 +40,6 @@ value_from a d now before e = value_loaded now.ram before e a
 -- what a load comes to by what it finds
 abbrev pub loads : Seen → Place → made.Effect → Loaded → Begun
 loads s p f l = load_as (as_access l.access) s.desc.now (around_of s) p.entry.now (seen f) l.value
-
--- the event of a store's data part as it issues: in version 1 it has none, since the address part's is the store's
-abbrev pub data_events : Desc → Entry → List Event
-data_events d e = if d.version == 1 then [] else event.Std e.serial ∷ []
 
 -- a store by whether its address part is granted its port, and its data part
 abbrev pub address_by : Bool → Seen → Place → Effect → Begun

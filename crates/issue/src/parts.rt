@@ -78,6 +78,7 @@ impl<'a> Seen<'a> {
     ghost use Rattle.window_model.specs.Ports.{AddressPort, DataPort};
     ghost use Rattle.window_model.specs.Issue.{with_address, with_data};
     ghost use Rattle.window_model.specs.Order.{is_store};
+    ghost use Rattle.window_model.specs.inner.Issue.{data_events};
     ghost use Rattle.window_model.specs.inner.Row.{HasRoom, with_events};
     ghost use Rattle.rob_ring.specs.Issued.{issued_of, with_issued};
     ghost use Rattle.unit_ports.specs.Laws.{if_asked};
@@ -85,7 +86,7 @@ impl<'a> Seen<'a> {
     ghost use Rattle.issue.specs.Decisions.{HadTurn, most_begun};
     ghost use Rattle.issue.specs.Ports.{LeftFor, events_left, granted_at, left_in_all, may_here, part_port};
     ghost use Rattle.issue.specs.State.{HasTurn, around_of};
-    ghost use Rattle.issue.specs.Turns.{Goes, data_events, parts_by};
+    ghost use Rattle.issue.specs.Turns.{Goes, parts_by};
 
     // Whether a part of the store may issue: it hasn't issued, and its source is there; in version 1 both sources are,
     // since the store has its turn.

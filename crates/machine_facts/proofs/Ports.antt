@@ -1,7 +1,7 @@
 -- No port is granted more often than it is there, so Issue has few events.
 use Rattle.std.proofs.Common.{◌≡◌, ℕ, ◌+◌, ◌-◌, ◌*◌, ◌≤◌, ◌<◌, Bool, true, false, ◌&&◌, cond, List, [], ◌∷◌, length, refl, sym, subst, arith, length-append}
 use Rattle.std.proofs.lemmas.List.{length-map}
-use Rattle.std.specs.Prelude.{if◌then◌else◌, nat_lt, ◌==◌, map}
+use Rattle.std.specs.Prelude.{if◌then◌else◌, nat_lt, map}
 use Rattle.std.specs.List.{flat_map}
 use Rattle.rv_types.specs.Value.{one_if}
 use Rattle.rv_types.specs.Isa.{Effect}
@@ -18,7 +18,8 @@ use Rattle.window_model.specs.Around.{Around, around}
 use Rattle.window_model.specs.MayIssue.{effect_of}
 use Rattle.window_model.specs.Ports.{Port, AluPort, MulPort, DivPort, AddressPort, DataPort, LoadPort, port_of, ports, asking, is_granted, may_at}
 use Rattle.window_model.specs.Issue.{Begun, issue, issue_entry, issue_whole, if_granted, with_address, with_data, begin_as, load_as, access_of, waits}
-use Rattle.window_model.proofs.Together.{data_events, entry_parts, issue_parts}
+use Rattle.window_model.specs.inner.Issue.{data_events}
+use Rattle.window_model.proofs.Together.{data_few, entry_parts, issue_parts}
 use Rattle.window_model.specs.declared.lookup.Request.{Request}
 use Rattle.window_model.specs.Access.{line_at, look_at, look_events, look_up, prefetched, source_of}
 use Rattle.window_model.proofs.Issuing.{by_after_load, by_load, by_prefetched, looked}
@@ -101,13 +102,6 @@ whole_few d now b e =
 part_few : (g : Bool) (part : Entry → Entry) (es : List Event) (e : Entry) → length es ≤ 1 → length (if_granted g part es e).events ≤ cond g 1 0
 part_few true part es e h = h
 part_few false part es e h = omega arith
-
-data_few : (d : Desc) (e : Entry) → length (data_events d e) ≤ 1
-data_few d e = by_version (d.version == 1)
-  where
-    by_version : (v : Bool) → length (if v then [] else event.Std e.serial ∷ []) ≤ 1
-    by_version true = omega arith
-    by_version false = omega arith
 
 parts_few : (d : Desc) (now : Around) (b : List Entry) (e : Entry) → length (issue_parts d now b e).events ≤ somewhere d now b e
 parts_few d now b e =

@@ -1,25 +1,23 @@
 -- What a load's access comes to is equal in both runs, and the time of a division.
-use Rattle.std.proofs.Common.{◌≡◌, ℕ, ◌+◌, Bool, true, false, not, ◌&&◌, ◌||◌, List, [], ◌∷◌, length, Option, Some, None, refl, ap, ap₂, sym, ◌∙◌}
-use Rattle.std.specs.Prelude.{if◌then◌else◌, is_some, map, nat_le, nat_lt, ◌==◌}
+use Rattle.std.proofs.Common.{◌≡◌, ℕ, ◌+◌, Bool, true, false, not, ◌&&◌, ◌||◌, List, [], ◌∷◌, refl, ap, ap₂, sym, ◌∙◌}
+use Rattle.std.specs.Prelude.{is_some}
 use Rattle.std.specs.List.{find}
 use Rattle.rv_types.specs.Causes.{load_misaligned, load_outside}
 use Rattle.rv_types.specs.Memory.{Code, load_fault, range}
-use Rattle.rv_types.specs.declared.Cause.{Cause}
 use Rattle.machine_desc.specs.declared.Desc.{Desc}
 use Rattle.machine_desc.specs.declared.SttModel.{SttModel}
 use Rattle.window_model.specs.declared.Entry.{Entry}
-use Rattle.window_model.specs.declared.Miss.{Miss}
-use Rattle.window_model.specs.State.{Machine, lines_of}
+use Rattle.window_model.specs.State.{Machine}
 use Rattle.window_model.specs.Order.{is_load, is_store}
 use Rattle.window_model.specs.Retire.{op_of, byte_count}
 use Rattle.window_model.specs.Taint.{any_tainted, address_tainted}
-use Rattle.window_model.specs.Around.{Around, around}
+use Rattle.window_model.specs.Around.{around}
 use Rattle.window_model.specs.MayIssue.{effect_of}
 use Rattle.window_model.specs.Issue.{time_of, access_of}
-use Rattle.window_model.specs.declared.lookup.Line.{Line}
-use Rattle.window_model.specs.Access.{Forwards, Looks, Waits, access, access_at, all_covered, any_store_hidden, covers, line_behind, look_up, prefetched, prefetches, request_by, requests, unless_lacking}
+use Rattle.window_model.specs.Access.{access, access_at, all_covered, any_store_hidden, covers}
 use Rattle.window_model.specs.Shape.{SameShape}
-use Rattle.window_model.proofs.Booleans.{neither}
+use Rattle.window_model.proofs.Booleans.{and_when, is_some_if, neither}
+use Rattle.window_model.proofs.LookedUp.{same_access_at}
 use Rattle.window_model.proofs.Memory.{same_fault}
 use Rattle.committed_state.specs.Consistent.{IsItem}
 use Rattle.noninterference.specs.Alike.{Alike, without_outcome}
@@ -29,10 +27,6 @@ use Rattle.noninterference.proofs.Operand.{same_address, all_same_list}
 use Rattle.noninterference.proofs.Effects.{addresses_alike, base_alike, untainted_base_of}
 use Rattle.noninterference.proofs.Letting.{same_covers}
 use Rattle.noninterference.proofs.Loads.{by_base}
-
-and_when : (a b : Bool) → a ≡ true → (a && b) ≡ false → b ≡ false
-and_when true b p h = h
-and_when false b p h = absurd (cc)
 
 -- ---- bytes of older stores
 
@@ -46,19 +40,13 @@ same_hidden model (e ∷ b) (e2 ∷ b2) s =
 same_hidden model [] (e2 ∷ b2) s = absurd s
 same_hidden model (e ∷ b) [] s = absurd s
 
-some_if : (c c2 : Bool) (e e2 : Entry) (o o2 : Option Entry) → c ≡ c2 → is_some o ≡ is_some o2 → is_some (if c then Some e else o) ≡ is_some (if c2 then Some e2 else o2)
-some_if true true e e2 o o2 q h = refl
-some_if false false e e2 o o2 q h = h
-some_if true false e e2 o o2 q h = absurd (cc)
-some_if false true e e2 o o2 q h = absurd (cc)
-
 same_covered : (model : SttModel) (b b2 : List Entry) (a : ℕ) → SameOutcomes model b b2 → any_store_hidden model b ≡ false → is_some (find (covers a) b) ≡ is_some (find (covers a) b2)
 same_covered model [] [] a s h = refl
 same_covered model (e ∷ b) (e2 ∷ b2) a s h =
     let here = (neither (is_store e.item.kind && address_tainted model b e) (any_store_hidden model b) h).0 in
     let later = (neither (is_store e.item.kind && address_tainted model b e) (any_store_hidden model b) h).1 in
     let c : covers a e ≡ covers a e2 = same_covers model b e e2 a s.0 (λ st. and_when (is_store e.item.kind) (address_tainted model b e) st here) in
-    some_if (covers a e) (covers a e2) e e2 (find (covers a) b) (find (covers a) b2) c (same_covered model b b2 a s.1 later)
+    is_some_if (covers a e) (covers a e2) e e2 (find (covers a) b) (find (covers a) b2) c (same_covered model b b2 a s.1 later)
 same_covered model [] (e2 ∷ b2) a s h = absurd s
 same_covered model (e ∷ b) [] a s h = absurd s
 
@@ -77,35 +65,6 @@ same_forward model b b2 a n s =
     forward_if (all_covered b a n) (all_covered b2 a n) (any_store_hidden model b) (any_store_hidden model b2) (same_hidden model b b2 s)
     (λ h. all_same_list (λ r. is_some (find (covers r) b)) (λ r. is_some (find (covers r) b2)) (range a n) (λ r. same_covered model b b2 r s h))
 
--- what lines come to is told by the two levels of the cache, the miss registers and where memory ends
-module _ (d : Desc) (now now2 : Around) (c : now.cache ≡ now2.cache) (l : now.second ≡ now2.second) (m : now.misses ≡ now2.misses)
-    (end : now.ram.base + length now.ram.bytes ≡ now2.ram.base + length now2.ram.bytes) where
-  same_look : (line : ℕ) → look_up d now line ≡ look_up d now2 line
-  same_look line =
-      let at : List (List ℕ) → List (List ℕ) → List Miss → Line = λ c l m. look_up d (record now { cache = c; second = l; misses = m }) line in
-      ap (λ c. at c now.second now.misses) c ∙ ap (λ l. at now2.cache l now.misses) l ∙ ap (at now2.cache now2.second) m
-
-  same_found : (lines : List ℕ) → map (look_up d now) lines ≡ map (look_up d now2) lines
-  same_found [] = refl
-  same_found (line ∷ lines) = ap₂ (λ u us. u ∷ us) (same_look line) (same_found lines)
-
-  same_prefetches : (found : List Line) → prefetches d now found ≡ prefetches d now2 found
-  same_prefetches found =
-      let at : ℕ → List Miss → Bool = λ e m. d.cache_prefetch == 1 && nat_lt 0 (length (requests found)) && nat_lt (line_behind d found) e && nat_lt (length m + length (requests found)) d.cache_mshrs in
-      ap (λ e. at e now.misses) end ∙ ap (at (now2.ram.base + length now2.ram.bytes)) m
-
-  same_prefetched : (found : List Line) → prefetched d now found ≡ prefetched d now2 found
-  same_prefetched found = ap₂ (λ b u. if b then request_by u else []) (same_prefetches found) (same_look (line_behind d found))
-
-  same_lacking : (found : List Line) → unless_lacking d now found ≡ unless_lacking d now2 found
-  same_lacking found = ap₂ (λ m ahead. if nat_le (length m + length (requests found)) d.cache_mshrs then Looks found ahead else Waits) m (same_prefetched found)
-
-  same_at : (b b2 : List Entry) (a n : ℕ) (f : Option Cause) → SameOutcomes d.stt_model b b2 → access_at d now b a n f ≡ access_at d now2 b2 a n f
-  same_at b b2 a n (Some cause) s = refl
-  same_at b b2 a n None s =
-      let lines = lines_of d a n in
-      ap₂ (λ f u. if f then Forwards else u) (same_forward d.stt_model b b2 a n s) (ap (unless_lacking d now) (same_found lines) ∙ same_lacking (map (look_up d now2) lines))
-
 -- ---- the access of a load, and the time of a division
 
 module _ (d : Desc) (code : Code) (x x2 : Machine) (r : Alike x x2) (place : SameShape x.ram x2.ram) (b b2 : List Entry) (same : SameOutcomes d.stt_model b b2) (e e2 : Entry) (h : without_outcome e ≡ without_outcome e2) where
@@ -122,7 +81,7 @@ module _ (d : Desc) (code : Code) (x x2 : Machine) (r : Alike x x2) (place : Sam
       let a2 = (effect_of x2.regs b2 e2).addr in
       let f = sym (same_fault load_misaligned load_outside x.ram x2.ram a2 n place) in
       let end = ap₂ (λ b s. b + s) (sym place.base) (sym place.size) in
-      let at = same_at d now (around x2) (ap (λ (m : Machine). m.cache) r) (ap (λ (m : Machine). m.second) r) (ap (λ (m : Machine). m.misses) r) end b b2 a2 n (load_fault x2.ram a2 n) same in
+      let at = same_access_at d now (around x2) (ap (λ (m : Machine). m.cache) r) (ap (λ (m : Machine). m.second) r) (ap (λ (m : Machine). m.misses) r) end b b2 a2 n (load_fault x2.ram a2 n) (same_forward d.stt_model b b2 a2 n same) in
       ap (λ a. access d now b a (byte_count e)) a ∙ ap (access d now b a2) w ∙ ap (access_at d now b a2 n) f ∙ at
 
   -- a division with untainted operands takes the same time in both runs

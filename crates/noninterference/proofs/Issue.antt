@@ -15,18 +15,18 @@ use Rattle.window_model.specs.State.{Machine, After}
 use Rattle.window_model.specs.declared.Divider.{Divider}
 use Rattle.window_model.specs.Order.{Place, each, each_from, first, is_load, is_store}
 use Rattle.window_model.specs.Around.{Around, around}
-use Rattle.window_model.specs.declared.lookup.Line.{Line}
-use Rattle.window_model.specs.declared.lookup.Line.TheVariants.{Hits, Joins, Takes}
-use Rattle.window_model.specs.Access.{Access, Faults, Forwards, Looks, Waits, cache_after, due_of, latency_of, latest, look_events, misses_after, second_after}
+use Rattle.window_model.specs.Access.{Access, Faults, Forwards, Looks, Waits, cache_after, latest, look_events, misses_after, second_after}
 use Rattle.window_model.specs.MayIssue.{effect_of, may_issue_as}
 use Rattle.window_model.specs.Ports.{Port, AddressPort, DataPort, DivPort, LoadPort, is_granted, may_at, port_of}
-use Rattle.window_model.specs.Issue.{issue, issue_entry, issue_whole, begin_as, Begun, waits, with_address, with_data, if_granted, load_as, access_of, value_loaded, is_division, after_load, divider_after}
-use Rattle.window_model.proofs.Together.{data_events, entry_parts, issue_parts}
+use Rattle.window_model.specs.Issue.{issue, issue_entry, issue_whole, begin_as, Begun, waits, load_as, access_of, value_loaded, is_division, after_load, divider_after}
+use Rattle.window_model.specs.inner.Issue.{parts_as}
+use Rattle.window_model.proofs.Together.{entry_parts, issue_parts}
 use Rattle.window_model.specs.Along.{Along}
 use Rattle.window_model.specs.Shape.{SameShape}
 use Rattle.window_model.specs.Retire.{hart_of}
 use Rattle.window_model.specs.declared.Event.TheVariants as event
 use Rattle.window_model.proofs.Booleans.{both}
+use Rattle.window_model.proofs.LookedUp.{same_dues}
 use Rattle.window_model.proofs.Places.{Found, found}
 use Rattle.window_model.proofs.Issuing.{asks_division, asks_load, may_own, may_parts, load_clean, division_clean}
 use Rattle.committed_state.specs.Consistent.{IsItem, EntryInvariant, bank_in}
@@ -55,15 +55,6 @@ same_begins e e2 cycle cycle2 due due2 vs vs2 h c q g =
 same_waits : (e e2 : Entry) → without_outcome e ≡ without_outcome e2 → begun_without (waits e) ≡ begun_without (waits e2)
 same_waits e e2 h = ap (λ t. let b : Begun = record { entry = t; events = [] } in b) h
 
-same_due : (d : Desc) (now now2 : Around) (l : Line) → now.cycle ≡ now2.cycle → due_of d now l ≡ due_of d now2 l
-same_due d now now2 (Hits line) q = ap (λ n. n + d.cache_hit_latency) q
-same_due d now now2 (Joins line due) q = refl
-same_due d now now2 (Takes r) q = ap (λ n. n + latency_of d r) q
-
-same_dues : (d : Desc) (now now2 : Around) (found : List Line) → now.cycle ≡ now2.cycle → map (due_of d now) found ≡ map (due_of d now2) found
-same_dues d now now2 [] q = refl
-same_dues d now now2 (l ∷ found) q = ap₂ (λ due dues. due ∷ dues) (same_due d now now2 l q) (same_dues d now now2 found q)
-
 same_load_as : (a : Access) (d : Desc) (now now2 : Around) (e e2 : Entry) (f f2 : Effect) (v v2 : ℕ) → without_outcome e ≡ without_outcome e2 → now.cycle ≡ now2.cycle → begun_without (load_as a d now e f v) ≡ begun_without (load_as a d now2 e2 f2 v2)
 same_load_as (Faults c) d now now2 e e2 f f2 v v2 h q = same_begins e e2 _ _ _ _ _ _ h q (ap (λ n. n + 1) q) (ap (λ (t : Entry). event.LdFault t.serial ∷ []) h)
 same_load_as Forwards d now now2 e e2 f f2 v v2 h q = same_begins e e2 _ _ _ _ _ _ h q (ap (λ n. n + 1) q) (ap (λ (t : Entry). event.LdForward t.serial ∷ []) h)
@@ -72,18 +63,11 @@ same_load_as Waits d now now2 e e2 f f2 v v2 h q = same_waits e e2 h
 
 -- ---- the parts of a store
 
--- what a store becomes of which the granted parts issue
-abbrev parts_of : Bool → Bool → Desc → Around → Effect → Entry → Begun
-parts_of address datum d now f e =
-    let a = if_granted address (with_address now f) (event.Agu e.serial ∷ []) e in
-    let b = if_granted datum (with_data now f) (data_events d e) a.entry in
-    record { entry = b.entry; events = a.events ++ b.events }
-
 -- the parts of a store that issue hide what they compute: address, fault and data
-parts_hide : (a c : Bool) (d : Desc) (now now2 : Around) (f f2 : Effect) (e : Entry) → now.cycle ≡ now2.cycle → begun_without (parts_of a c d now f e) ≡ begun_without (parts_of a c d now2 f2 (without_outcome e))
-parts_hide true true d now now2 f f2 e q = ap (λ n. begun_without (parts_of true true d (record now2 { cycle = n }) f2 (without_outcome e))) q
-parts_hide true false d now now2 f f2 e q = ap (λ n. begun_without (parts_of true false d (record now2 { cycle = n }) f2 (without_outcome e))) q
-parts_hide false true d now now2 f f2 e q = ap (λ n. begun_without (parts_of false true d (record now2 { cycle = n }) f2 (without_outcome e))) q
+parts_hide : (a c : Bool) (d : Desc) (now now2 : Around) (f f2 : Effect) (e : Entry) → now.cycle ≡ now2.cycle → begun_without (parts_as a c d now f e) ≡ begun_without (parts_as a c d now2 f2 (without_outcome e))
+parts_hide true true d now now2 f f2 e q = ap (λ n. begun_without (parts_as true true d (record now2 { cycle = n }) f2 (without_outcome e))) q
+parts_hide true false d now now2 f f2 e q = ap (λ n. begun_without (parts_as true false d (record now2 { cycle = n }) f2 (without_outcome e))) q
+parts_hide false true d now now2 f f2 e q = ap (λ n. begun_without (parts_as false true d (record now2 { cycle = n }) f2 (without_outcome e))) q
 parts_hide false false d now now2 f f2 e q = refl
 
 module _ (cycle : ℕ) (d : Desc) (code : Code) (x x2 : Machine) (r : Alike x x2) (place : SameShape x.ram x2.ram) where
@@ -131,9 +115,9 @@ module _ (cycle : ℕ) (d : Desc) (code : Code) (x x2 : Machine) (r : Alike x x2
       let f2 = effect_of x2.regs b2 e2 in
       let address2 = is_granted d now2 AddressPort b2 e2 in
       let datum2 = is_granted d now2 DataPort b2 e2 in
-      ap₂ (λ a c. begun_without (parts_of a c d now f e)) (granted_alike d x x2 r place b b2 s e e2 h AddressPort) (granted_alike d x x2 r place b b2 s e e2 h DataPort)
+      ap₂ (λ a c. begun_without (parts_as a c d now f e)) (granted_alike d x x2 r place b b2 s e e2 h AddressPort) (granted_alike d x x2 r place b b2 s e e2 h DataPort)
       ∙ parts_hide address2 datum2 d now now2 f f2 e cycle_same
-      ∙ ap (λ t. begun_without (parts_of address2 datum2 d now2 f2 t)) h
+      ∙ ap (λ t. begun_without (parts_as address2 datum2 d now2 f2 t)) h
       ∙ sym (parts_hide address2 datum2 d now2 now2 f2 f2 e2 refl)
 
   by_parts : (t t2 : Bool) (a a2 w w2 : Begun) → t ≡ t2 → begun_without a ≡ begun_without a2 → (t ≡ false → begun_without w ≡ begun_without w2) → begun_without (if t then a else w) ≡ begun_without (if t2 then a2 else w2)

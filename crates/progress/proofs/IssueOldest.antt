@@ -15,7 +15,6 @@ use Rattle.rv_types.specs.declared.Kind.TheVariants.{Mul, Div, Load, Store}
 use Rattle.machine_desc.specs.declared.Desc.{Desc}
 use Rattle.machine_desc.specs.Ranges.{IsDesc}
 use Rattle.window_model.specs.declared.Entry.{Entry}
-use Rattle.window_model.specs.declared.Event.TheVariants as event
 use Rattle.window_model.specs.declared.Miss.{Miss}
 use Rattle.window_model.specs.declared.Progress.{Progress}
 use Rattle.window_model.specs.declared.Progress.TheVariants.{Waiting, Busy, Done}
@@ -30,8 +29,9 @@ use Rattle.window_model.specs.Access.{Access, Faults, Forwards, Looks, Waits, ac
 use Rattle.window_model.specs.Retire.{op_of, byte_count}
 use Rattle.window_model.specs.MayIssue.{effect_of, may_issue_as}
 use Rattle.window_model.specs.Ports.{AddressPort, DataPort, DivPort, LoadPort, is_granted, may_at, ports, port_of, same_port}
-use Rattle.window_model.specs.Issue.{Begun, busy_until_both, if_granted, with_address, with_data, issue, issue_entry, begin_as, load_as, access_of, waits, value_loaded, time_of, after_load, divider_after}
-use Rattle.window_model.proofs.Together.{address_part, data_events, data_part, entry_parts, is_whole}
+use Rattle.window_model.specs.Issue.{Begun, busy_until_both, issue, issue_entry, begin_as, load_as, access_of, waits, value_loaded, time_of, after_load, divider_after}
+use Rattle.window_model.specs.inner.Issue.{parts_as}
+use Rattle.window_model.proofs.Together.{address_part, data_part, entry_parts, is_whole}
 use Rattle.window_model.proofs.Issuing.{looked, may_own, requests_few}
 use Rattle.window_model.proofs.Booleans.{is_below}
 use Rattle.machine_facts.specs.Sized.{HasParts, Together}
@@ -264,7 +264,7 @@ both_soon (Some a) None s k d cycle y g ms p q l m e = absurd (cc)
 
 parts_soon : (ga gc : Bool) (d : Desc) (now : Around) (f : Effect) (e : Entry) (y g : ℕ) (ms : List Miss) → (ga ≡ false → has_address e ≡ true) → (gc ≡ false → has_data e ≡ true) → (ga ≡ false → gc ≡ false → ⊥) →
     PartsDue now.cycle e → y ≡ now.cycle →
-    needs (if_granted gc (with_data now f) (data_events d e) (if_granted ga (with_address now f) (event.Agu e.serial ∷ []) e).entry).entry d y ms g < 2
+    needs (parts_as ga gc d now f e).entry d y ms g < 2
 parts_soon true true d now f e y g ms p q n l h = both_soon (Some (now.cycle + 1)) (Some (now.cycle + 1)) e.state e.item.kind d now.cycle y g ms refl refl (omega arith) (omega arith) h
 parts_soon true false d now f e y g ms p q n l h = both_soon (Some (now.cycle + 1)) e.data_due e.state e.item.kind d now.cycle y g ms refl (q refl) (omega arith) l.1 h
 parts_soon false true d now f e y g ms p q n l h = both_soon e.addr_due (Some (now.cycle + 1)) e.state e.item.kind d now.cycle y g ms (p refl) refl l.0 (omega arith) h

@@ -21,8 +21,9 @@ use Rattle.window_model.specs.Retire.{byte_count}
 use Rattle.window_model.specs.Access.{Access, Faults, access_at}
 use Rattle.window_model.specs.MayIssue.{may_issue_as, effect_of}
 use Rattle.window_model.specs.Ports.{Port, AddressPort, DataPort, port_of, ports, part_may, same_port, asking, is_granted, may_at}
-use Rattle.window_model.specs.Issue.{Begun, if_granted, with_address, with_data, issue_entry, issue_whole, begin_as, load_as, access_of, value_loaded, waits}
-use Rattle.window_model.proofs.Together.{data_events, entry_parts, issue_parts}
+use Rattle.window_model.specs.Issue.{Begun, issue_entry, issue_whole, begin_as, load_as, access_of, value_loaded, waits}
+use Rattle.window_model.specs.inner.Issue.{data_events, parts_as}
+use Rattle.window_model.proofs.Together.{entry_parts, issue_parts}
 use Rattle.quiet_cycles.specs.Still.{NotDueBefore, at_cycle}
 use Rattle.quiet_cycles.proofs.Waiting.{NoneBegins}
 
@@ -66,10 +67,7 @@ module _ (d : Desc) (x : Machine) (c : ℕ) where
   abbrev events_by : Bool → Bool → Entry → List Event
   events_by a c e = (if a then event.Agu e.serial ∷ [] else []) ++ (if c then data_events d e else [])
 
-  parts_have : (i : Around) (f : Effect) (a c : Bool) (e : Entry) →
-      let x = if_granted a (with_address i f) (event.Agu e.serial ∷ []) e in
-      let y = if_granted c (with_data i f) (data_events d e) x.entry in
-      x.events ++ y.events ≡ events_by a c e
+  parts_have : (i : Around) (f : Effect) (a c : Bool) (e : Entry) → (parts_as a c d i f e).events ≡ events_by a c e
   parts_have i f true true e = refl
   parts_have i f true false e = refl
   parts_have i f false true e = refl

@@ -2,14 +2,10 @@
 use Rattle.std.proofs.Common.{◌≡◌, ℕ, zero, suc, ◌+◌, Option, Some, None, refl, ap, ◌∙◌}
 use Rattle.std.specs.Prelude.{is_some, if◌then◌else◌}
 use Rattle.std.specs.Option.{option_map}
-use Rattle.rv_types.specs.Memory.{Code}
 use Rattle.rv_types.specs.declared.End.{End}
-use Rattle.machine_desc.specs.declared.Desc.{Desc}
-use Rattle.window_model.specs.State.{Machine}
 use Rattle.window_model.specs.Retire.{unless_ended}
 use Rattle.secret_marks.specs.declared.FirstShown.{FirstShown}
 use Rattle.secret_marks.specs.declared.Shown.{Shown}
-use Rattle.secret_marks.specs.Marks.{Marks}
 use Rattle.secret_marks.specs.Watch.{first_show, watch_cycle}
 use Rattle.secret_marks.specs.Shown.{FirstShownWhereFirstShows, first_shown, in_cycle, shown_cycle}
 use Rattle.secret_marks.proofs.ShownWhere.{shown_where_shows}

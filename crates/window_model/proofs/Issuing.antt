@@ -15,7 +15,6 @@ use Rattle.rv_types.specs.declared.Kind.{Kind}
 use Rattle.rv_types.specs.declared.Kind.TheVariants.{Load, Div}
 use Rattle.machine_desc.specs.declared.Desc.{Desc}
 use Rattle.window_model.specs.declared.Entry.{Entry}
-use Rattle.window_model.specs.declared.Event.TheVariants as event
 use Rattle.window_model.specs.declared.Progress.{Progress}
 use Rattle.window_model.specs.declared.Outcome.{Outcome}
 use Rattle.window_model.specs.declared.Miss.{Miss}
@@ -31,8 +30,9 @@ use Rattle.window_model.specs.declared.lookup.Request.{Request}
 use Rattle.window_model.specs.Access.{Access, Faults, Forwards, Looks, Waits, access_at, look_up, joined, request, request_by, requests, line_behind, prefetches, prefetched, unless_lacking, all_covered, any_store_hidden}
 use Rattle.window_model.specs.MayIssue.{may_issue, may_issue_as, goes_behind, effect_of}
 use Rattle.window_model.specs.Ports.{Port, AluPort, AddressPort, DataPort, DivPort, LoadPort, part_may, is_granted, may_at, port_of, same_port}
-use Rattle.window_model.specs.Issue.{Begun, issue_entry, issue_whole, begin_as, begun, busy_until_both, if_granted, with_address, with_data, load_as, access_of, waits, is_division, after_load}
-use Rattle.window_model.proofs.Together.{address_part, data_events, data_part, entry_parts, is_whole, issue_parts, ready_part}
+use Rattle.window_model.specs.Issue.{Begun, issue_entry, issue_whole, begin_as, begun, busy_until_both, with_address, with_data, load_as, access_of, waits, is_division, after_load}
+use Rattle.window_model.specs.inner.Issue.{parts_as}
+use Rattle.window_model.proofs.Together.{address_part, data_part, entry_parts, is_whole, issue_parts, ready_part}
 use Rattle.window_model.proofs.Booleans.{both, not_true}
 use Rattle.window_model.proofs.Counts.{Goes, goes_same, goes_then, Evolves}
 
@@ -162,7 +162,7 @@ begin_comes _ d now b e = Begins _ _ _ refl
 module _ (d : Desc) (now : Around) (b : List Entry) (e : Entry) (P : Entry → Type 0) (remains : P e)
     (begins : is_store e.item.kind ≡ false → MayIssue d now b e → P (begin_as e.item.kind d now b e).entry)
     (parts : is_store e.item.kind ≡ true → (a c : Bool) → (a ≡ true → MayGo d (has_address e) (base_of (sources e)) b) → (c ≡ true → MayGo d (has_data e) (others_of (sources e)) b) → P (gone_parts now b a c e)) where
-  granted_if : (a c : Bool) → P (gone_parts now b a c e) → P (if_granted c (with_data now (effect_of now.regs b e)) (data_events d e) (if_granted a (with_address now (effect_of now.regs b e)) (event.Agu e.serial ∷ []) e).entry).entry
+  granted_if : (a c : Bool) → P (gone_parts now b a c e) → P (parts_as a c d now (effect_of now.regs b e) e).entry
   granted_if true true h = h
   granted_if true false h = h
   granted_if false true h = h

@@ -21,3 +21,4 @@ pub mod Walks
 pub mod Quiet
 pub mod Telling
 pub mod Together
+pub mod LookedUp

@@ -1,14 +1,14 @@
 -- A store of either version said by its parts, so that no law on stores has two cases: in version 1 each part waits for
 -- what the whole store waits for. So both ask for their ports together and are granted them together, in every state.
-use Rattle.std.proofs.Common.{◌≡◌, ℕ, ◌+◌, Bool, true, false, not, ◌&&◌, ◌||◌, List, [], ◌∷◌, ◌++◌, refl, ap, ap₂, eqb-true}
+use Rattle.std.proofs.Common.{◌≡◌, ℕ, ◌+◌, ◌≤◌, Bool, true, false, not, ◌&&◌, ◌||◌, List, [], ◌∷◌, length, refl, ap, ap₂, arith, eqb-true}
 use Rattle.std.specs.Prelude.{if◌then◌else◌, nat_lt, ◌==◌}
 use Rattle.rv_types.specs.Isa.{Effect}
 use Rattle.rv_types.specs.Value.{one_if}
 use Rattle.rv_types.specs.declared.Kind.{Kind}
 use Rattle.rv_types.specs.declared.Kind.TheVariants.{Mul, Div, Load}
 use Rattle.machine_desc.specs.declared.Desc.{Desc}
+use Rattle.machine_desc.specs.Questions.{stores_in_one}
 use Rattle.window_model.specs.declared.Entry.{Entry}
-use Rattle.window_model.specs.declared.Event.{Event}
 use Rattle.window_model.specs.declared.Event.TheVariants as event
 use Rattle.window_model.specs.Around.{Around}
 use Rattle.window_model.specs.Order.{is_store, has_address, has_data, sources, base_of, others_of}
@@ -16,6 +16,7 @@ use Rattle.window_model.specs.Ready.{ready, all_known}
 use Rattle.window_model.specs.MayIssue.{Asks, asks_by_parts, effect_of, may_issue}
 use Rattle.window_model.specs.Ports.{AddressPort, DataPort, asking, is_granted, may_at, part_may, port_of, same_port}
 use Rattle.window_model.specs.Issue.{Begun, if_granted, issue_entry, issue_store, issue_whole, with_address, with_data}
+use Rattle.window_model.specs.inner.Issue.{data_events, parts_as, parts_with}
 
 -- ---- what a part asks for
 
@@ -97,28 +98,22 @@ module _ (d : Desc) (now : Around) (first : d.version ≡ 1) where
 
 -- ---- what a store does, by its parts
 
--- the data part's event: in version 1 it has none
-abbrev pub data_events : Desc → Entry → List Event
-data_events d e = if d.version == 1 then [] else event.Std e.serial ∷ []
-
 -- what a store becomes of which the parts that are granted their ports issue
 abbrev pub issue_parts : Desc → Around → List Entry → Entry → Begun
 issue_parts d now before e =
-    let f = effect_of now.regs before e in
-    let a = if_granted (is_granted d now AddressPort before e) (with_address now f) (event.Agu e.serial ∷ []) e in
-    let b = if_granted (is_granted d now DataPort before e) (with_data now f) (data_events d e) a.entry in
-    record { entry = b.entry; events = a.events ++ b.events }
+    parts_as (is_granted d now AddressPort before e) (is_granted d now DataPort before e) d now (effect_of now.regs before e) e
 
--- what a store becomes by whether each part is granted its port, with the events of its data part
-abbrev parts_as : Bool → Bool → List Event → Around → Effect → Entry → Begun
-parts_as a c datum now f e =
-    let g = if_granted a (with_address now f) (event.Agu e.serial ∷ []) e in
-    let r = if_granted c (with_data now f) datum g.entry in
-    record { entry = r.entry; events = g.events ++ r.events }
+-- the data part of a store has at most one event
+pub data_few : (d : Desc) (e : Entry) → length (data_events d e) ≤ 1
+data_few d e = by_version (stores_in_one d)
+  where
+    by_version : (v : Bool) → length (if v then [] else event.Std e.serial ∷ []) ≤ 1
+    by_version true = omega arith
+    by_version false = omega arith
 
 store_as : (v a c : Bool) (now : Around) (f : Effect) (e : Entry) → (v ≡ true → c ≡ a) →
-    (if v then if_granted (a && c) (λ e. with_data now f (with_address now f e)) (event.Agu e.serial ∷ []) e else parts_as a c (event.Std e.serial ∷ []) now f e)
-    ≡ parts_as a c (if v then [] else event.Std e.serial ∷ []) now f e
+    (if v then if_granted (a && c) (λ e. with_data now f (with_address now f e)) (event.Agu e.serial ∷ []) e else parts_with a c (event.Std e.serial ∷ []) now f e)
+    ≡ parts_with a c (if v then [] else event.Std e.serial ∷ []) now f e
 store_as false a c now f e h = refl
 store_as true true true now f e h = refl
 store_as true false false now f e h = refl

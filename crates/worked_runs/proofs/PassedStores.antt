@@ -1,5 +1,5 @@
 -- Loads that pass stores of unknown address.
-use Rattle.std.proofs.Common.{◌≡◌, ℕ, List, [], ◌∷◌, ◌++◌, Some, true, false, refl, lit≤}
+use Rattle.std.proofs.Common.{◌≡◌, ℕ, List, [], ◌∷◌, ◌++◌, Some, true, false, refl}
 use Rattle.std.specs.Int.Count.{count_leading_zeros}
 use Rattle.rv_types.specs.Decode.{decode}
 use Rattle.rv_types.specs.declared.End.TheVariants.{Exit, Trap}
