@@ -1,5 +1,5 @@
 -- What an entry's turn comes to: it waits on, or it goes on with an event.
-use Rattle.std.proofs.Common.{◌≡◌, ℕ, ◌+◌, ◌<◌, ◌≤◌, Bool, true, false, ◌&&◌, List, [], ◌∷◌, ◌++◌, length, refl, ap, ap₂, sym, subst, ◌∙◌, inl, inr, arith, append-nil, slice_get, Some, eqb-true}
+use Rattle.std.proofs.Common.{◌≡◌, ℕ, ◌+◌, ◌<◌, ◌≤◌, Bool, true, false, ◌&&◌, List, [], ◌∷◌, ◌++◌, length, refl, ap, ap₂, sym, subst, ◌∙◌, inl, inr, arith, append-nil, slice_get, Option, None, Some, eqb-true}
 use Rattle.std.specs.Prelude.{◌==◌, ◌||◌, if◌then◌else◌, map, slice_set, ◌⊎◌}
 use Rattle.std.specs.List.{All}
 use Rattle.std.proofs.lemmas.List.{set_at}
@@ -15,17 +15,18 @@ use Rattle.window_model.specs.declared.Event.{Event}
 use Rattle.window_model.specs.declared.Event.TheVariants as event
 use Rattle.window_model.specs.declared.Outcome.{Outcome}
 use Rattle.window_model.specs.Around.{Around}
-use Rattle.window_model.specs.State.{lines_of}
 use Rattle.window_model.specs.declared.lookup.Line.{Line}
+use Rattle.window_model.specs.declared.lookup.Lines.{Lines}
 use Rattle.window_model.specs.declared.lookup.Request.{Request}
-use Rattle.window_model.specs.Access.{Looks, look_up, prefetched, source_of}
+use Rattle.window_model.specs.declared.lookup.Access.TheVariants.{Looks}
+use Rattle.window_model.specs.Access.{look_events, looked_up, prefetched}
 use Rattle.window_model.specs.Order.{has_address, has_data, is_load, is_store, is_waiting}
 use Rattle.window_model.specs.Retire.{op_of, byte_count}
 use Rattle.window_model.specs.MayIssue.{effect_of}
 use Rattle.window_model.specs.Ports.{AddressPort, DataPort, is_granted, port_of}
 use Rattle.window_model.specs.Issue.{Begun, access_of, begin_as, begins, issue_entry, issue_store, load_as, waits}
 use Rattle.window_model.proofs.Booleans.{waiting_done}
-use Rattle.window_model.proofs.Issuing.{OneOrTwo, One, Two, by_load, by_prefetched, lines_are, may_parts}
+use Rattle.window_model.proofs.Issuing.{by_load, may_parts}
 use Rattle.window_model.specs.inner.Issue.{data_events, parts_as}
 use Rattle.window_model.proofs.Together.{data_few, entry_parts, granted_together, issue_parts}
 use Rattle.unit_ports.specs.Ports.{port_for}
@@ -117,14 +118,13 @@ one_event : (now : Around) (e : Entry) (due : ℕ) (o : Outcome) (v : Event) →
 one_event now e due o v s w = some_events now e due o v [] s w
 
 -- a load that looks lines up has an event for the first of them
-looks_turns : (d : Desc) (now : Around) (e : Entry) (f : Effect) (v : ℕ) (lines : List ℕ) (ahead : List Request) → OneOrTwo lines → is_store e.item.kind ≡ false → is_waiting e.state ≡ true →
-    Turns e (load_as (Looks (map (look_up d now) lines) ahead) d now e f v)
-looks_turns d now e f v _ ahead (One line) s w = some_events now e _ _ _ _ s w
-looks_turns d now e f v _ ahead (Two low high up) s w = some_events now e _ _ _ _ s w
+looks_turns : (d : Desc) (now : Around) (e : Entry) (f : Effect) (v : ℕ) (found : Lines) (ahead : Option Request) → is_store e.item.kind ≡ false → is_waiting e.state ≡ true →
+    Turns e (load_as (Looks found ahead) d now e f v)
+looks_turns d now e f v found ahead s w = some_events now e _ _ _ _ s w
 
 load_turns : (d : Desc) (now : Around) (b : List Entry) (e : Entry) (f : Effect) (v : ℕ) → is_store e.item.kind ≡ false → is_waiting e.state ≡ true → Turns e (load_as (access_of d now b e) d now e f v)
 load_turns d now b e f v s w =
-    by_load d now (λ a. Turns e (load_as a d now e f v)) (one_event now e _ _ _ s w) (λ a n some room. looks_turns d now e f v (lines_of d a n) _ (lines_are d a n some) s w)
+    by_load d now (λ a. Turns e (load_as a d now e f v)) (one_event now e _ _ _ s w) (λ a n some room. let found = looked_up d now a n in looks_turns d now e f v found (prefetched d now found) s w)
     (λ a n some full. inl refl) (λ c. one_event now e _ _ _ s w) b e
 
 begin_turns : (k : Kind) (d : Desc) (now : Around) (before : List Entry) (e : Entry) → is_store e.item.kind ≡ false → is_waiting e.state ≡ true → Turns e (begin_as k d now before e)
@@ -216,17 +216,18 @@ module _ (d : Desc) (now : Around) (before : List Entry) (e : Entry) where
 -- ---- how many events it has
 
 -- a load has one for each of its lines, and one for a line that is prefetched
-ahead_few : (d : Desc) (now : Around) (found : List Line) → length (map (λ r. event.Pf r.line (source_of r)) (prefetched d now found)) ≤ 1
-ahead_few d now found = by_prefetched d now found (λ rs. length (map (λ r. event.Pf r.line (source_of r)) rs) ≤ 1) (omega arith) (λ within room none. omega arith)
-
-looks_few : (d : Desc) (now : Around) (e : Entry) (f : Effect) (v : ℕ) (lines : List ℕ) → OneOrTwo lines →
-    (let found = map (look_up d now) lines in length (load_as (Looks found (prefetched d now found)) d now e f v).events ≤ 3)
-looks_few d now e f v _ (One line) = let few = ahead_few d now (look_up d now line ∷ []) in omega (arith, few)
-looks_few d now e f v _ (Two low high up) = let few = ahead_few d now (look_up d now low ∷ look_up d now high ∷ []) in omega (arith, few)
+looks_few : (serial : ℕ) (found : Lines) (ahead : Option Request) → length (look_events serial found ahead) ≤ 3
+looks_few serial found ahead = by_each found.upper ahead
+  where
+    by_each : (upper : Option Line) (r : Option Request) → length (look_events serial (record { lower = found.lower; upper = upper }) r) ≤ 3
+    by_each None None = omega arith
+    by_each None (Some r) = omega arith
+    by_each (Some u) None = omega arith
+    by_each (Some u) (Some r) = omega arith
 
 load_few : (d : Desc) (now : Around) (b : List Entry) (e : Entry) (f : Effect) (v : ℕ) → length (load_as (access_of d now b e) d now e f v).events ≤ 3
 load_few d now b e f v =
-    by_load d now (λ a. length (load_as a d now e f v).events ≤ 3) (omega arith) (λ a n some room. looks_few d now e f v (lines_of d a n) (lines_are d a n some))
+    by_load d now (λ a. length (load_as a d now e f v).events ≤ 3) (omega arith) (λ a n some room. let found = looked_up d now a n in looks_few e.serial found (prefetched d now found))
     (λ a n some full. omega arith) (λ c. omega arith) b e
 
 begin_few : (k : Kind) (d : Desc) (now : Around) (before : List Entry) (e : Entry) → length (begin_as k d now before e).events ≤ most_events_of k

@@ -19,8 +19,8 @@ mod row;
 mod table;
 
 pub use clocked::Clocked;
-pub use line::{line_of, lines_of};
-pub use lookup::{Line, Request};
+pub use line::{line_of, lines_of, upper_line};
+pub use lookup::{Access, Line, Lines, Request};
 pub use position::position_of;
 pub use row::{ROW_MAX, Row, empty_row};
 pub use table::index;

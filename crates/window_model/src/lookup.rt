@@ -1,6 +1,7 @@
-//! What looking up the lines of an access comes to (`docs/machine.md`, "Loads", "Second level").
+//! What the access of a load comes to (`docs/machine.md`, "Loads", "Second level").
 use crate::Look;
 use machine_desc::Desc;
+use rv_types::Cause;
 
 /// A line that takes a miss register.
 #[derive(Clone, Copy, Debug, PartialEq, Eq)]
@@ -49,13 +50,13 @@ pub enum Line {
 }
 
 impl Line {
-    ghost use Rattle.std.specs.Prelude.{◌≡◌, ◌≤◌, length};
-    ghost use Rattle.std.specs.Option.{option_to_list};
+    ghost use Rattle.std.specs.Prelude.{◌≡◌, ◌≤◌};
+    ghost use Rattle.std.specs.Option.{option_len};
     ghost use Rattle.window_model.specs.Access.{line_at, look_at, request_by};
 
     /// The line, if it takes a miss register.
     pub fn request(&self) -> Option<Request>
-        ensures { option_to_list result ≡ request_by self.now }
+        ensures { result ≡ request_by self.now }
     {
         match *self {
             Line::Takes(request) => Some(request),
@@ -63,9 +64,9 @@ impl Line {
         }
     }
 
-    /// How many miss registers it takes.
-    pub fn registers(&self) -> u32
-        ensures number { result ≡ length (request_by self.now) }
+    // How many miss registers it takes.
+    fn registers(&self) -> u32
+        ensures number { result ≡ option_len (request_by self.now) }
         ensures few { result ≤ 1 }
     {
         match self {
@@ -95,4 +96,64 @@ impl Line {
             Line::Takes(request) => request.source(),
         }
     }
+}
+
+/// What looking up the lines of an access comes to.
+#[derive(Clone, Copy, Debug, PartialEq, Eq)]
+pub struct Lines {
+    /// The line of the access's first byte.
+    pub lower: Line,
+    /// The line of the access's last byte, where it is another line.
+    pub upper: Option<Line>,
+}
+
+impl Lines {
+    ghost use Rattle.std.specs.Prelude.{◌≡◌, ◌≤◌, length};
+    ghost use Rattle.std.specs.Option.{option_and_then};
+    ghost use Rattle.window_model.specs.Access.{line_behind, request_by, requests};
+
+    /// How many miss registers they take.
+    pub fn registers(&self) -> u32
+        ensures number { result ≡ length (requests self.now) }
+        ensures few { result ≤ 2 }
+    {
+        match &self.upper {
+            Some(upper) => self.lower.registers() + upper.registers(),
+            None => self.lower.registers(),
+        }
+    }
+
+    /// The upper line, if it takes a miss register.
+    pub fn upper_request(&self) -> Option<Request>
+        ensures { result ≡ option_and_then request_by self.now.upper }
+    {
+        match &self.upper {
+            Some(upper) => upper.request(),
+            None => None,
+        }
+    }
+
+    /// The line behind the last of them, which may lie past the address 2^32 - 1.
+    pub fn behind(&self, desc: &Desc) -> u64
+        ensures { result ≡ line_behind desc.now self.now }
+    {
+        let last = match &self.upper {
+            Some(upper) => upper.line(),
+            None => self.lower.line(),
+        };
+        last as u64 + desc.cache_line as u64
+    }
+}
+
+/// What the access of a load comes to.
+#[derive(Clone, Copy, Debug, PartialEq, Eq)]
+pub enum Access {
+    /// The load has a fault, and reads nothing.
+    Faults(Cause),
+    /// Older stores have all bytes of the load.
+    Forwards,
+    /// The load's lines are looked up, and this line, if any, is prefetched with them.
+    Looks(Lines, Option<Request>),
+    /// Too few miss registers are free for the load's lines.
+    Waits,
 }
