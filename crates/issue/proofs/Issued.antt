@@ -1,7 +1,6 @@
 -- The phase leaves parts that hold what the machine then holds, and stand for it.
 use Rattle.std.proofs.Common.{◌≡◌, ℕ, ◌+◌, ◌≤◌, length, [], ap, sym, ◌∙◌, subst, arith}
 use Rattle.std.specs.List.{AllByRecursion as Each, flat_map}
-use Rattle.std.specs.Option.{option_map}
 use Rattle.machine_desc.proofs.EveryDesc.{every_desc}
 use Rattle.window_model.specs.declared.Divider.{Divider}
 use Rattle.window_model.specs.Around.{Around, around}
@@ -28,7 +27,6 @@ use Rattle.refinement.specs.InFlight.{InFlight}
 use Rattle.refinement.specs.Refines.{Refines}
 use Rattle.core_parts.proofs.Whole.{shown_by, told_by}
 use Rattle.issue.specs.declared.decide.Decided.{Decided}
-use Rattle.issue.specs.Accesses.{as_access}
 use Rattle.issue.specs.Decisions.{Decides, most_begun}
 use Rattle.issue.specs.Parts.{holding}
 use Rattle.issue.specs.Ports.{events_left, left_in_all}
@@ -88,10 +86,10 @@ registers_fit h w = subst (λ n. length h.mshrs.misses ≤ n) (sym (ap (λ (s : 
 
 -- lines take registers where as many are left
 pub registers_left : (h : Held) (decided : Decided) (new : Divider) → Whole h → Decides h.desc (around (machine_of h)) h.rob.entries decided h.ports.divider new →
-    length h.mshrs.misses + length (requested (option_map as_access decided.load)) ≤ h.mshrs.room
+    length h.mshrs.misses + length (requested decided.load) ≤ h.mshrs.room
 registers_left h decided new w k =
-    subst (λ n. length h.mshrs.misses + length (requested (option_map as_access decided.load)) ≤ n) (sym (ap (λ (s : Sizes). s.registers) w.made))
-    (has_room h.desc (machine_of h) w.sized.misses (option_map as_access decided.load) k.load)
+    subst (λ n. length h.mshrs.misses + length (requested decided.load) ≤ n) (sym (ap (λ (s : Sizes). s.registers) w.made))
+    (has_room h.desc (machine_of h) w.sized.misses decided.load k.load)
 
 -- the events of the entries' turns are those of the definition of the phase
 pub issued_row : (h : Held) (divider : Divider) (v : Described) (old new : Row) → Whole h → divider ≡ h.ports.divider →
@@ -106,19 +104,19 @@ issued_row h divider v old new w q e s =
 module _ (h : Held) (decided : Decided) (rob : Ring) (stations : Stations) (queues : Queues) (tags : Cache) (second : Cache) (mshrs : Registers) (ports : Ports) (w : Whole h)
     (k : Decides h.desc (around (machine_of h)) h.rob.entries decided h.ports.divider ports.divider)
     (r : rob ≡ record (h.rob) { entries = placed decided.puts.items h.rob.entries })
-    (t : tags ≡ record (h.tags) { sets = cache_left h.tags.desc (option_map as_access decided.load) h.tags.sets })
-    (t2 : second ≡ record (h.second) { sets = second_left h.second.desc (option_map as_access decided.load) h.second.sets })
-    (m : mshrs ≡ record (h.mshrs) { misses = misses_left h.desc h.cycle (option_map as_access decided.load) h.mshrs.misses }) where
+    (t : tags ≡ record (h.tags) { sets = cache_left h.tags.desc decided.load h.tags.sets })
+    (t2 : second ≡ record (h.second) { sets = second_left h.second.desc decided.load h.second.sets })
+    (m : mshrs ≡ record (h.mshrs) { misses = misses_left h.desc h.cycle decided.load h.mshrs.misses }) where
   abbrev new : Held
   new = record h { rob = rob; stations = stations; queues = queues; tags = tags; second = second; mshrs = mshrs; ports = ports }
 
   -- the parts that the phase leaves hold the machine that the definition leaves
   issued_machine : machine_of new ≡ (issue h.desc (machine_of h)).machine
   issued_machine =
-      leaves h.desc (machine_of h) rob.entries (option_map as_access decided.load) tags.sets second.sets mshrs.misses ports.divider
+      leaves h.desc (machine_of h) rob.entries decided.load tags.sets second.sets mshrs.misses ports.divider
       (ap (λ (r : Ring). r.entries) r ∙ k.window) k.load
-      (ap (λ (t : Cache). t.sets) t ∙ ap (λ (s : Sizes). cache_left s.tags (option_map as_access decided.load) h.tags.sets) w.made)
-      (ap (λ (t : Cache). t.sets) t2 ∙ ap (λ (s : Sizes). second_left s.second (option_map as_access decided.load) h.second.sets) w.made)
+      (ap (λ (t : Cache). t.sets) t ∙ ap (λ (s : Sizes). cache_left s.tags decided.load h.tags.sets) w.made)
+      (ap (λ (t : Cache). t.sets) t2 ∙ ap (λ (s : Sizes). second_left s.second decided.load h.second.sets) w.made)
       (ap (λ (m : Registers). m.misses) m) k.divider
 
   issued_sizes : stations.room ≡ h.stations.room → queues.max_loads ≡ h.queues.max_loads → queues.max_stores ≡ h.queues.max_stores → ports.alus ≡ h.ports.alus → sizes new ≡ sizes h

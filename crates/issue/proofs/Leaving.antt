@@ -9,10 +9,11 @@ use Rattle.window_model.specs.declared.Miss.{Miss}
 use Rattle.window_model.specs.State.{Machine}
 use Rattle.window_model.specs.Around.{Around, around}
 use Rattle.window_model.specs.Order.{Place, first}
-use Rattle.window_model.specs.Access.{Access, Line, line_behind, prefetched, request, requests}
+use Rattle.window_model.specs.declared.lookup.Access.{Access}
 use Rattle.window_model.specs.Ports.{DivPort, LoadPort, may_at}
 use Rattle.window_model.specs.Issue.{access_of, after_load, divider_after, issue, taken_for}
-use Rattle.window_model.proofs.Issuing.{by_load, by_prefetched, looked}
+use Rattle.window_model.proofs.Issuing.{by_load}
+use Rattle.machine_facts.proofs.Requests.{room_ahead}
 use Rattle.issue.specs.Decisions.{division_of, load_of, turns}
 use Rattle.issue.specs.Shared.{cache_left, divider_left, misses_left, requested, second_left}
 
@@ -56,17 +57,10 @@ leaves d x window load cache second misses divider w l c s m n =
 
 -- ---- lines take registers only where there are as many
 
--- where the load's own lines have registers, a line that is prefetched has one too
-ahead_room : (d : Desc) (now : Around) (found : List Line) → length now.misses + length (requests found) ≤ d.cache_mshrs → length now.misses + length (requests found ++ prefetched d now found) ≤ d.cache_mshrs
-ahead_room d now found h =
-    by_prefetched d now found (λ ahead. length now.misses + length (requests found ++ ahead) ≤ d.cache_mshrs)
-    (let n = length-append (requests found) [] in omega (arith, h, n))
-    (λ within room none. let n = length-append (requests found) (request d now (line_behind d found) ∷ []) in omega (arith, room, n))
-
 module _ (d : Desc) (x : Machine) (fits : length x.misses ≤ d.cache_mshrs) where
   access_room : (b : List Entry) (e : Entry) → length x.misses + length (requested (Some (access_of d (around x) b e))) ≤ d.cache_mshrs
   access_room =
-      by_load d (around x) (λ a. length x.misses + length (requested (Some a)) ≤ d.cache_mshrs) (omega (arith, fits)) (λ a n some room. ahead_room d (around x) (looked d (around x) a n) room)
+      by_load d (around x) (λ a. length x.misses + length (requested (Some a)) ≤ d.cache_mshrs) (omega (arith, fits)) (λ a n some room. room_ahead d (around x) a n room)
       (λ a n some full. omega (arith, fits)) (λ c. omega (arith, fits))
 
   room_by : (o : Option Place) → length x.misses + length (requested (loaded d x o)) ≤ d.cache_mshrs

@@ -6,7 +6,7 @@ use Rattle.std.proofs.lemmas.Nat.Bits.{bit_at-zero}
 use Rattle.circular_buffer.proofs.Places.{slice_get-some}
 use Rattle.window_model.specs.declared.Divider.{Divider}
 use Rattle.window_model.specs.declared.Event.{Event}
-use Rattle.window_model.specs.Access.{Access}
+use Rattle.window_model.specs.declared.lookup.Access.{Access}
 use Rattle.window_model.specs.Order.{before_at}
 use Rattle.unit_ports.specs.Ports.{Ports}
 use Rattle.stations.specs.Stations.{PlacesAble, Station, is_able}

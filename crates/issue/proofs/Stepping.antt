@@ -11,7 +11,6 @@ use Rattle.stations.specs.Stations.{is_able}
 use Rattle.issue.specs.declared.decide.Decided.{Decided}
 use Rattle.issue.specs.declared.seen.Place.{Place}
 use Rattle.issue.specs.declared.seen.Seen.{Seen}
-use Rattle.issue.specs.Accesses.{as_access}
 use Rattle.issue.specs.Decisions.{DecidesFor, HadTurn, most_begun, turns_of}
 use Rattle.issue.specs.Ports.{LeftFor, OnlyPorts, events_left, left_in_all}
 use Rattle.issue.specs.Puts.{ArePuts}
@@ -23,7 +22,7 @@ use Rattle.issue.proofs.Walking.{Walked, decided_all, decided_more, keeps, left_
 
 -- what the entries before a station have decided, with the ports and the row as they began
 pub record Walks (s : Seen) (first ports : Ports) (decided : Decided) (start row : Row) (k : ℕ) : Type 0 where
-  pub walked : Reaches (Walked s ports decided.puts.items (option_map as_access decided.load) first.divider start.events row.events) (window_of s) k
+  pub walked : Reaches (Walked s ports decided.puts.items decided.load first.divider start.events row.events) (window_of s) k
   pub only : OnlyPorts first ports
   pub few : length decided.puts.items + left_in_all ports ≤ most_begun
   pub room : length row.events + events_left ports ≤ length start.events + most_issued

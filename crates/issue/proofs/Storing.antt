@@ -1,7 +1,6 @@
 -- A store's turn, once each of its parts has asked for its port.
 use Rattle.std.proofs.Common.{◌≡◌, ◌≤◌, ◌+◌, Bool, true, false, ◌&&◌, List, ◌∷◌, ◌++◌, length, Some, refl, ap, ap₂, sym, subst, ◌∙◌, inl, inr, arith, append-nil}
 use Rattle.std.specs.Prelude.{◌||◌, ◌==◌, ◌⊎◌, nat_lt}
-use Rattle.std.specs.Option.{option_map}
 use Rattle.rv_types.specs.Value.{one_if}
 use Rattle.machine_desc.specs.declared.Desc.{Desc}
 use Rattle.window_model.specs.declared.Entry.{Entry}
@@ -19,7 +18,6 @@ use Rattle.unit_ports.proofs.Granting.{granted_is, left_by_store}
 use Rattle.issue.specs.declared.decide.Decided.{Decided}
 use Rattle.issue.specs.declared.seen.Place.{Place}
 use Rattle.issue.specs.declared.seen.Seen.{Seen}
-use Rattle.issue.specs.Accesses.{as_access}
 use Rattle.issue.specs.Decisions.{HadTurn}
 use Rattle.issue.specs.Ports.{LeftBehind, LeftFor, OnlyPorts, events_left, granted_at, left_in_all, may_here}
 use Rattle.issue.specs.State.{around_of, before_of, here}
@@ -137,7 +135,7 @@ module _ (s : Seen) (p : Place) (ports first new : Ports) (address stored : Bool
         puts = puts ∙ ap (λ o. decided.puts.items ++ puts_by p.position p.station o)
             (ap Some (goes.issued ∙ ap (λ (b : Begun). issued_of b.entry) same) ∙ sym put ∙ ap after_of (sym turn_is));
         row_is = goes.row ∙ ap (λ (b : Begun). with_events row b.events) (same ∙ sym turn_is);
-        load = ap (option_map as_access) load ∙ sym (ap (λ b. load_by b s p (option_map as_access decided.load)) (no_load d now before e store));
+        load = load ∙ sym (ap (λ b. load_by b s p decided.load) (no_load d now before e store));
         divider = same_divider ∙ sym (ap (λ b. divider_by b s p ports.divider) (no_division d now before e store));
         left = left_new;
         fewer = fewer;
@@ -152,7 +150,7 @@ module _ (s : Seen) (p : Place) (ports first new : Ports) (address stored : Bool
       record {
         puts = sym (ap (λ b. decided.puts.items ++ puts_of p.position p.station b) stays ∙ append-nil decided.puts.items);
         row_is = sym (ap (λ b. with_events row b.events) stays ∙ same_row row);
-        load = sym (ap (λ b. load_by b s p (option_map as_access decided.load)) (no_load d now before e store));
+        load = sym (ap (λ b. load_by b s p decided.load) (no_load d now before e store));
         divider = same_divider ∙ sym (ap (λ b. divider_by b s p ports.divider) (no_division d now before e store));
         left = left_new;
         fewer = fewer;

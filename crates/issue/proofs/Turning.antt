@@ -1,5 +1,5 @@
 -- What an entry's turn comes to: it waits on, or it goes on with an event.
-use Rattle.std.proofs.Common.{◌≡◌, ℕ, ◌+◌, ◌<◌, ◌≤◌, Bool, true, false, ◌&&◌, List, [], ◌∷◌, ◌++◌, length, refl, ap, ap₂, sym, subst, ◌∙◌, inl, inr, arith, append-nil, slice_get, Some, eqb-true}
+use Rattle.std.proofs.Common.{◌≡◌, ℕ, ◌+◌, ◌<◌, ◌≤◌, Bool, true, false, ◌&&◌, List, [], ◌∷◌, ◌++◌, length, refl, ap, ap₂, sym, subst, ◌∙◌, inl, inr, arith, append-nil, slice_get, Option, None, Some, eqb-true}
 use Rattle.std.specs.Prelude.{◌==◌, ◌||◌, if◌then◌else◌, map, slice_set, ◌⊎◌}
 use Rattle.std.specs.List.{All}
 use Rattle.std.proofs.lemmas.List.{set_at}
@@ -15,15 +15,18 @@ use Rattle.window_model.specs.declared.Event.{Event}
 use Rattle.window_model.specs.declared.Event.TheVariants as event
 use Rattle.window_model.specs.declared.Outcome.{Outcome}
 use Rattle.window_model.specs.Around.{Around}
-use Rattle.window_model.specs.State.{lines_of}
-use Rattle.window_model.specs.Access.{Looks, Request, look_up}
+use Rattle.window_model.specs.declared.lookup.Line.{Line}
+use Rattle.window_model.specs.declared.lookup.Lines.{Lines}
+use Rattle.window_model.specs.declared.lookup.Request.{Request}
+use Rattle.window_model.specs.declared.lookup.Access.TheVariants.{Looks}
+use Rattle.window_model.specs.Access.{look_events, looked_up, prefetched}
 use Rattle.window_model.specs.Order.{has_address, has_data, is_load, is_store, is_waiting}
 use Rattle.window_model.specs.Retire.{op_of, byte_count}
 use Rattle.window_model.specs.MayIssue.{effect_of}
 use Rattle.window_model.specs.Ports.{AddressPort, DataPort, is_granted, port_of}
 use Rattle.window_model.specs.Issue.{Begun, access_of, begin_as, begins, issue_entry, issue_store, load_as, waits}
 use Rattle.window_model.proofs.Booleans.{waiting_done}
-use Rattle.window_model.proofs.Issuing.{OneOrTwo, One, Two, by_load, lines_are, may_parts}
+use Rattle.window_model.proofs.Issuing.{by_load, may_parts}
 use Rattle.window_model.specs.inner.Issue.{data_events, parts_as}
 use Rattle.window_model.proofs.Together.{data_few, entry_parts, granted_together, issue_parts}
 use Rattle.unit_ports.specs.Ports.{port_for}
@@ -116,14 +119,13 @@ one_event : (now : Around) (e : Entry) (due : ℕ) (o : Outcome) (v : Event) →
 one_event now e due o v s w = some_events now e due o v [] s w
 
 -- a load that looks lines up has an event for the first of them
-looks_turns : (d : Desc) (now : Around) (e : Entry) (f : Effect) (v : ℕ) (lines : List ℕ) (ahead : List Request) → OneOrTwo lines → is_store e.item.kind ≡ false → is_waiting e.state ≡ true →
-    Turns e (load_as (Looks (map (look_up d now) lines) ahead) d now e f v)
-looks_turns d now e f v _ ahead (One line) s w = some_events now e _ _ _ _ s w
-looks_turns d now e f v _ ahead (Two low high up) s w = some_events now e _ _ _ _ s w
+looks_turns : (d : Desc) (now : Around) (e : Entry) (f : Effect) (v : ℕ) (found : Lines) (ahead : Option Request) → is_store e.item.kind ≡ false → is_waiting e.state ≡ true →
+    Turns e (load_as (Looks found ahead) d now e f v)
+looks_turns d now e f v found ahead s w = some_events now e _ _ _ _ s w
 
 load_turns : (d : Desc) (now : Around) (b : List Entry) (e : Entry) (f : Effect) (v : ℕ) → is_store e.item.kind ≡ false → is_waiting e.state ≡ true → Turns e (load_as (access_of d now b e) d now e f v)
 load_turns d now b e f v s w =
-    by_load d now (λ a. Turns e (load_as a d now e f v)) (one_event now e _ _ _ s w) (λ a n some room. looks_turns d now e f v (lines_of d a n) _ (lines_are d a n some) s w)
+    by_load d now (λ a. Turns e (load_as a d now e f v)) (one_event now e _ _ _ s w) (λ a n some room. let found = looked_up d now a n in looks_turns d now e f v found (prefetched d now found) s w)
     (λ a n some full. inl refl) (λ c. one_event now e _ _ _ s w) b e
 
 begin_turns : (k : Kind) (d : Desc) (now : Around) (before : List Entry) (e : Entry) → is_store e.item.kind ≡ false → is_waiting e.state ≡ true → Turns e (begin_as k d now before e)

@@ -2,14 +2,13 @@
 use Rattle.std.proofs.Common.{◌≡◌, ℕ, ◌+◌, ◌<◌, ◌≤◌, List, [], ◌∷◌, ◌++◌, length, map, take, Option, Some, None, refl, ap, sym, subst, ◌∙◌, arith, append-nil, append_assoc}
 use Rattle.std.specs.Prelude.{if◌then◌else◌}
 use Rattle.std.specs.List.{flat_map}
-use Rattle.std.specs.Option.{option_map}
 use Rattle.std.proofs.lemmas.List.{length-take-le, take_all}
 use Rattle.std.proofs.lemmas.List.Elements.{All-nil}
 use Rattle.std.proofs.lemmas.Option.{get_or_from_slice_get, slice_get_within}
 use Rattle.window_model.specs.declared.Divider.{Divider}
 use Rattle.window_model.specs.declared.Entry.{Entry}
 use Rattle.window_model.specs.declared.Event.{Event}
-use Rattle.window_model.specs.Access.{Access}
+use Rattle.window_model.specs.declared.lookup.Access.{Access}
 use Rattle.machine_desc.specs.declared.Desc.{Desc}
 use Rattle.window_model.specs.Around.{Around}
 use Rattle.window_model.specs.Order.{before_at, each}
@@ -22,7 +21,6 @@ use Rattle.refinement.specs.Stations.{station_of}
 use Rattle.issue.specs.declared.decide.Put.{Put}
 use Rattle.issue.specs.declared.seen.Seen.{Seen}
 use Rattle.issue.specs.declared.decide.Decided.{Decided}
-use Rattle.issue.specs.Accesses.{as_access}
 use Rattle.issue.specs.Decisions.{DecidesFor, turns_of}
 use Rattle.issue.specs.Puts.{ArePuts, IsPut, placed}
 use Rattle.issue.specs.Shared.{divider_left}
@@ -154,7 +152,7 @@ pub record DecidesAll (s : Seen) (decided : Decided) (start divider : Divider) (
   pub events_are : events ≡ earlier ++ flat_map (λ b. b.events) (turns_of s)
 
 pub decided_all : (s : Seen) (i : ℕ) (decided : Decided) (start divider : Divider) (earlier events : List Event) → length (window_of s) ≤ i →
-    DecidedTo s i decided.puts.items (option_map as_access decided.load) start divider earlier events → DecidesAll s decided start divider earlier events
+    DecidedTo s i decided.puts.items decided.load start divider earlier events → DecidesAll s decided start divider earlier events
 decided_all s i decided start divider earlier events le t =
     let now = around_of s in
     let d = s.desc.now in

@@ -4,14 +4,13 @@ use Rattle.std.specs.Option.{option_map}
 use Rattle.machine_desc.specs.declared.Desc.{Desc}
 use Rattle.window_model.specs.declared.Divider.{Divider}
 use Rattle.window_model.specs.declared.Entry.{Entry}
-use Rattle.window_model.specs.Access.{Access}
+use Rattle.window_model.specs.declared.lookup.Access.{Access}
 use Rattle.window_model.specs.Around.{Around}
 use Rattle.window_model.specs.Order.{each, first}
 use Rattle.window_model.specs.Ports.{DivPort, LoadPort, may_at}
 use Rattle.window_model.specs.Issue.{Begun, access_of, issue_entry, taken_for}
 use Rattle.issue.specs.declared.decide.Decided.{Decided}
 use Rattle.issue.specs.declared.seen.Seen.{Seen}
-use Rattle.issue.specs.Accesses.{as_access}
 use Rattle.issue.specs.Puts.{placed}
 use Rattle.issue.specs.Shared.{divider_left}
 use Rattle.issue.specs.declared.seen.Place.{Place}
@@ -42,7 +41,7 @@ most_begun = 9
 -- which entries begin, what the load's access comes to, and the divider then
 pub record Decides (d : Desc) (now : Around) (es : List Entry) (decided : Decided) (old new : Divider) : Type 0 where
   pub window : placed decided.puts.items es ≡ map (λ b. b.entry) (turns d now es)
-  pub load : option_map as_access decided.load ≡ load_of d now es
+  pub load : decided.load ≡ load_of d now es
   pub divider : new ≡ divider_left (division_of d now es) old
 
 -- nothing, as the phase begins
@@ -62,7 +61,7 @@ DecidesFor s decided old new = Decides s.desc.now (around_of s) (window_of s) de
 pub record HadTurn (s : Seen) (p : Place) (ports : Ports) (decided : Decided) (row : Row) (new_ports : Ports) (new_decided : Decided) (new_row : Row) : Type 0 where
   pub puts : new_decided.puts.items ≡ decided.puts.items ++ puts_of p.position p.station (here issue_entry s p)
   pub row_is : new_row ≡ with_events row (here issue_entry s p).events
-  pub load : option_map as_access new_decided.load ≡ load_by (granted_at LoadPort s p) s p (option_map as_access decided.load)
+  pub load : new_decided.load ≡ load_by (granted_at LoadPort s p) s p decided.load
   pub divider : new_ports.divider ≡ divider_by (granted_at DivPort s p) s p ports.divider
   pub left : LeftBehind s p new_ports
   -- whoever goes on took a port, and so has the events that it allows

@@ -1,9 +1,12 @@
 -- What the one load and the one division of a cycle leave of what all entries share (docs/machine.md, "Issue").
-use Rattle.std.specs.Prelude.{ℕ, List, [], ◌++◌, Option, None, Some}
+use Rattle.std.specs.Prelude.{ℕ, List, [], Option, None, Some}
 use Rattle.machine_desc.specs.declared.Desc.{Desc}
 use Rattle.window_model.specs.declared.Divider.{Divider}
 use Rattle.window_model.specs.declared.Miss.{Miss}
-use Rattle.window_model.specs.Access.{Access, Looks, Request, cache_after, misses_after, requests, second_after}
+use Rattle.window_model.specs.declared.lookup.Request.{Request}
+use Rattle.window_model.specs.declared.lookup.Access.{Access}
+use Rattle.window_model.specs.declared.lookup.Access.TheVariants.{Looks}
+use Rattle.window_model.specs.Access.{all_requests, cache_after, misses_after, second_after}
 
 -- the cache after the load's access, if a load was tried
 abbrev pub cache_left : Desc → Option Access → List (List ℕ) → List (List ℕ)
@@ -27,5 +30,5 @@ divider_left (Some taken) v = taken
 
 -- the lines that take registers with the load that was tried
 abbrev pub requested : Option Access → List Request
-requested (Some (Looks found ahead)) = requests found ++ ahead
+requested (Some (Looks found ahead)) = all_requests found ahead
 requested _ = []

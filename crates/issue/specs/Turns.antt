@@ -9,7 +9,8 @@ use Rattle.window_model.specs.declared.Divider.{Divider}
 use Rattle.window_model.specs.declared.Entry.{Entry}
 use Rattle.window_model.specs.declared.Event.{Event}
 use Rattle.window_model.specs.declared.Event.TheVariants as event
-use Rattle.window_model.specs.Access.{Access, access_at}
+use Rattle.window_model.specs.declared.lookup.Access.{Access}
+use Rattle.window_model.specs.Access.{access_at}
 use Rattle.window_model.specs.Around.{Around}
 use Rattle.window_model.specs.MayIssue.{effect_of}
 use Rattle.window_model.specs.Issue.{Begun, access_of, begin_as, if_granted, load_as, taken_for, value_loaded, with_address, with_data}
@@ -23,7 +24,6 @@ use Rattle.issue.specs.declared.decide.Put.{Put}
 use Rattle.issue.specs.declared.loads.Loaded.{Loaded}
 use Rattle.issue.specs.declared.seen.Place.{Place}
 use Rattle.issue.specs.declared.seen.Seen.{Seen}
-use Rattle.issue.specs.Accesses.{as_access}
 use Rattle.issue.specs.State.{around_of, before_of, here}
 
 -- what the instruction of the entry in its place makes of its operands
@@ -39,7 +39,7 @@ value_from a d now before e = value_loaded now.ram before e a
 
 -- what a load comes to by what it finds
 abbrev pub loads : Seen → Place → made.Effect → Loaded → Begun
-loads s p f l = load_as (as_access l.access) s.desc.now (around_of s) p.entry.now (seen f) l.value
+loads s p f l = load_as l.access s.desc.now (around_of s) p.entry.now (seen f) l.value
 
 -- a store by whether its address part is granted its port, and its data part
 abbrev pub address_by : Bool → Seen → Place → Effect → Begun

@@ -1,35 +1,18 @@
 //! What a load finds (`docs/machine.md`, "Loads", "Second level"): bytes of older stores, the cache, or misses.
-use crate::lines::{Line, Lines, Request};
 use crate::seen::Seen;
-use rv_types::Cause;
-use window_model::lines_of;
-
-/// What the access of a load comes to.
-#[derive(Clone, Copy, Debug, PartialEq, Eq)]
-pub(crate) enum Access {
-    /// The load has a fault, and reads nothing.
-    Faults(Cause),
-    /// Older stores have all bytes of the load.
-    Forwards,
-    /// The load's lines are looked up, and this line, if any, is prefetched with them.
-    Looks(Lines, Option<Request>),
-    /// Too few miss registers are free for the load's lines.
-    Waits,
-}
+use window_model::{Access, Line, Lines, Request, line_of, upper_line};
 
 impl<'a> Seen<'a> {
-    ghost use Rattle.std.specs.Prelude.{◌≡◌, ◌==◌, ◌≤◌, ◌<◌, ◌+◌, ◌^◌, IsTrue, map};
+    ghost use Rattle.std.specs.Prelude.{◌≡◌, ◌==◌, ◌≤◌, ◌<◌, ◌+◌, ◌^◌, IsTrue};
     ghost use Rattle.std.specs.List.{find};
-    ghost use Rattle.std.specs.Option.{option_map, option_to_list};
-    ghost use Rattle.window_model.specs.State.{lines_of};
-    ghost use Rattle.window_model.specs.Access.{joined, line_behind, look_up, prefetched, prefetches, request, unless_lacking};
-    ghost use Rattle.issue.specs.Accesses.{as_access, as_line, as_lines, as_request, found};
+    ghost use Rattle.window_model.specs.Access.{joined, line_behind, look_up, looked_up, prefetched, prefetches, request, unless_lacking};
+    ghost use Rattle.issue.specs.Accesses.{found};
     ghost use Rattle.issue.specs.State.{IssueInvariant, around_of};
 
     // A line that takes a miss register: it comes from the second level, where that has it.
     fn request(&self, line: u32) -> Request
         requires stands { IssueInvariant self.now }
-        ensures { as_request result ≡ request self.now.desc.now (around_of self.now) line }
+        ensures { result ≡ request self.now.desc.now (around_of self.now) line }
     {
         Request {
             line,
@@ -40,7 +23,7 @@ impl<'a> Seen<'a> {
     // A line that the cache lacks.
     fn join(&self, line: u32) -> Line
         requires stands { IssueInvariant self.now }
-        ensures { as_line result ≡ joined self.now.desc.now (around_of self.now) line
+        ensures { result ≡ joined self.now.desc.now (around_of self.now) line
             (find (λ m. m.line == line) self.now.mshrs.now.misses) }
     {
         match self.mshrs.find(line) {
@@ -52,7 +35,7 @@ impl<'a> Seen<'a> {
     // What looking up a line comes to: it hits, joins a miss register, or takes one.
     fn look_up(&self, line: u32) -> Line
         requires stands { IssueInvariant self.now }
-        ensures { as_line result ≡ look_up self.now.desc.now (around_of self.now) line }
+        ensures { result ≡ look_up self.now.desc.now (around_of self.now) line }
     {
         if self.tags.holds(line) {
             return Line::Hits(line);
@@ -65,15 +48,13 @@ impl<'a> Seen<'a> {
         requires stands { IssueInvariant self.now }
         requires some { 0 < bytes }
         requires within { addr + bytes ≤ 2 ^ 32 }
-        ensures { as_lines result
-            ≡ map (look_up self.now.desc.now (around_of self.now)) (lines_of self.now.desc.now addr bytes) }
+        ensures { result ≡ looked_up self.now.desc.now (around_of self.now) addr bytes }
     {
-        let lines = lines_of(self.desc, addr, bytes);
-        let lower = self.look_up(lines[0]);
-        match lines.get(1) {
+        let lower = self.look_up(line_of(self.desc, addr));
+        match upper_line(self.desc, addr, bytes) {
             Some(line) => Lines {
                 lower,
-                upper: Some(self.look_up(*line)),
+                upper: Some(self.look_up(line)),
             },
             None => Lines { lower, upper: None },
         }
@@ -83,8 +64,8 @@ impl<'a> Seen<'a> {
     // register is left.
     fn prefetches(&self, lines: &Lines) -> bool
         requires stands { IssueInvariant self.now }
-        ensures value { result ≡ prefetches self.now.desc.now (around_of self.now) (as_lines lines.now) }
-        ensures within { IsTrue result → line_behind self.now.desc.now (as_lines lines.now) < 2 ^ 32 }
+        ensures value { result ≡ prefetches self.now.desc.now (around_of self.now) lines.now }
+        ensures within { IsTrue result → line_behind self.now.desc.now lines.now < 2 ^ 32 }
     {
         let taken = lines.registers();
         self.desc.has_prefetch()
@@ -96,8 +77,7 @@ impl<'a> Seen<'a> {
     // The line behind an access, if it is prefetched: it takes the register that is left.
     fn prefetched(&self, lines: &Lines) -> Option<Request>
         requires stands { IssueInvariant self.now }
-        ensures { option_to_list (option_map as_request result)
-            ≡ prefetched self.now.desc.now (around_of self.now) (as_lines lines.now) }
+        ensures { result ≡ prefetched self.now.desc.now (around_of self.now) lines.now }
     {
         if !self.prefetches(lines) {
             return None;
@@ -108,7 +88,7 @@ impl<'a> Seen<'a> {
     // The lines are looked up, unless there are too few registers for them: then the load waits.
     fn unless_lacking(&self, lines: Lines) -> Access
         requires stands { IssueInvariant self.now }
-        ensures { as_access result ≡ unless_lacking self.now.desc.now (around_of self.now) (as_lines lines) }
+        ensures { result ≡ unless_lacking self.now.desc.now (around_of self.now) lines }
     {
         if lines.registers() > self.mshrs.free() {
             return Access::Waits;
@@ -122,7 +102,7 @@ impl<'a> Seen<'a> {
         requires stands { IssueInvariant self.now }
         requires some { 0 < bytes }
         requires within { addr + bytes ≤ 2 ^ 32 }
-        ensures { as_access result ≡ found self.now.desc.now (around_of self.now) forwarded addr bytes }
+        ensures { result ≡ found self.now.desc.now (around_of self.now) forwarded addr bytes }
     {
         if forwarded {
             return Access::Forwards;

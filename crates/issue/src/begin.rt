@@ -5,7 +5,6 @@ ghost use Rattle.rv_effect.specs.Seen.{seen};
 ghost use Rattle.window_model.specs.Issue.{begun, fault_if, outcome};
 ghost use Rattle.rob_ring.specs.Issued.{issued_of};
 
-use crate::access::Access;
 use crate::loads::Loaded;
 use crate::operands::Computed;
 use crate::seen::{Place, Seen};
@@ -14,7 +13,7 @@ use rv_alu::div_time;
 use rv_effect::Effect;
 use rv_types::{Cause, Kind};
 use unit_ports::Ports;
-use window_model::{Entry, Event, Outcome, Progress, Row};
+use window_model::{Access, Entry, Event, Outcome, Progress, Row};
 
 /// What an effect comes to with this value and fault.
 pub(crate) fn outcome(effect: &Effect, value: u32, fault: Option<Cause>) -> Outcome
@@ -54,14 +53,12 @@ pub(crate) fn begun(cycle: u32, entry: &Entry, due: u64, outcome: Outcome) -> Is
 
 impl<'a> Seen<'a> {
     ghost use Rattle.std.specs.Prelude.{◌≡◌, Some, false, true};
-    ghost use Rattle.std.specs.Option.{option_map};
     ghost use Rattle.rv_types.specs.declared.Kind.TheVariants as kind;
     ghost use Rattle.rv_effect.specs.Seen.{seen};
     ghost use Rattle.window_model.specs.MayIssue.{goes_behind};
     ghost use Rattle.window_model.specs.Issue.{begin_as, is_division};
     ghost use Rattle.window_model.specs.Order.{is_load, is_store};
     ghost use Rattle.window_model.specs.inner.Row.{HasRoom};
-    ghost use Rattle.issue.specs.Accesses.{as_access};
     ghost use Rattle.issue.specs.Operands.{first_of};
     ghost use Rattle.issue.specs.Ports.{most_events_of};
     ghost use Rattle.issue.specs.State.{HasTurn, around_of, here};
@@ -140,8 +137,7 @@ impl<'a> Seen<'a> {
         requires goes { is_load place.now.entry.now.item.kind ≡ true → here goes_behind self.now place.now ≡ true }
         requires room { HasRoom (most_events_of place.now.entry.now.item.kind) row.old }
         ensures comes { Comes (here begin_entry self.now place.now) result row.old row.new }
-        ensures load { option_map as_access load.new
-            ≡ load_by (is_load place.now.entry.now.item.kind) self.now place.now (option_map as_access load.old) }
+        ensures load { load.new ≡ load_by (is_load place.now.entry.now.item.kind) self.now place.now load.old }
         ensures divider { ports.new ≡ record ports.old {
           divider = divider_by (is_division place.now.entry.now.item.kind) self.now place.now ports.old.divider;
         } }

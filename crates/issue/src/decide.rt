@@ -1,11 +1,10 @@
 //! What the phase decides as it goes over the entries that wait, oldest first (`docs/machine.md`, "Issue"). Every test
 //! is made on the state before the phase.
-use crate::access::Access;
 use crate::seen::{Place, Seen};
 use arrayvec::ArrayVec;
 use rob_ring::Issued;
 use unit_ports::Ports;
-use window_model::{Progress, Row};
+use window_model::{Access, Progress, Row};
 
 /// At most so many entries issue in a cycle, or a part of them: four arithmetic units, and one port of each other kind.
 pub(crate) const PUTS_MAX: usize = 9;

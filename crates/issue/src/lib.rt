@@ -12,7 +12,6 @@ mod access;
 mod begin;
 mod decide;
 mod gate;
-mod lines;
 mod loads;
 mod operands;
 mod parts;

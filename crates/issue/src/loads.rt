@@ -1,20 +1,16 @@
 //! A load that is granted its port (`docs/machine.md`, "Loads"): its access, its value from older stores' bytes and
 //! memory's, and what becomes of it.
 ghost use Rattle.std.specs.Prelude.{◌≡◌};
-ghost use Rattle.std.specs.Option.{option_map, option_to_list};
 ghost use Rattle.window_model.specs.Access.{look_events};
 ghost use Rattle.window_model.specs.inner.Row.{HasRoom, with_events};
-ghost use Rattle.issue.specs.Accesses.{as_lines, as_request};
 
-use crate::access::Access;
 use crate::begin::{begun, outcome};
-use crate::lines::{Line, Lines, Request};
 use crate::seen::{Place, Seen};
 use lsq::{LoadRequest, Merged};
 use rob_ring::Issued;
 use rv_alu::extend;
 use rv_effect::Effect;
-use window_model::{Event, Row};
+use window_model::{Access, Event, Line, Lines, Request, Row};
 
 /// What a load finds: how its bytes are served, and its value.
 #[derive(Clone, Copy, Debug, PartialEq, Eq)]
@@ -28,8 +24,7 @@ pub(crate) struct Loaded {
 // An event for each line that a load looks up, and for what is prefetched.
 fn tell_lines(serial: u64, lines: &Lines, ahead: Option<Request>, row: &mut Row)
     requires room { HasRoom 3 row.old }
-    ensures { row.new ≡ with_events row.old
-        (look_events serial (as_lines lines.now) (option_to_list (option_map as_request ahead))) }
+    ensures { row.new ≡ with_events row.old (look_events serial lines.now ahead) }
 {
     row.push(Event::Ld(serial, lines.lower.line(), lines.lower.look()));
     if let Some(upper) = &lines.upper {
@@ -52,7 +47,6 @@ impl<'a> Seen<'a> {
     ghost use Rattle.window_model.specs.Retire.{byte_count};
     ghost use Rattle.window_model.specs.inner.Row.{HasRoom};
     ghost use Rattle.visibility.specs.Point.{is_hidden};
-    ghost use Rattle.issue.specs.Accesses.{as_access, as_line, as_lines};
     ghost use Rattle.issue.specs.State.{HasTurn, around_of, before_of, here};
     ghost use Rattle.issue.specs.Pending.{passes_here};
     ghost use Rattle.issue.specs.Turns.{Comes, access_from, effect_here, loads, value_from};
@@ -71,7 +65,7 @@ impl<'a> Seen<'a> {
         requires lets { stores_let self.now.desc.now.stt_model (passes_here self.now place.now)
             (range request.now.addr (byte_count place.now.entry.now)) (before_of self.now place.now) ≡ true }
         requires sound { load_fault self.now.ram.now request.now.addr (byte_count place.now.entry.now) ≡ None }
-        ensures access { as_access result.access ≡ here (access_from request.now.addr) self.now place.now }
+        ensures access { result.access ≡ here (access_from request.now.addr) self.now place.now }
         ensures value { result.value ≡ here (value_from request.now.addr) self.now place.now }
     {
         let merged = self.lsq.merge(place.entry.serial, request, self.ram);
@@ -87,7 +81,7 @@ impl<'a> Seen<'a> {
         requires turn { HasTurn self.now place.now }
         requires goes { here goes_behind self.now place.now ≡ true }
         requires effect { seen made.now ≡ effect_here self.now place.now }
-        ensures access { as_access result.access ≡ here access_of self.now place.now }
+        ensures access { result.access ≡ here access_of self.now place.now }
         ensures begun { loads self.now place.now made.now result ≡ here (begin_as kind.Load) self.now place.now }
     {
         let request = self.load_request(place, made);
@@ -102,7 +96,7 @@ impl<'a> Seen<'a> {
 
     // The cycle in which a line is there.
     fn due_of(&self, line: &Line) -> u64
-        ensures { result ≡ due_of self.now.desc.now (around_of self.now) (as_line line.now) }
+        ensures { result ≡ due_of self.now.desc.now (around_of self.now) line.now }
     {
         let cycle = self.cycle as u64;
         match line {
@@ -114,7 +108,7 @@ impl<'a> Seen<'a> {
 
     // The cycle in which all lines of an access are there.
     fn due_by(&self, lines: &Lines) -> u64
-        ensures { result ≡ due_by self.now.desc.now (around_of self.now) (as_lines lines.now) }
+        ensures { result ≡ due_by self.now.desc.now (around_of self.now) lines.now }
     {
         let lower = self.due_of(&lines.lower);
         match &lines.upper {

@@ -2,22 +2,20 @@
 //! "Issue").
 ghost use Rattle.std.specs.Prelude.{◌≡◌, ◌<◌, ◌≤◌, ◌+◌, ◌^◌, [], ◌∷◌, ◌++◌, length, map};
 ghost use Rattle.std.specs.List.{fold};
-ghost use Rattle.std.specs.Option.{option_map, option_to_list};
+ghost use Rattle.std.specs.Option.{option_to_list};
 ghost use Rattle.window_model.specs.Access.{register};
 ghost use Rattle.window_model.specs.SecondLevel.{second_touched};
-ghost use Rattle.issue.specs.Accesses.{as_access, as_request};
 ghost use Rattle.issue.specs.Shared.{cache_left, misses_left, requested, second_left};
 
-use crate::access::Access;
-use crate::lines::Request;
 use cache_tags::Tags;
 use machine_desc::Desc;
 use mshr_file::Mshrs;
 use second_level::Second;
+use window_model::{Access, Request};
 
 /// Moves each line of a load to the front of its set, where the cache has it.
 pub(crate) fn touch(tags: &mut Tags, load: Option<Access>)
-    ensures { tags.new ≡ record tags.old { sets = cache_left tags.old.desc (option_map as_access load) tags.old.sets } }
+    ensures { tags.new ≡ record tags.old { sets = cache_left tags.old.desc load tags.old.sets } }
 {
     if let Some(Access::Looks(lines, _)) = load {
         let _ = tags.touch(lines.lower.line());
@@ -35,13 +33,13 @@ fn take_register(
     cycle: u32,
     desc: &Desc,
 )
-    requires room { length mshrs.old.misses + length (option_to_list (option_map as_request request)) ≤ mshrs.old.room }
+    requires room { length mshrs.old.misses + length (option_to_list request) ≤ mshrs.old.room }
     ensures misses { mshrs.new ≡ record mshrs.old {
-      misses = mshrs.old.misses ++ map (register desc.now cycle) (option_to_list (option_map as_request request));
+      misses = mshrs.old.misses ++ map (register desc.now cycle) (option_to_list request);
     } }
     ensures second { second.new ≡ record second.old {
       sets = fold (second_touched second.old.desc) second.old.sets
-          (map (λ r. r.line) (option_to_list (option_map as_request request)));
+          (map (λ r. r.line) (option_to_list request));
     } }
 {
     if let Some(request) = request {
@@ -59,12 +57,12 @@ pub(crate) fn take_registers(
     cycle: u32,
     desc: &Desc,
 )
-    requires room { length mshrs.old.misses + length (requested (option_map as_access load)) ≤ mshrs.old.room }
+    requires room { length mshrs.old.misses + length (requested load) ≤ mshrs.old.room }
     ensures misses { mshrs.new ≡ record mshrs.old {
-      misses = misses_left desc.now cycle (option_map as_access load) mshrs.old.misses;
+      misses = misses_left desc.now cycle load mshrs.old.misses;
     } }
     ensures second { second.new ≡ record second.old {
-      sets = second_left second.old.desc (option_map as_access load) second.old.sets;
+      sets = second_left second.old.desc load second.old.sets;
     } }
 {
     if let Some(Access::Looks(lines, ahead)) = load {

@@ -2,6 +2,7 @@
 use Rattle.std.proofs.Common.{◌≡◌, ◌≢◌, ◌⊎◌, inl, inr, ℕ, suc, ◌+◌, ◌<◌, ◌≤◌, Bool, true, false, not, cond, List, [], ◌∷◌, ◌++◌, length, Option, Some, None, refl, sym, subst, arith}
 use Rattle.std.proofs.lemmas.Bool.Decides.{nat_tests}
 use Rattle.std.specs.Prelude.{if◌then◌else◌, ◌==◌, map}
+use Rattle.std.specs.Option.{option_map}
 use Rattle.std.specs.List.{filter, find, AllByRecursion as Each}
 use Rattle.rv_types.specs.Isa.{Effect}
 use Rattle.rv_types.specs.declared.Kind.{Kind}
@@ -13,17 +14,20 @@ use Rattle.window_model.specs.declared.Item.{Item}
 use Rattle.window_model.specs.declared.Miss.{Miss}
 use Rattle.window_model.specs.declared.Progress.{Progress}
 use Rattle.window_model.specs.declared.Progress.TheVariants.{Waiting, Busy, Done}
-use Rattle.window_model.specs.State.{Machine, lines_of}
+use Rattle.window_model.specs.State.{Machine, line_of, upper_line}
 use Rattle.window_model.specs.Order.{Place, each_from, is_store}
 use Rattle.window_model.specs.Fill.{is_due, completed, completes, completes_at}
 use Rattle.window_model.specs.Around.{Around}
-use Rattle.window_model.specs.Access.{Access, Faults, Forwards, Looks, Waits, Request, due_by, due_of, latency_of, look_up, misses_after, prefetched, register, request, requests}
+use Rattle.window_model.specs.declared.lookup.Request.{Request}
+use Rattle.window_model.specs.declared.lookup.Access.{Access}
+use Rattle.window_model.specs.declared.lookup.Access.TheVariants.{Faults, Forwards, Looks, Waits}
+use Rattle.window_model.specs.Access.{all_requests, due_by, due_of, latency_of, look_up, looked_up, misses_after, prefetched, register, request}
 use Rattle.window_model.specs.SecondLevel.{second_has}
 use Rattle.window_model.specs.MayIssue.{effect_of}
 use Rattle.window_model.specs.Issue.{Begun, issue_entry, begin_as, busy_until_both, load_as, with_address, access_of, time_of, divider_after}
 use Rattle.window_model.specs.Rename.{renamed, at_once}
 use Rattle.window_model.proofs.Lists.{each_then, each_map, each_join, each_filter, OfSome, find_each}
-use Rattle.window_model.proofs.Issuing.{Comes, Remains, Begins, by_issue, begin_comes, begin_goes, gone_parts, OneOrTwo, One, Two, by_line, by_load, lines_are, looked}
+use Rattle.window_model.proofs.Issuing.{Comes, Remains, Begins, by_issue, begin_comes, begin_goes, gone_parts, by_line, by_load}
 use Rattle.machine_facts.proofs.Requests.{AllFresh, all_fresh}
 use Rattle.machine_facts.specs.Laws.{OneDivisionIsLongest}
 use Rattle.machine_facts.specs.Timely.{IsSoon, DueSoon, IsDue, PartDue, PartsDue, IsPending, StaysCleared, Apart, latency, longest_division}
@@ -120,13 +124,13 @@ module _ (d : Desc) (now : Around) (i : IsDesc d) (sets : length now.second ≡ 
       (λ m q. of_found d now _ m q (find_each (IsPending d now.cycle now.cycle) (λ m. m.line == line) now.misses h)) (λ q. register_soon d now i sets line)
 
   -- one line or the later of two comes soon
-  lines_soon : (lines : List ℕ) → OneOrTwo lines → Soon (due_by d now (map (look_up d now) lines))
-  lines_soon _ (One line) = line_soon line
-  lines_soon _ (Two low high l) = let p = line_soon low in let q = line_soon high in (omega (arith, p.0, q.0), omega (arith, p.1, q.1))
+  lines_soon : (low : ℕ) (up : Option ℕ) → Soon (due_by d now (record { lower = look_up d now low; upper = option_map (look_up d now) up }))
+  lines_soon low None = line_soon low
+  lines_soon low (Some high) = let p = line_soon low in let q = line_soon high in (omega (arith, p.0, q.0), omega (arith, p.1, q.1))
 
   -- the lines that an entry's access looks up come soon, if it looks up any
   pub looks_soon : (b : List Entry) (e : Entry) → LooksSoon d now (access_of d now b e)
-  looks_soon = by_load d now (LooksSoon d now) tt (λ a n some room. lines_soon (lines_of d a n) (lines_are d a n some)) (λ a n some r. tt) (λ c. tt)
+  looks_soon = by_load d now (LooksSoon d now) tt (λ a n some room. lines_soon (line_of d a) (upper_line d a n)) (λ a n some r. tt) (λ c. tt)
 
 module _ (d : Desc) (now : Around) (i : IsDesc d) (sets : length now.second ≡ d.cache_second_sets) where
   abbrev BusySoon : Kind → Progress → Type 0
@@ -309,8 +313,8 @@ pub taken_soon : (d : Desc) (now : Around) → IsDesc d → length now.second �
 taken_soon d now i sets h =
     by_load d now (λ a. MissesSoon d now.cycle (misses_after a d now.cycle now.misses)) h
     (λ a n some room.
-    let found = looked d now a n in
-    let rs = requests found ++ prefetched d now found in
+    let found = looked_up d now a n in
+    let rs = all_requests found (prefetched d now found) in
     let fresh = all_fresh d now a n some in
     record {
       misses = each_join (IsPending d now.cycle now.cycle) now.misses (taken d now rs) h.misses (taken_pending d now i sets 0 rs fresh);

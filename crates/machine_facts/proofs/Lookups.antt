@@ -1,19 +1,27 @@
 -- A load's lines may be looked up at once, or in turn: the same is found, and the same is left.
 use Rattle.std.proofs.Common.{◌≡◌, ◌≢◌, ℕ, zero, suc, ◌+◌, Bool, true, false, not, ◌||◌, List, [], ◌∷◌, ◌++◌, length, set, get_or, Option, Some, None, refl, ap, ap₂, sym, subst, ◌∙◌, arith, eqb-true, length-append, append-nil, append_assoc}
 use Rattle.std.proofs.lemmas.List.{length-map}
-use Rattle.std.specs.List.{AllByRecursion as Each}
+use Rattle.std.specs.Option.{option_and_then, option_map, option_to_list}
 use Rattle.std.specs.List.{filter, find, fold, list_any}
-use Rattle.std.specs.Prelude.{if◌then◌else◌, nat_le, ◌==◌, map}
+use Rattle.std.specs.Prelude.{if◌then◌else◌, nat_le, nat_lt, ◌==◌, ◌&&◌, map}
+use Rattle.rv_types.specs.Memory.{Ram}
+use Rattle.machine_desc.specs.Questions.{has_prefetch}
 use Rattle.machine_desc.specs.declared.Desc.{Desc}
 use Rattle.window_model.specs.declared.Miss.{Miss}
 use Rattle.window_model.specs.Around.{Around}
 use Rattle.window_model.specs.SecondLevel.{second_has, second_set_of, second_touched}
 use Rattle.window_model.specs.Sets.{is_in, moved_up}
-use Rattle.window_model.specs.State.{lines_of, set_of}
+use Rattle.window_model.specs.State.{line_of, set_of, upper_line}
 use Rattle.window_model.specs.Retire.{has_line, touched}
-use Rattle.window_model.specs.Access.{Line, Hits, Joins, Takes, Request, Access, Looks, Waits, joined, look_up, line_at, line_behind, prefetched, register, request_by, requests, unless_lacking}
+use Rattle.window_model.specs.declared.lookup.Line.{Line}
+use Rattle.window_model.specs.declared.lookup.Line.TheVariants.{Hits, Joins, Takes}
+use Rattle.window_model.specs.declared.lookup.Lines.{Lines}
+use Rattle.window_model.specs.declared.lookup.Request.{Request}
+use Rattle.window_model.specs.declared.lookup.Access.{Access}
+use Rattle.window_model.specs.declared.lookup.Access.TheVariants.{Looks, Waits}
+use Rattle.window_model.specs.Access.{in_order, joined, look_up, line_at, line_behind, prefetched, register, request_by, requests, unless_lacking}
 use Rattle.window_model.proofs.Issuing.{OneOrTwo, One, Two, lines_are}
-use Rattle.machine_facts.specs.InTurn.{left_by, InTurn, in_turn, ahead_of, access_in_turn, OthersStay, AccessesGoInTurn, AccessesLeaveInTurn}
+use Rattle.machine_facts.specs.InTurn.{left_above, left_by, InTurn, in_turn, ahead_of, access_in_turn, OthersStay, AccessesGoInTurn, AccessesLeaveInTurn}
 use Rattle.machine_facts.proofs.Requests.{line_found}
 
 -- ---- a line that moves to the front of its set leaves in each set what was in it
@@ -75,7 +83,7 @@ found_before p [] ys h = h
 found_before p (x ∷ xs) ys h = found_if (p x) x _ _ (found_before p xs ys h)
 
 -- the register that a line takes is found for no other line
-not_found : (d : Desc) (cycle : ℕ) (l : Line) (other : ℕ) → line_at l ≢ other → find (λ (m : Miss). m.line == other) (map (register d cycle) (request_by l)) ≡ None
+not_found : (d : Desc) (cycle : ℕ) (l : Line) (other : ℕ) → line_at l ≢ other → find (λ (m : Miss). m.line == other) (map (register d cycle) (option_to_list (request_by l))) ≡ None
 not_found d cycle (Hits line) other h = refl
 not_found d cycle (Joins line due) other h = refl
 not_found d cycle (Takes r) other h = by_test (r.line == other) refl
@@ -99,28 +107,28 @@ others_stay d now line other apart =
     look_if d now (left_by d l now) other (has_line d now.cache other) _ (find (λ m. m.line == other) now.misses) _
     (moved_keeps now.cache (set_of d (line_at l)) (set_of d other) (line_at l) other)
     (found_before (λ m. m.line == other) now.misses _ (not_found d now.cycle l other (λ q. apart (sym at ∙ q))))
-    (second_keeps d (map (λ r. r.line) (request_by l)) now.second other)
+    (second_keeps d (map (λ r. r.line) (option_to_list (request_by l))) now.second other)
 
--- ---- several lines in turn
+-- ---- the lower line and the upper one in turn
 
-pub turns_keep : (d : Desc) (lines : List ℕ) (now : Around) (other : ℕ) → Each (λ line. line ≢ other) lines → look_up d (in_turn d now lines).left other ≡ look_up d now other
-turns_keep d [] now other h = refl
-turns_keep d (line ∷ lines) now other h = turns_keep d lines (left_by d (look_up d now line) now) other h.1 ∙ others_stay d now line other h.0
+-- neither line of an access is this one
+abbrev NeitherIs : ℕ → ℕ → Option ℕ → Type 0
+NeitherIs other low None = low ≢ other
+NeitherIs other low (Some high) = (low ≢ other) × (high ≢ other)
 
--- no line of a list is another one of it
-abbrev Differ : List ℕ → Type 0
-Differ [] = Unit {0}
-Differ (line ∷ lines) = Each (λ other. line ≢ other) lines × Differ lines
+turns_keep : (d : Desc) (now : Around) (low : ℕ) (up : Option ℕ) (other : ℕ) → NeitherIs other low up → look_up d (in_turn d now low up).left other ≡ look_up d now other
+turns_keep d now low None other h = others_stay d now low other h
+turns_keep d now low (Some high) other h = others_stay d (left_by d (look_up d now low) now) high other h.1 ∙ others_stay d now low other h.0
 
-same_looks : (d : Desc) (now : Around) (line : ℕ) (lines : List ℕ) → Each (λ other. line ≢ other) lines
-    → map (look_up d (left_by d (look_up d now line) now)) lines ≡ map (look_up d now) lines
-same_looks d now line [] h = refl
-same_looks d now line (other ∷ lines) h = ap₂ (λ (l : Line) (ls : List Line). l ∷ ls) (others_stay d now line other h.0) (same_looks d now line lines h.1)
+-- the lines of an access, looked up on one state
+abbrev looked : Desc → Around → ℕ → Option ℕ → Lines
+looked d now low up = record { lower = look_up d now low; upper = option_map (look_up d now) up }
 
-same_found : (d : Desc) (lines : List ℕ) (now : Around) → Differ lines → (in_turn d now lines).found ≡ map (look_up d now) lines
-same_found d [] now h = refl
-same_found d (line ∷ lines) now h =
-    ap (λ (ls : List Line). look_up d now line ∷ ls) (same_found d lines (left_by d (look_up d now line) now) h.1 ∙ same_looks d now line lines h.0)
+same_found : (d : Desc) (now : Around) (low : ℕ) (up : Option ℕ) → OneOrTwo low up → (in_turn d now low up).found ≡ looked d now low up
+same_found d now _ _ (One line) = refl
+same_found d now _ _ (Two low high l) =
+    let with_upper : Line → Lines = λ upper. record { lower = look_up d now low; upper = Some upper } in
+    ap with_upper (others_stay d now low high (λ q. omega (arith, q, l)))
 
 -- ---- what is left
 
@@ -132,85 +140,101 @@ fold_append : {S X : Type 0} (f : S → X → S) (xs ys : List X) (s : S) → fo
 fold_append f [] ys s = refl
 fold_append f (x ∷ xs) ys s = fold_append f xs ys (f s x)
 
-module _ (d : Desc) where
-  same_cycle : (lines : List ℕ) (now : Around) → (in_turn d now lines).left.cycle ≡ now.cycle
-  same_cycle [] now = refl
-  same_cycle (line ∷ lines) now = same_cycle lines (left_by d (look_up d now line) now)
+module _ (d : Desc) (now : Around) (low : ℕ) where
+  abbrev lower : Line
+  lower = look_up d now low
 
-  same_ram : (lines : List ℕ) (now : Around) → (in_turn d now lines).left.ram ≡ now.ram
-  same_ram [] now = refl
-  same_ram (line ∷ lines) now = same_ram lines (left_by d (look_up d now line) now)
+  abbrev after : Around
+  after = left_by d lower now
 
-  left_cache : (lines : List ℕ) (now : Around) → fold (touched d) now.cache (map line_at (in_turn d now lines).found) ≡ (in_turn d now lines).left.cache
-  left_cache [] now = refl
-  left_cache (line ∷ lines) now = left_cache lines (left_by d (look_up d now line) now)
+  abbrev asked : Option Line → List Request
+  asked o = option_to_list (option_and_then request_by o)
 
-  left_second : (lines : List ℕ) (now : Around) → fold (second_touched d) now.second (map (λ r. r.line) (requests (in_turn d now lines).found)) ≡ (in_turn d now lines).left.second
-  left_second [] now = refl
-  left_second (line ∷ lines) now =
-      let l = look_up d now line in
-      let more = (in_turn d (left_by d l now) lines).found in
-      ap (fold (second_touched d) now.second) (map_append (λ (r : Request). r.line) (request_by l) (requests more))
-      ∙ (fold_append (second_touched d) (map (λ (r : Request). r.line) (request_by l)) _ now.second ∙ left_second lines (left_by d l now))
+  same_cycle : (up : Option ℕ) → (in_turn d now low up).left.cycle ≡ now.cycle
+  same_cycle None = refl
+  same_cycle (Some high) = refl
 
-  left_misses : (lines : List ℕ) (now : Around) → now.misses ++ map (register d now.cycle) (requests (in_turn d now lines).found) ≡ (in_turn d now lines).left.misses
-  left_misses [] now = append-nil now.misses
-  left_misses (line ∷ lines) now =
-      let l = look_up d now line in
-      let more = (in_turn d (left_by d l now) lines).found in
-      ap (λ (ms : List Miss). now.misses ++ ms) (map_append (register d now.cycle) (request_by l) (requests more))
-      ∙ (sym (append_assoc now.misses (map (register d now.cycle) (request_by l)) _) ∙ left_misses lines (left_by d l now))
+  same_ram : (up : Option ℕ) → (in_turn d now low up).left.ram ≡ now.ram
+  same_ram None = refl
+  same_ram (Some high) = refl
+
+  left_cache : (up : Option ℕ) → fold (touched d) now.cache (map line_at (in_order (in_turn d now low up).found)) ≡ (in_turn d now low up).left.cache
+  left_cache None = refl
+  left_cache (Some high) = refl
+
+  upper_second : (o : Option Line) → fold (second_touched d) after.second (map (λ r. r.line) (asked o)) ≡ (left_above d o after).second
+  upper_second None = refl
+  upper_second (Some l) = refl
+
+  left_second : (up : Option ℕ) → fold (second_touched d) now.second (map (λ r. r.line) (requests (in_turn d now low up).found)) ≡ (in_turn d now low up).left.second
+  left_second up =
+      let more = option_map (look_up d after) up in
+      ap (fold (second_touched d) now.second) (map_append (λ (r : Request). r.line) (option_to_list (request_by lower)) (asked more))
+      ∙ (fold_append (second_touched d) (map (λ (r : Request). r.line) (option_to_list (request_by lower))) _ now.second ∙ upper_second more)
+
+  upper_misses : (o : Option Line) → after.misses ++ map (register d now.cycle) (asked o) ≡ (left_above d o after).misses
+  upper_misses None = append-nil after.misses
+  upper_misses (Some l) = refl
+
+  left_misses : (up : Option ℕ) → now.misses ++ map (register d now.cycle) (requests (in_turn d now low up).found) ≡ (in_turn d now low up).left.misses
+  left_misses up =
+      let more = option_map (look_up d after) up in
+      ap (λ (ms : List Miss). now.misses ++ ms) (map_append (register d now.cycle) (option_to_list (request_by lower)) (asked more))
+      ∙ (sym (append_assoc now.misses (map (register d now.cycle) (option_to_list (request_by lower))) _) ∙ upper_misses more)
 
 pub leave_in_turn : AccessesLeaveInTurn
-leave_in_turn d now lines =
-    let t = in_turn d now lines in
-    let ahead = ahead_of d t in (
-      left_cache d lines now,
+leave_in_turn d now low up =
+    let t = in_turn d now low up in
+    let ahead = option_to_list (ahead_of d t) in (
+      left_cache d now low up,
       ap (fold (second_touched d) now.second) (map_append (λ (r : Request). r.line) (requests t.found) ahead)
           ∙ (fold_append (second_touched d) (map (λ (r : Request). r.line) (requests t.found)) _ now.second
-          ∙ ap (λ (s : List (List ℕ)). fold (second_touched d) s (map (λ (r : Request). r.line) ahead)) (left_second d lines now)),
+          ∙ ap (λ (s : List (List ℕ)). fold (second_touched d) s (map (λ (r : Request). r.line) ahead)) (left_second d now low up)),
       ap (λ (ms : List Miss). now.misses ++ ms) (map_append (register d now.cycle) (requests t.found) ahead)
           ∙ (sym (append_assoc now.misses (map (register d now.cycle) (requests t.found)) _)
-          ∙ ap₂ (λ (ms : List Miss) (cycle : ℕ). ms ++ map (register d cycle) ahead) (left_misses d lines now) (sym (same_cycle d lines now))),
+          ∙ ap₂ (λ (ms : List Miss) (cycle : ℕ). ms ++ map (register d cycle) ahead) (left_misses d now low up) (sym (same_cycle d now low up))),
     )
 
 -- ---- what is found
 
-differ : (lines : List ℕ) → OneOrTwo lines → Differ lines
-differ _ (One line) = (tt, tt)
-differ _ (Two low high l) = ((λ q. omega (arith, q, l), tt), (tt, tt))
-
 -- the line behind the last of an access's lines is none of them
-behind_all : (d : Desc) (now : Around) (lines : List ℕ) → OneOrTwo lines → Each (λ line. line ≢ line_behind d (map (look_up d now) lines)) lines
-behind_all d now _ (One line) = let f = line_found d now line in (λ q. omega (arith, q, f, d.some_bytes), tt)
-behind_all d now _ (Two low high l) =
+behind_all : (d : Desc) (now : Around) (low : ℕ) (up : Option ℕ) → OneOrTwo low up → NeitherIs (line_behind d (looked d now low up)) low up
+behind_all d now _ _ (One line) = let f = line_found d now line in λ q. omega (arith, q, f, d.some_bytes)
+behind_all d now _ _ (Two low high l) =
     let f = line_found d now high in
-    (λ q. omega (arith, q, l, f, d.some_bytes), (λ q. omega (arith, q, f, d.some_bytes), tt))
+    (λ q. omega (arith, q, l, f, d.some_bytes), λ q. omega (arith, q, f, d.some_bytes))
 
-module _ (d : Desc) (now : Around) (lines : List ℕ) (are : OneOrTwo lines) where
+module _ (d : Desc) (now : Around) (low : ℕ) (up : Option ℕ) (are : OneOrTwo low up) where
   abbrev t : InTurn
-  t = in_turn d now lines
+  t = in_turn d now low up
 
-  abbrev found : List Line
-  found = map (look_up d now) lines
+  abbrev found : Lines
+  found = looked d now low up
 
   found_alike : t.found ≡ found
-  found_alike = same_found d lines now (differ lines are)
+  found_alike = same_found d now low up are
 
   registers_left : length t.left.misses ≡ length now.misses + length (requests found)
   registers_left =
-      let left = left_misses d lines now in
+      let left = left_misses d now low up in
       let both = length-append now.misses (map (register d now.cycle) (requests t.found)) in
       let new = length-map (requests t.found) (register d now.cycle) in
-      ap (λ (ms : List Miss). length ms) (sym left) ∙ (both ∙ ap (λ (k : ℕ). length now.misses + k) (new ∙ ap (λ (ls : List Line). length (requests ls)) found_alike))
+      ap (λ (ms : List Miss). length ms) (sym left) ∙ (both ∙ ap (λ (k : ℕ). length now.misses + k) (new ∙ ap (λ (ls : Lines). length (requests ls)) found_alike))
 
   ahead_alike : prefetched d now found ≡ ahead_of d t
-  ahead_alike = let l = turns_keep d lines now (line_behind d found) (behind_all d now lines are) in rw (found_alike, registers_left, same_ram d lines now, l) refl
+  ahead_alike =
+      let built : Lines → ℕ → Ram → Line → Option Request = λ ls taken ram l.
+      if has_prefetch d && nat_lt 0 (length (requests ls)) && nat_lt (line_behind d ls) (ram.base + length ram.bytes) && nat_lt taken d.cache_mshrs then request_by l else None in
+      let kept = turns_keep d now low up (line_behind d found) (behind_all d now low up are) in
+      let behind = look_up d t.left (line_behind d t.found) in
+      sym (ap (λ ls. built ls (length t.left.misses) t.left.ram behind) found_alike
+      ∙ ap (λ taken. built found taken t.left.ram behind) registers_left
+      ∙ ap₂ (λ ram l. built found (length now.misses + length (requests found)) ram l) (same_ram d now low up) (ap (λ ls. look_up d t.left (line_behind d ls)) found_alike ∙ kept))
 
-  pub access_alike : unless_lacking d now found ≡ access_in_turn d now lines
+  pub access_alike : unless_lacking d now found ≡ access_in_turn d now low up
   access_alike =
       ap₂ (λ (k : ℕ) (answer : Access). if nat_le k d.cache_mshrs then answer else Waits) (sym registers_left)
-      (ap₂ (λ (ls : List Line) (ahead : List Request). Looks ls ahead) (sym found_alike) ahead_alike)
+      (ap₂ (λ (ls : Lines) (ahead : Option Request). Looks ls ahead) (sym found_alike) ahead_alike)
 
 pub accesses_in_turn : AccessesGoInTurn
-accesses_in_turn d now a n some = access_alike d now (lines_of d a n) (lines_are d a n some)
+accesses_in_turn d now a n some = access_alike d now (line_of d a) (upper_line d a n) (lines_are d a n some)

@@ -3,6 +3,7 @@ use Rattle.std.proofs.Common.{◌≡◌, ℕ, ◌+◌, ◌-◌, ◌*◌, ◌≤�
 use Rattle.std.proofs.lemmas.List.{length-map}
 use Rattle.std.specs.Prelude.{if◌then◌else◌, nat_lt, map}
 use Rattle.std.specs.List.{flat_map}
+use Rattle.std.specs.Option.{option_to_list}
 use Rattle.rv_types.specs.Value.{one_if}
 use Rattle.rv_types.specs.Isa.{Effect}
 use Rattle.rv_types.specs.declared.Kind.{Kind}
@@ -12,7 +13,7 @@ use Rattle.window_model.specs.declared.Divider.{Divider}
 use Rattle.window_model.specs.declared.Entry.{Entry}
 use Rattle.window_model.specs.declared.Event.{Event}
 use Rattle.window_model.specs.declared.Event.TheVariants as event
-use Rattle.window_model.specs.State.{Machine, lines_of}
+use Rattle.window_model.specs.State.{Machine}
 use Rattle.window_model.specs.Order.{first, each_from, is_store}
 use Rattle.window_model.specs.Around.{Around, around}
 use Rattle.window_model.specs.MayIssue.{effect_of}
@@ -20,8 +21,10 @@ use Rattle.window_model.specs.Ports.{Port, AluPort, MulPort, DivPort, AddressPor
 use Rattle.window_model.specs.Issue.{Begun, issue, issue_entry, issue_whole, if_granted, with_address, with_data, begin_as, load_as, access_of, waits}
 use Rattle.window_model.specs.inner.Issue.{data_events}
 use Rattle.window_model.proofs.Together.{data_few, entry_parts, issue_parts}
-use Rattle.window_model.specs.Access.{Request, line_at, look_at, look_events, look_up, prefetched, source_of}
-use Rattle.window_model.proofs.Issuing.{by_after_load, by_load, by_prefetched, looked}
+use Rattle.window_model.specs.declared.lookup.Line.{Line}
+use Rattle.window_model.specs.declared.lookup.Request.{Request}
+use Rattle.window_model.specs.Access.{in_order, line_at, look_at, look_events, looked_up, prefetched, source_of}
+use Rattle.window_model.proofs.Issuing.{as_many, by_after_load, by_load, one_at_most}
 use Rattle.window_model.proofs.Telling.{lines_few}
 use Rattle.window_model.proofs.Booleans.{below}
 use Rattle.machine_facts.proofs.Adds.{Adds}
@@ -51,18 +54,18 @@ told_at LoadPort = 3
 told_at _ = 1
 
 -- a load that looks up lines has at most three events: its lines, and the one that is prefetched
-looks_few : (d : Desc) (now : Around) (a n serial : ℕ) → let found = looked d now a n in length (look_events serial found (prefetched d now found)) ≤ 3
+looks_few : (d : Desc) (now : Around) (a n serial : ℕ) → let found = looked_up d now a n in length (look_events serial found (prefetched d now found)) ≤ 3
 looks_few d now a n serial =
-    let found = looked d now a n in
+    let found = looked_up d now a n in
     let ahead = prefetched d now found in
-    let own = map (λ l. event.Ld serial (line_at l) (look_at l)) found in
-    let more = map (λ (r : Request). event.Pf r.line (source_of r)) ahead in
-    let sum = length-append own more in
-    let own_many = length-map found (λ l. event.Ld serial (line_at l) (look_at l)) in
-    let more_many = length-map ahead (λ (r : Request). event.Pf r.line (source_of r)) in
-    let looked_many = length-map (lines_of d a n) (look_up d now) in
+    let told : Line → Event = λ l. event.Ld serial (line_at l) (look_at l) in
+    let told_ahead : Request → Event = λ r. event.Pf r.line (source_of r) in
+    let sum = length-append (map told (in_order found)) (map told_ahead (option_to_list ahead)) in
+    let own_many = length-map (in_order found) told in
+    let more_many = length-map (option_to_list ahead) told_ahead in
+    let looked_many = as_many d now a n in
     let two = lines_few d a n in
-    let one = by_prefetched d now found (λ ahead. length ahead ≤ 1) (omega arith) (λ m r f. omega arith) in
+    let one = one_at_most ahead in
     omega (arith, sum, own_many, more_many, looked_many, two, one)
 
 -- a load has at most three events

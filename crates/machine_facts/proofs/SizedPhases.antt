@@ -22,7 +22,8 @@ use Rattle.window_model.specs.Order.{Place, first, each_from, is_waiting, is_fau
 use Rattle.window_model.specs.Fill.{fill, complete, completed, completes, is_due, lines}
 use Rattle.window_model.specs.Resolve.{resolve, Learnt, learn, learn_as, squash, keep}
 use Rattle.window_model.specs.Around.{Around, around}
-use Rattle.window_model.specs.Access.{Request, cache_after, line_at, misses_after, prefetched, register, requests, second_after}
+use Rattle.window_model.specs.declared.lookup.Request.{Request}
+use Rattle.window_model.specs.Access.{all_requests, cache_after, in_order, line_at, looked_up, misses_after, prefetched, register, second_after}
 use Rattle.window_model.specs.Ports.{LoadPort, may_at}
 use Rattle.window_model.specs.Issue.{Begun, issue, issue_entry, access_of, after_load}
 use Rattle.window_model.specs.Rename.{rename, rename_one, renamed, fits, at_once}
@@ -31,7 +32,7 @@ use Rattle.window_model.proofs.Booleans.{below, completes_waits}
 use Rattle.window_model.proofs.Lists.{each_then, each_map, each_join, each_left, each_right, each_push, each_replicate, filter_shortens}
 use Rattle.window_model.proofs.Placing.{Taken, resolve_keep, taught}
 use Rattle.window_model.proofs.Counts.{Evolves, evolves_same, evolves_thins, map_evolves, place_evolves, completed_goes}
-use Rattle.window_model.proofs.Issuing.{issue_evolves, by_after_load, by_load, looked}
+use Rattle.window_model.proofs.Issuing.{issue_evolves, by_after_load, by_load}
 use Rattle.window_model.proofs.Walks.{rename_keep, fetch_keep}
 use Rattle.machine_facts.specs.Sized.{Sized, HasKind, FitsKind}
 use Rattle.machine_facts.proofs.Parts.{WindowFits, IsEntry, PredictorFits, CacheFits, SecondFits, Fits, parts, whole}
@@ -181,14 +182,14 @@ load_shares : (d : Desc) (now : Around) → SharedFits d now.cache now.second no
 load_shares d now s =
     by_load d now (λ a. SharedFits d (cache_after a d now.cache) (second_after a d now.second) (misses_after a d now.cycle now.misses)) s
     (λ a n some room.
-    let found = looked d now a n in
-    let asked = requests found ++ prefetched d now found in
+    let found = looked_up d now a n in
+    let asked = all_requests found (prefetched d now found) in
     let taken = map (register d now.cycle) asked in
     let more = length-append now.misses taken in
     let as_many = length-map asked (register d now.cycle) in
     let fits = room_ahead d now a n room in
     record {
-      cache = lines_fit d (map line_at found) now.cache s.cache;
+      cache = lines_fit d (map line_at (in_order found)) now.cache s.cache;
       second = second_lines_fit d (map (λ (r : Request). r.line) asked) now.second s.second;
       misses = omega (arith, more, as_many, fits);
     })

@@ -11,7 +11,8 @@ use Rattle.rv_types.specs.declared.Kind.TheVariants.{Load}
 use Rattle.machine_desc.specs.declared.Desc.{Desc}
 use Rattle.window_model.specs.declared.Entry.{Entry}
 use Rattle.window_model.specs.declared.Progress.TheVariants.{Done}
-use Rattle.window_model.specs.Access.{Access, Faults, Forwards, Looks, Waits}
+use Rattle.window_model.specs.declared.lookup.Access.{Access}
+use Rattle.window_model.specs.declared.lookup.Access.TheVariants.{Faults, Forwards, Looks, Waits}
 use Rattle.window_model.specs.Around.{Around, around}
 use Rattle.window_model.specs.Clear.{clear, cleared_one}
 use Rattle.window_model.specs.Cycle.{begins_cycle, cycle}

@@ -1,6 +1,7 @@
 -- The events of Issue tell which entries have issued, from the oldest on.
-use Rattle.std.proofs.Common.{◌≡◌, ℕ, zero, suc, ◌+◌, ◌-◌, ◌<◌, ◌≤◌, Bool, true, false, ◌||◌, List, [], ◌∷◌, ◌++◌, length, map, take, drop, Some, slice_get, eqb-true, refl, ap, ap₂, sym, subst, ◌∙◌, arith, length-append}
+use Rattle.std.proofs.Common.{◌≡◌, ℕ, zero, suc, ◌+◌, ◌-◌, ◌<◌, ◌≤◌, Bool, true, false, ◌||◌, List, [], ◌∷◌, ◌++◌, length, map, take, drop, Option, None, Some, slice_get, eqb-true, refl, ap, ap₂, sym, subst, ◌∙◌, arith, length-append}
 use Rattle.std.specs.Prelude.{if◌then◌else◌, ◌==◌}
+use Rattle.std.specs.Option.{option_to_list}
 use Rattle.std.specs.List.{All, AllByRecursion as Each, flat_map}
 use Rattle.std.proofs.lemmas.List.{length-drop, take_all}
 use Rattle.std.proofs.lemmas.List.Elements.{All-head, All-tail}
@@ -12,7 +13,10 @@ use Rattle.machine_desc.specs.declared.Desc.{Desc}
 use Rattle.window_model.specs.declared.Entry.{Entry}
 use Rattle.window_model.specs.declared.Event.{Event}
 use Rattle.window_model.specs.declared.Event.TheVariants as event
-use Rattle.window_model.specs.Access.{Line, Request, line_at, look_at, look_events, look_up, source_of}
+use Rattle.window_model.specs.declared.lookup.Line.{Line}
+use Rattle.window_model.specs.declared.lookup.Lines.{Lines}
+use Rattle.window_model.specs.declared.lookup.Request.{Request}
+use Rattle.window_model.specs.Access.{in_order, line_at, look_at, look_events, looked_up, prefetched, source_of}
 use Rattle.window_model.specs.Around.{Around, around}
 use Rattle.window_model.specs.MayIssue.{effect_of}
 use Rattle.window_model.specs.Ports.{AddressPort, DataPort, is_granted, port_of}
@@ -21,8 +25,8 @@ use Rattle.window_model.specs.Order.{each_from, is_store}
 use Rattle.window_model.specs.Row.{Row}
 use Rattle.window_model.specs.inner.Row.{with_events}
 use Rattle.window_model.specs.Serials.{Rise}
-use Rattle.window_model.specs.State.{Machine, lines_of}
-use Rattle.window_model.proofs.Issuing.{One, OneOrTwo, Two, by_load, issue_goes, lines_are, looked}
+use Rattle.window_model.specs.State.{Machine}
+use Rattle.window_model.proofs.Issuing.{by_load, issue_goes}
 use Rattle.window_model.proofs.Serials.{rise_head, rise_tail}
 use Rattle.window_model.proofs.Together.{entry_parts, granted_together, issue_parts}
 use Rattle.machine_facts.proofs.Ports.{issue_adds}
@@ -47,26 +51,30 @@ module _ (serial : ℕ) where
   own_all [] b h k = k
   own_all (v ∷ a) b h k = (h.0, own_all a b h.1 k)
 
-  own_lines : (found : List Line) → Each Owns (map (λ l. event.Ld serial (line_at l) (look_at l)) found)
+  abbrev told_of : Line → Event
+  told_of l = event.Ld serial (line_at l) (look_at l)
+
+  abbrev told_ahead : Request → Event
+  told_ahead r = event.Pf r.line (source_of r)
+
+  own_lines : (lines : List Line) → Each Owns (map told_of lines)
   own_lines [] = tt
-  own_lines (l ∷ found) = (own (event.Ld serial (line_at l) (look_at l)) refl, own_lines found)
+  own_lines (l ∷ lines) = (own (told_of l) refl, own_lines lines)
 
-  own_ahead : (ahead : List Request) → Each Owns (map (λ (r : Request). event.Pf r.line (source_of r)) ahead)
-  own_ahead [] = tt
-  own_ahead (r ∷ ahead) = ((λ s q. absurd (cc)), own_ahead ahead)
+  own_ahead : (ahead : Option Request) → Each Owns (map told_ahead (option_to_list ahead))
+  own_ahead None = tt
+  own_ahead (Some r) = ((λ s q. absurd (cc)), tt)
 
-  own_looks : (found : List Line) (ahead : List Request) → Each Owns (look_events serial found ahead)
+  own_looks : (found : Lines) (ahead : Option Request) → Each Owns (look_events serial found ahead)
   own_looks found ahead =
-      own_all (map (λ l. event.Ld serial (line_at l) (look_at l)) found) (map (λ (r : Request). event.Pf r.line (source_of r)) ahead) (own_lines found) (own_ahead ahead)
+      own_all (map told_of (in_order found)) (map told_ahead (option_to_list ahead)) (own_lines (in_order found)) (own_ahead ahead)
 
   -- the first event tells of the entry with this serial
   first_tells : (v : Event) (vs : List Event) → serial_of v ≡ Some serial → TellsOf (v ∷ vs) (length (v ∷ vs)) serial
   first_tells v vs h = record { position = 0; event = v; first = omega arith; here = refl; tells = h }
 
-  lines_tell : (d : Desc) (now : Around) (lines : List ℕ) (ahead : List Request) → OneOrTwo lines →
-      let vs = look_events serial (map (look_up d now) lines) ahead in TellsOf vs (length vs) serial
-  lines_tell d now _ ahead (One line) = first_tells _ _ refl
-  lines_tell d now _ ahead (Two low high l) = first_tells _ _ refl
+  lines_tell : (found : Lines) (ahead : Option Request) → let vs = look_events serial found ahead in TellsOf vs (length vs) serial
+  lines_tell found ahead = first_tells _ _ refl
 
 not_yet : (cycle : ℕ) (e : Entry) → NotYet cycle e → has_issued cycle e ≡ false
 not_yet cycle e h = ap₂ (λ a b. a || b) h.0 h.1
@@ -87,7 +95,7 @@ module _ (d : Desc) (now : Around) (before : List Entry) (e : Entry) (fresh : No
   load_tells : (f : Effect) (v : ℕ) → Tells (load_as (access_of d now before e) d now e f v)
   load_tells f v =
       by_load d now (λ a. Tells (load_as a d now e f v)) (one_tells (event.LdForward e.serial) refl _)
-      (λ a n some room. record { owns = own_looks e.serial (looked d now a n) _; told = λ h. lines_tell e.serial d now (lines_of d a n) _ (lines_are d a n some) })
+      (λ a n some room. let found = looked_up d now a n in record { owns = own_looks e.serial found (prefetched d now found); told = λ h. lines_tell e.serial found (prefetched d now found) })
       (λ a n some full. still) (λ c. one_tells (event.LdFault e.serial) refl _) before e
 
   begin_tells : (k : Kind) → Tells (begin_as k d now before e)

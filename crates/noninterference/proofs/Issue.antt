@@ -15,7 +15,9 @@ use Rattle.window_model.specs.State.{Machine, After}
 use Rattle.window_model.specs.declared.Divider.{Divider}
 use Rattle.window_model.specs.Order.{Place, each, each_from, first, is_load, is_store}
 use Rattle.window_model.specs.Around.{Around, around}
-use Rattle.window_model.specs.Access.{Access, Faults, Forwards, Looks, Waits, cache_after, latest, look_events, misses_after, second_after}
+use Rattle.window_model.specs.declared.lookup.Access.{Access}
+use Rattle.window_model.specs.declared.lookup.Access.TheVariants.{Faults, Forwards, Looks, Waits}
+use Rattle.window_model.specs.Access.{cache_after, look_events, misses_after, second_after}
 use Rattle.window_model.specs.MayIssue.{effect_of, may_issue_as}
 use Rattle.window_model.specs.Ports.{Port, AddressPort, DataPort, DivPort, LoadPort, is_granted, may_at, port_of}
 use Rattle.window_model.specs.Issue.{issue, issue_entry, issue_whole, begin_as, Begun, waits, load_as, access_of, value_loaded, is_division, after_load, divider_after}
@@ -26,7 +28,7 @@ use Rattle.window_model.specs.Shape.{SameShape}
 use Rattle.window_model.specs.Retire.{hart_of}
 use Rattle.window_model.specs.declared.Event.TheVariants as event
 use Rattle.window_model.proofs.Booleans.{both}
-use Rattle.window_model.proofs.LookedUp.{same_dues}
+use Rattle.window_model.proofs.LookedUp.{same_due_by}
 use Rattle.window_model.proofs.Places.{Found, found}
 use Rattle.window_model.proofs.Issuing.{asks_division, asks_load, may_own, may_parts, load_clean, division_clean}
 use Rattle.committed_state.specs.Consistent.{IsItem, EntryInvariant, bank_in}
@@ -58,7 +60,7 @@ same_waits e e2 h = ap (λ t. let b : Begun = record { entry = t; events = [] } 
 same_load_as : (a : Access) (d : Desc) (now now2 : Around) (e e2 : Entry) (f f2 : Effect) (v v2 : ℕ) → without_outcome e ≡ without_outcome e2 → now.cycle ≡ now2.cycle → begun_without (load_as a d now e f v) ≡ begun_without (load_as a d now2 e2 f2 v2)
 same_load_as (Faults c) d now now2 e e2 f f2 v v2 h q = same_begins e e2 _ _ _ _ _ _ h q (ap (λ n. n + 1) q) (ap (λ (t : Entry). event.LdFault t.serial ∷ []) h)
 same_load_as Forwards d now now2 e e2 f f2 v v2 h q = same_begins e e2 _ _ _ _ _ _ h q (ap (λ n. n + 1) q) (ap (λ (t : Entry). event.LdForward t.serial ∷ []) h)
-same_load_as (Looks found ahead) d now now2 e e2 f f2 v v2 h q = same_begins e e2 _ _ _ _ _ _ h q (ap latest (same_dues d now now2 found q)) (ap (λ (t : Entry). look_events t.serial found ahead) h)
+same_load_as (Looks found ahead) d now now2 e e2 f f2 v v2 h q = same_begins e e2 _ _ _ _ _ _ h q (same_due_by d now now2 found q) (ap (λ (t : Entry). look_events t.serial found ahead) h)
 same_load_as Waits d now now2 e e2 f f2 v v2 h q = same_waits e e2 h
 
 -- ---- the parts of a store

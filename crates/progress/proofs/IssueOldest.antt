@@ -1,7 +1,6 @@
 -- An oldest entry that isn't done comes nearer to it in Issue.
 use Rattle.std.proofs.Common.{◌≡◌, ℕ, ◌+◌, ◌-◌, ◌≤◌, ◌<◌, max, Bool, true, false, not, ◌&&◌, ◌||◌, List, [], ◌∷◌, length, Option, Some, None, is_some, refl, ap, sym, ◌∙◌, subst, arith, eqb-true}
 use Rattle.std.proofs.lemmas.Bool.Decides.{nat_tests}
-use Rattle.std.proofs.lemmas.List.{length-map}
 use Rattle.std.specs.Prelude.{if◌then◌else◌, nat_lt, nat_le, ◌==◌}
 use Rattle.std.specs.Cmp.Derive.{both_true}
 use Rattle.std.specs.List.{filter, AllByRecursion as Each}
@@ -18,20 +17,23 @@ use Rattle.window_model.specs.declared.Entry.{Entry}
 use Rattle.window_model.specs.declared.Miss.{Miss}
 use Rattle.window_model.specs.declared.Progress.{Progress}
 use Rattle.window_model.specs.declared.Progress.TheVariants.{Waiting, Busy, Done}
-use Rattle.window_model.specs.State.{Machine, lines_of}
+use Rattle.window_model.specs.State.{Machine}
 use Rattle.window_model.specs.Order.{Place, first, first_from, is_waiting, is_done, is_store, has_address, has_data, sources, base_of, others_of}
 use Rattle.window_model.specs.Taint.{any_tainted}
 use Rattle.window_model.specs.Ready.{ready, all_known}
 use Rattle.window_model.specs.Fill.{is_due}
 use Rattle.window_model.specs.Around.{Around, around, is_free}
-use Rattle.window_model.specs.Access.{Access, Faults, Forwards, Looks, Waits, Line, access_at, all_covered, any_store_hidden, look_up, misses_after, prefetched, requests, unless_lacking}
+use Rattle.window_model.specs.declared.lookup.Lines.{Lines}
+use Rattle.window_model.specs.declared.lookup.Access.{Access}
+use Rattle.window_model.specs.declared.lookup.Access.TheVariants.{Faults, Forwards, Looks, Waits}
+use Rattle.window_model.specs.Access.{access_at, all_covered, any_store_hidden, looked_up, misses_after, prefetched, requests, unless_lacking}
 use Rattle.window_model.specs.Retire.{op_of, byte_count}
 use Rattle.window_model.specs.MayIssue.{effect_of, may_issue_as}
 use Rattle.window_model.specs.Ports.{AddressPort, DataPort, DivPort, LoadPort, is_granted, may_at, ports, port_of, same_port}
 use Rattle.window_model.specs.Issue.{Begun, busy_until_both, issue, issue_entry, begin_as, load_as, access_of, waits, value_loaded, time_of, after_load, divider_after}
 use Rattle.window_model.specs.inner.Issue.{parts_as}
 use Rattle.window_model.proofs.Together.{address_part, data_part, entry_parts, is_whole}
-use Rattle.window_model.proofs.Issuing.{looked, may_own, requests_few}
+use Rattle.window_model.proofs.Issuing.{as_many, may_own, requests_few}
 use Rattle.window_model.proofs.Booleans.{and_no, is_below}
 use Rattle.machine_facts.specs.Sized.{HasParts, Together}
 use Rattle.machine_facts.specs.Timely.{Timely, IsPending, PartDue, PartsDue, longest_division}
@@ -126,17 +128,17 @@ WaitsForSome now Waits = 1 ≤ length now.misses
 WaitsForSome now _ = Unit {0}
 
 module _ (d : Desc) (now : Around) (i : IsDesc d) (allows : Allows d now.ram) (op : Op) (a : ℕ) (fits : load_fault now.ram a (size_of op) ≡ None) where
-  abbrev found : List Line
-  found = looked d now a (size_of op)
+  abbrev found : Lines
+  found = looked_up d now a (size_of op)
 
   by_room : (c : Bool) → nat_le (length now.misses + length (requests found)) d.cache_mshrs ≡ c → WaitsForSome now (if c then Looks found (prefetched d now found) else Waits)
   by_room true h = tt
   by_room false h =
       let few = requests_few found in
-      let as_many = length-map (lines_of d a (size_of op)) (look_up d now) in
+      let many = as_many d now a (size_of op) in
       let enough = registers_enough d now.ram a op i allows fits in
       let more : d.cache_mshrs < length now.misses + length (requests found) = grind (arith, nat_tests, h) in
-      omega (arith, few, as_many, enough, more)
+      omega (arith, few, many, enough, more)
 
   by_covered : (c : Bool) → WaitsForSome now (if c then Forwards else unless_lacking d now found)
   by_covered true = tt

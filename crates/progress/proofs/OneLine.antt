@@ -3,6 +3,7 @@ use Rattle.std.proofs.Common.{◌≡◌, ℕ, zero, suc, ◌+◌, ◌-◌, ◌*�
 use Rattle.std.proofs.Math.Nat.{div-div-eq-div-mul}
 use Rattle.std.proofs.lemmas.Nat.{div-mul-add, pow-add}
 use Rattle.std.proofs.lemmas.Bool.Decides.{nat_tests}
+use Rattle.std.specs.Option.{option_to_list}
 use Rattle.std.specs.Int.{IsPowerOfTwo}
 use Rattle.std.specs.Prelude.{if◌then◌else◌, ◌/◌, ◌%◌, ◌==◌}
 use Rattle.rv_types.specs.Causes.{load_misaligned, load_outside}
@@ -53,7 +54,7 @@ one_line d a n k some q h = by_same (line_of d a == line_of d (a + n - 1)) refl
     same : line_of d a ≡ line_of d (a + n - 1)
     same = ap (λ i. i * d.cache_line) (sym (same_line d.cache_line a n k some q h))
 
-    by_same : (b : Bool) → (line_of d a == line_of d (a + n - 1)) ≡ b → length (if b then line_of d a ∷ [] else line_of d a ∷ line_of d (a + n - 1) ∷ []) ≤ 1
+    by_same : (b : Bool) → (line_of d a == line_of d (a + n - 1)) ≡ b → length (line_of d a ∷ option_to_list (if b then None else Some (line_of d (a + n - 1)))) ≤ 1
     by_same true p = omega arith
     by_same false p = absurd (grind (arith, nat_tests, same))
 

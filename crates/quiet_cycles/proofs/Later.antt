@@ -18,7 +18,9 @@ use Rattle.window_model.specs.Order.{is_store, is_waiting}
 use Rattle.window_model.specs.Taint.{any_tainted}
 use Rattle.window_model.specs.Ready.{ready}
 use Rattle.window_model.specs.Retire.{byte_count}
-use Rattle.window_model.specs.Access.{Access, Faults, access_at}
+use Rattle.window_model.specs.declared.lookup.Access.{Access}
+use Rattle.window_model.specs.declared.lookup.Access.TheVariants.{Faults}
+use Rattle.window_model.specs.Access.{access_at}
 use Rattle.window_model.specs.MayIssue.{may_issue_as, effect_of}
 use Rattle.window_model.specs.Ports.{Port, AddressPort, DataPort, port_of, ports, part_may, same_port, asking, is_granted, may_at}
 use Rattle.window_model.specs.Issue.{Begun, issue_entry, issue_whole, begin_as, load_as, access_of, value_loaded, waits}

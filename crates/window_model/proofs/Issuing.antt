@@ -1,9 +1,10 @@
 -- What Issue makes of an entry: it remains, or it begins, or a store's parts go; and what a load's access comes to.
-use Rattle.std.proofs.Common.{◌≡◌, ℕ, ◌+◌, ◌-◌, ◌<◌, ◌≤◌, Bool, true, false, not, ◌&&◌, List, [], ◌∷◌, length, Option, Some, None, refl, sym, subst, ◌∙◌, arith, length-append}
+use Rattle.std.proofs.Common.{◌≡◌, ℕ, ◌+◌, ◌-◌, ◌<◌, ◌≤◌, Bool, true, false, not, ◌&&◌, List, [], ◌∷◌, ◌++◌, length, Option, Some, None, refl, sym, subst, ◌∙◌, arith, length-append}
 use Rattle.std.proofs.Math.Nat.{div-mul-le_self, mul-le-mul_right}
 use Rattle.std.proofs.lemmas.Nat.{le-div}
 use Rattle.std.proofs.lemmas.Bool.Decides.{nat_tests}
 use Rattle.std.specs.List.{find}
+use Rattle.std.specs.Option.{option_and_then, option_map, option_to_list}
 use Rattle.std.specs.Prelude.{if◌then◌else◌, nat_le, nat_lt, ◌/◌, ◌==◌, map}
 use Rattle.rv_types.specs.Isa.{Effect}
 use Rattle.rv_types.specs.Memory.{load_fault}
@@ -21,10 +22,16 @@ use Rattle.window_model.specs.declared.Miss.{Miss}
 use Rattle.window_model.specs.Around.{Around}
 use Rattle.window_model.specs.Retire.{has_line, op_of, byte_count}
 use Rattle.window_model.specs.Order.{Place, each_from, is_waiting, is_load, is_store, has_address, has_data, sources, base_of, others_of}
-use Rattle.window_model.specs.State.{Machine, line_of, lines_of}
+use Rattle.window_model.specs.State.{Machine, line_of, lines_of, upper_line}
 use Rattle.window_model.specs.Taint.{any_tainted, address_tainted}
 use Rattle.window_model.specs.Ready.{is_known, all_known, ready}
-use Rattle.window_model.specs.Access.{Access, Faults, Forwards, Looks, Waits, Line, Hits, Joins, Takes, Request, access_at, look_up, joined, request, request_by, requests, line_behind, prefetches, prefetched, unless_lacking, all_covered, any_store_hidden}
+use Rattle.window_model.specs.declared.lookup.Line.{Line}
+use Rattle.window_model.specs.declared.lookup.Lines.{Lines}
+use Rattle.window_model.specs.declared.lookup.Line.TheVariants.{Hits, Joins, Takes}
+use Rattle.window_model.specs.declared.lookup.Request.{Request}
+use Rattle.window_model.specs.declared.lookup.Access.{Access}
+use Rattle.window_model.specs.declared.lookup.Access.TheVariants.{Faults, Forwards, Looks, Waits}
+use Rattle.window_model.specs.Access.{access_at, in_order, look_up, looked_up, joined, request, request_by, requests, line_behind, prefetches, prefetched, unless_lacking, all_covered, any_store_hidden}
 use Rattle.window_model.specs.MayIssue.{may_issue, may_issue_as, goes_behind, effect_of}
 use Rattle.window_model.specs.Ports.{Port, AluPort, AddressPort, DataPort, DivPort, LoadPort, part_may, is_granted, may_at, port_of, same_port}
 use Rattle.window_model.specs.Issue.{Begun, issue_entry, issue_whole, begin_as, begun, busy_until_both, with_address, with_data, load_as, access_of, waits, is_division, after_load}
@@ -250,13 +257,13 @@ module _ (d : Desc) (now : Around) (line : ℕ) (L : Line → Type 0)
       by_cache true h = hits h
       by_cache false h = by_register _ refl
 
--- an access has one line, or two of which the first is the lower
-pub data OneOrTwo : List ℕ → Type 0 where
-  One : (line : ℕ) → OneOrTwo (line ∷ [])
-  Two : (low high : ℕ) → low < high → OneOrTwo (low ∷ high ∷ [])
+-- an access has one line, or a lower and a higher one
+pub data OneOrTwo : ℕ → Option ℕ → Type 0 where
+  One : (line : ℕ) → OneOrTwo line None
+  Two : (low high : ℕ) → low < high → OneOrTwo low (Some high)
 
--- an access of at least one byte has one line, or two of which the first is the lower
-pub lines_are : (d : Desc) (a n : ℕ) → 0 < n → OneOrTwo (lines_of d a n)
+-- an access of at least one byte has one line, or a lower and a higher one
+pub lines_are : (d : Desc) (a n : ℕ) → 0 < n → OneOrTwo (line_of d a) (upper_line d a n)
 lines_are d a n some = by_same (line_of d a == line_of d (a + n - 1)) refl
   where
     first : a / d.cache_line ≤ (a + n - 1) / d.cache_line
@@ -265,30 +272,43 @@ lines_are d a n some = by_same (line_of d a == line_of d (a + n - 1)) refl
     up : line_of d a ≤ line_of d (a + n - 1)
     up = mul-le-mul_right d.cache_line first
 
-    by_same : (b : Bool) → (line_of d a == line_of d (a + n - 1)) ≡ b → OneOrTwo (if b then line_of d a ∷ [] else line_of d a ∷ line_of d (a + n - 1) ∷ [])
+    by_same : (b : Bool) → (line_of d a == line_of d (a + n - 1)) ≡ b → OneOrTwo (line_of d a) (if b then None else Some (line_of d (a + n - 1)))
     by_same true h = One _
     by_same false h = Two _ _ (grind (arith, nat_tests, up))
 
--- at most one line a line looked up takes a register, and at most one is prefetched
-pub request_few : (l : Line) → length (request_by l) ≤ 1
-request_few (Hits line) = omega arith
-request_few (Joins line due) = omega arith
-request_few (Takes r) = omega arith
+-- at most one line is prefetched
+pub one_at_most : {A : Type 0} (o : Option A) → length (option_to_list o) ≤ 1
+one_at_most None = omega arith
+one_at_most (Some x) = omega arith
 
 -- lines that are looked up take at most one miss register each
-pub requests_few : (found : List Line) → length (requests found) ≤ length found
-requests_few [] = omega arith
-requests_few (l ∷ found) =
-    let a = length-append (request_by l) (requests found) in let o = request_few l in let r = requests_few found in omega (arith, a, o, r)
+pub requests_few : (found : Lines) → length (requests found) ≤ length (in_order found)
+requests_few found = by_upper found.lower found.upper
+  where
+    by_upper : (l : Line) (o : Option Line) → length (option_to_list (request_by l) ++ option_to_list (option_and_then request_by o)) ≤ length (l ∷ option_to_list o)
+    by_upper l None = let a = length-append (option_to_list (request_by l)) [] in let r = one_at_most (request_by l) in omega (arith, a, r)
+    by_upper l (Some u) =
+        let a = length-append (option_to_list (request_by l)) (option_to_list (request_by u)) in
+        let r = one_at_most (request_by l) in
+        let q = one_at_most (request_by u) in
+        omega (arith, a, r, q)
+
+-- as many lines are looked up as an access has
+pub as_many : (d : Desc) (now : Around) (a n : ℕ) → length (in_order (looked_up d now a n)) ≡ length (lines_of d a n)
+as_many d now a n = by_upper (upper_line d a n)
+  where
+    by_upper : (o : Option ℕ) → length (look_up d now (line_of d a) ∷ option_to_list (option_map (look_up d now) o)) ≡ length (line_of d a ∷ option_to_list o)
+    by_upper None = refl
+    by_upper (Some line) = refl
 
 -- what holds of nothing holds of what is prefetched, if it holds of one line that lies in memory, for which no register
 -- waits and one is left
-pub by_prefetched : (d : Desc) (now : Around) (found : List Line) (P : List Request → Type 0) → P [] →
+pub by_prefetched : (d : Desc) (now : Around) (found : Lines) (P : Option Request → Type 0) → P None →
     (line_behind d found < now.ram.base + length now.ram.bytes → length now.misses + length (requests found) < d.cache_mshrs →
-    find (λ m. m.line == line_behind d found) now.misses ≡ None → P (request d now (line_behind d found) ∷ [])) → P (prefetched d now found)
+    find (λ m. m.line == line_behind d found) now.misses ≡ None → P (Some (request d now (line_behind d found)))) → P (prefetched d now found)
 by_prefetched d now found P none one = by_test (prefetches d now found) refl
   where
-    by_test : (b : Bool) → prefetches d now found ≡ b → P (if b then request_by (look_up d now (line_behind d found)) else [])
+    by_test : (b : Bool) → prefetches d now found ≡ b → P (if b then request_by (look_up d now (line_behind d found)) else None)
     by_test false h = none
     by_test true h =
         let p = both (d.cache_prefetch == 1 && nat_lt 0 (length (requests found)) && nat_lt (line_behind d found) (now.ram.base + length now.ram.bytes)) _ h in
@@ -304,19 +324,15 @@ some_bytes Lhu = omega arith
 some_bytes Sh = omega arith
 some_bytes _ = omega arith
 
--- the lines of an access of n bytes, as they are looked up
-abbrev pub looked : Desc → Around → ℕ → ℕ → List Line
-looked d now a n = map (look_up d now) (lines_of d a n)
-
 -- what holds of forwarded bytes, of lines that there are miss registers enough for, and of waiting, holds of every
 -- access without fault
 module _ (d : Desc) (now : Around) (P : Access → Type 0) (forwards : P Forwards)
-    (looks : (a n : ℕ) → 0 < n → let found = looked d now a n in length now.misses + length (requests found) ≤ d.cache_mshrs → P (Looks found (prefetched d now found)))
-    (waits : (a n : ℕ) → 0 < n → d.cache_mshrs < length now.misses + length (requests (looked d now a n)) → P Waits) where
-  by_lacking : (a n : ℕ) → 0 < n → P (unless_lacking d now (looked d now a n))
-  by_lacking a n some = by_room (nat_le (length now.misses + length (requests (looked d now a n))) d.cache_mshrs) refl
+    (looks : (a n : ℕ) → 0 < n → let found = looked_up d now a n in length now.misses + length (requests found) ≤ d.cache_mshrs → P (Looks found (prefetched d now found)))
+    (waits : (a n : ℕ) → 0 < n → d.cache_mshrs < length now.misses + length (requests (looked_up d now a n)) → P Waits) where
+  by_lacking : (a n : ℕ) → 0 < n → P (unless_lacking d now (looked_up d now a n))
+  by_lacking a n some = by_room (nat_le (length now.misses + length (requests (looked_up d now a n))) d.cache_mshrs) refl
     where
-      by_room : (b : Bool) → nat_le (length now.misses + length (requests (looked d now a n))) d.cache_mshrs ≡ b → P (if b then Looks (looked d now a n) (prefetched d now (looked d now a n)) else Waits)
+      by_room : (b : Bool) → nat_le (length now.misses + length (requests (looked_up d now a n))) d.cache_mshrs ≡ b → P (if b then Looks (looked_up d now a n) (prefetched d now (looked_up d now a n)) else Waits)
       by_room true h = looks a n some (grind (arith, nat_tests))
       by_room false h = waits a n some (grind (arith, nat_tests))
 
@@ -324,7 +340,7 @@ module _ (d : Desc) (now : Around) (P : Access → Type 0) (forwards : P Forward
   pub by_served : (b : List Entry) (a n : ℕ) → 0 < n → P (access_at d now b a n None)
   by_served b a n some = if_then (all_covered b a n && not (any_store_hidden d.stt_model b))
     where
-      if_then : (c : Bool) → P (if c then Forwards else unless_lacking d now (looked d now a n))
+      if_then : (c : Bool) → P (if c then Forwards else unless_lacking d now (looked_up d now a n))
       if_then true = forwards
       if_then false = by_lacking a n some
 

@@ -1,7 +1,8 @@
 -- How many events Retire has: one for each entry that retires, and two more for the one store; a call has two, and is
 -- alone.
-use Rattle.std.proofs.Common.{◌≡◌, ℕ, zero, suc, ◌+◌, ◌-◌, ◌*◌, ◌≤◌, Bool, true, false, ◌&&◌, ◌||◌, cond, List, [], ◌∷◌, ◌++◌, length, refl, ap, subst, ◌∙◌, arith, length-append}
+use Rattle.std.proofs.Common.{◌≡◌, ℕ, zero, suc, ◌+◌, ◌-◌, ◌*◌, ◌≤◌, Bool, true, false, ◌&&◌, ◌||◌, cond, List, ◌∷◌, ◌++◌, length, Some, None, refl, ap, subst, ◌∙◌, arith, length-append}
 use Rattle.std.proofs.lemmas.List.{length-map}
+use Rattle.std.specs.Option.{option_to_list}
 use Rattle.std.specs.Prelude.{if◌then◌else◌, ◌==◌, count_by}
 use Rattle.rv_types.specs.Isa.{Step, Goes, Exits, Traps, call}
 use Rattle.rv_types.specs.declared.Kind.{Kind}
@@ -23,7 +24,7 @@ use Rattle.window_model.proofs.Walks.{retire_by}
 pub lines_few : (d : Desc) (a n : ℕ) → length (lines_of d a n) ≤ 2
 lines_few d a n = by_same (line_of d a == line_of d (a + n - 1))
   where
-    by_same : (b : Bool) → length (if b then line_of d a ∷ [] else line_of d a ∷ line_of d (a + n - 1) ∷ []) ≤ 2
+    by_same : (b : Bool) → length (line_of d a ∷ option_to_list (if b then None else Some (line_of d (a + n - 1)))) ≤ 2
     by_same true = omega arith
     by_same false = omega arith
 

@@ -1,6 +1,7 @@
 -- What a load finds: bytes of older stores, the cache, or a miss (docs/machine.md, "Loads").
 use Rattle.std.specs.Prelude.{ℕ, ◌+◌, ◌-◌, Bool, false, not, ◌&&◌, ◌||◌, ◌==◌, nat_le, nat_lt, max, List, [], ◌∷◌, ◌++◌, length, map, slice_index, Option, Some, None, is_some, if◌then◌else◌}
-use Rattle.std.specs.List.{find, flat_map, fold, list_all}
+use Rattle.std.specs.List.{find, fold, list_all}
+use Rattle.std.specs.Option.{option_and_then, option_map, option_to_list, unwrap_or}
 use Rattle.rv_types.specs.Word.{to_le}
 use Rattle.rv_types.specs.Memory.{Ram, load_fault, range}
 use Rattle.rv_types.specs.declared.Cause.{Cause}
@@ -12,8 +13,14 @@ use Rattle.window_model.specs.declared.Event.TheVariants as event
 use Rattle.window_model.specs.declared.Look.{Look}
 use Rattle.window_model.specs.declared.Look.TheVariants as look
 use Rattle.window_model.specs.declared.Outcome.{Outcome}
+use Rattle.window_model.specs.declared.lookup.Access.{Access}
+use Rattle.window_model.specs.declared.lookup.Access.TheVariants.{Faults, Forwards, Looks, Waits}
+use Rattle.window_model.specs.declared.lookup.Line.{Line}
+use Rattle.window_model.specs.declared.lookup.Line.TheVariants.{Hits, Joins, Takes}
+use Rattle.window_model.specs.declared.lookup.Lines.{Lines}
+use Rattle.window_model.specs.declared.lookup.Request.{Request}
 use Rattle.machine_desc.specs.declared.SttModel.{SttModel}
-use Rattle.window_model.specs.State.{Miss, lines_of}
+use Rattle.window_model.specs.State.{Miss, line_of, upper_line}
 use Rattle.window_model.specs.Around.{Around}
 use Rattle.window_model.specs.Order.{is_store, has_address}
 use Rattle.window_model.specs.Taint.{address_tainted}
@@ -54,24 +61,11 @@ any_store_hidden model (e ∷ before) = is_store e.item.kind && address_tainted 
 
 -- ---- what a load's access finds
 
--- a line that takes a miss register, and whether it comes from memory or from the second level
-pub record Request : Type 0 where
-  pub line : ℕ
-  pub from_memory : Bool
-
--- what one line comes to: the cache has it, a register waits for it until a cycle, or it takes a register
-pub data Line : Type 0 where
-  Hits : ℕ → Line
-  Joins : ℕ → ℕ → Line
-  Takes : Request → Line
-
--- what an access comes to: a fault, older stores have all its bytes, its lines and what is prefetched with them, or too
--- few registers
-pub data Access : Type 0 where
-  Faults : Cause → Access
-  Forwards : Access
-  Looks : List Line → List Request → Access
-  Waits : Access
+-- The answers are types of the code. A line that is looked up comes to a `Line`: the cache has it (`Hits`), a register
+-- waits for it until a cycle (`Joins`), or it takes a register (`Takes`); a line that takes one is a `Request`, from
+-- memory or from the second level. An access has `Lines`: that of its first byte, and that of its last where it is
+-- another. It comes to an `Access`: a fault (`Faults`), older stores have all its bytes (`Forwards`), its lines are
+-- looked up, and what is prefetched with them (`Looks`), or too few registers are free (`Waits`).
 
 -- the request of a line: it comes from the second level where that has the line, else from memory
 abbrev pub request : Desc → Around → ℕ → Request
@@ -90,14 +84,22 @@ abbrev pub look_up : Desc → Around → ℕ → Line
 look_up d now line =
     if has_line d now.cache line then Hits line else joined d now line (find (λ m. m.line == line) now.misses)
 
--- the line, if it takes a miss register
-abbrev pub request_by : Line → List Request
-request_by (Takes r) = r ∷ []
-request_by _ = []
+-- what the lines of an access of n bytes come to
+abbrev pub looked_up : Desc → Around → ℕ → ℕ → Lines
+looked_up d now a n = record { lower = look_up d now (line_of d a); upper = option_map (look_up d now) (upper_line d a n) }
 
--- the lines of a load that take miss registers
-abbrev pub requests : List Line → List Request
-requests found = flat_map request_by found
+-- the lines of an access as a list, the lower first
+abbrev pub in_order : Lines → List Line
+in_order found = found.lower ∷ option_to_list found.upper
+
+-- the line, if it takes a miss register
+abbrev pub request_by : Line → Option Request
+request_by (Takes r) = Some r
+request_by _ = None
+
+-- the lines of a load that take miss registers, the lower first
+abbrev pub requests : Lines → List Request
+requests found = option_to_list (request_by found.lower) ++ option_to_list (option_and_then request_by found.upper)
 
 -- the line that was looked up
 abbrev pub line_at : Line → ℕ
@@ -106,14 +108,12 @@ line_at (Joins line due) = line
 line_at (Takes r) = r.line
 
 -- the line behind the last of a load's lines
-abbrev pub line_behind : Desc → List Line → ℕ
-line_behind d [] = 0
-line_behind d (l ∷ []) = line_at l + d.cache_line
-line_behind d (l ∷ found) = line_behind d found
+abbrev pub line_behind : Desc → Lines → ℕ
+line_behind d found = line_at (unwrap_or found.upper found.lower) + d.cache_line
 
 -- the line behind a load's is looked up as well: the load takes a register, the line begins in memory, and a register
 -- is left
-abbrev pub prefetches : Desc → Around → List Line → Bool
+abbrev pub prefetches : Desc → Around → Lines → Bool
 prefetches d now found =
     has_prefetch d
     && nat_lt 0 (length (requests found))
@@ -122,11 +122,11 @@ prefetches d now found =
 
 -- the request of the line behind a load's, where that is prefetched; none where the cache has it or a register waits
 -- for it
-abbrev pub prefetched : Desc → Around → List Line → List Request
-prefetched d now found = if prefetches d now found then request_by (look_up d now (line_behind d found)) else []
+abbrev pub prefetched : Desc → Around → Lines → Option Request
+prefetched d now found = if prefetches d now found then request_by (look_up d now (line_behind d found)) else None
 
 -- where there are too few registers for a load's lines, none is looked up
-abbrev pub unless_lacking : Desc → Around → List Line → Access
+abbrev pub unless_lacking : Desc → Around → Lines → Access
 unless_lacking d now found =
     if nat_le (length now.misses + length (requests found)) d.cache_mshrs then Looks found (prefetched d now found) else Waits
 
@@ -136,7 +136,7 @@ abbrev pub access_at : Desc → Around → List Entry → ℕ → ℕ → Option
 access_at d now before a n (Some cause) = Faults cause
 access_at d now before a n None =
     if all_covered before a n && not (any_store_hidden d.stt_model before) then Forwards
-    else unless_lacking d now (map (look_up d now) (lines_of d a n))
+    else unless_lacking d now (looked_up d now a n)
 
 -- what an access of n bytes at an address comes to
 abbrev pub access : Desc → Around → List Entry → ℕ → ℕ → Access
@@ -168,35 +168,38 @@ due_of d now (Hits line) = now.cycle + d.cache_hit_latency
 due_of d now (Joins line due) = due
 due_of d now (Takes r) = (register d now.cycle r).due
 
--- the latest of a list of cycles, 0 of none
-abbrev pub latest : List ℕ → ℕ
-latest [] = 0
-latest (due ∷ []) = due
-latest (due ∷ dues) = max due (latest dues)
+-- the later of a cycle and another, if there is another
+abbrev pub later : ℕ → Option ℕ → ℕ
+later due None = due
+later due (Some other) = max due other
 
 -- the cycle in which all lines of a load are there
-abbrev pub due_by : Desc → Around → List Line → ℕ
-due_by d now found = latest (map (due_of d now) found)
+abbrev pub due_by : Desc → Around → Lines → ℕ
+due_by d now found = later (due_of d now found.lower) (option_map (due_of d now) found.upper)
 
 -- the events of a load of this serial: one for each of its lines, and one for the line that is prefetched
-abbrev pub look_events : ℕ → List Line → List Request → List Event
+abbrev pub look_events : ℕ → Lines → Option Request → List Event
 look_events serial found ahead =
-    map (λ l. event.Ld serial (line_at l) (look_at l)) found ++ map (λ r. event.Pf r.line (source_of r)) ahead
+    map (λ l. event.Ld serial (line_at l) (look_at l)) (in_order found) ++ map (λ r. event.Pf r.line (source_of r)) (option_to_list ahead)
 
 -- ---- what a load's access leaves
 
+-- the lines that take miss registers, the one that is prefetched last
+abbrev pub all_requests : Lines → Option Request → List Request
+all_requests found ahead = requests found ++ option_to_list ahead
+
 -- the cache after an access: each line of the load moves to the front of its set, where the cache has it
 abbrev pub cache_after : Access → Desc → List (List ℕ) → List (List ℕ)
-cache_after (Looks found ahead) d cache = fold (touched d) cache (map line_at found)
+cache_after (Looks found ahead) d cache = fold (touched d) cache (map line_at (in_order found))
 cache_after _ d cache = cache
 
 -- the second level after an access: each line that takes a miss register moves to the front of its set, where the
 -- second level has it
 abbrev pub second_after : Access → Desc → List (List ℕ) → List (List ℕ)
-second_after (Looks found ahead) d second = fold (second_touched d) second (map (λ r. r.line) (requests found ++ ahead))
+second_after (Looks found ahead) d second = fold (second_touched d) second (map (λ r. r.line) (all_requests found ahead))
 second_after _ d second = second
 
 -- the miss registers after an access: a new one for each line that takes one, behind those that were taken before
 abbrev pub misses_after : Access → Desc → ℕ → List Miss → List Miss
-misses_after (Looks found ahead) d cycle misses = misses ++ map (register d cycle) (requests found ++ ahead)
+misses_after (Looks found ahead) d cycle misses = misses ++ map (register d cycle) (all_requests found ahead)
 misses_after _ d cycle misses = misses

@@ -24,7 +24,9 @@ use Rattle.window_model.specs.Order.{Place, first, each, is_store, sources}
 use Rattle.window_model.specs.MayIssue.{effect_of, first_operand}
 use Rattle.window_model.specs.Ports.{Port, AddressPort, DataPort, DivPort, LoadPort, is_granted, may_at, port_of}
 use Rattle.window_model.specs.Retire.{op_of, byte_count}
-use Rattle.window_model.specs.Access.{Access, Faults, Forwards, Looks, Waits, access, cache_after, due_by, load_bytes, look_events, misses_after, second_after}
+use Rattle.window_model.specs.declared.lookup.Access.{Access}
+use Rattle.window_model.specs.declared.lookup.Access.TheVariants.{Faults, Forwards, Looks, Waits}
+use Rattle.window_model.specs.Access.{access, cache_after, due_by, load_bytes, look_events, misses_after, second_after}
 
 -- ---- what an entry does that is no store
 

@@ -1,5 +1,6 @@
 -- The machine's state: one list of instructions in program order, and what they share (docs/machine.md, "State").
 use Rattle.std.specs.Prelude.{ℕ, ◌+◌, ◌-◌, ◌*◌, ◌/◌, ◌==◌, Bool, false, List, [], ◌∷◌, ◌++◌, replicate, Option, Some, None, if◌then◌else◌}
+use Rattle.std.specs.Option.{option_to_list}
 use Rattle.rv_types.specs.Memory.{Ram}
 use Rattle.rv_types.specs.Isa.{start}
 use Rattle.rv_types.specs.declared.End.{End}
@@ -84,13 +85,13 @@ opening d entry ram =
 abbrev pub line_of : Desc → ℕ → ℕ
 line_of d a = a / d.cache_line * d.cache_line
 
--- one line where both are the same, else the two, the lower first
-abbrev pub one_or_two : ℕ → ℕ → List ℕ
-one_or_two low high = if low == high then low ∷ [] else low ∷ high ∷ []
+-- the line of the last byte of an access of n bytes, where it is another than that of its first
+abbrev pub upper_line : Desc → ℕ → ℕ → Option ℕ
+upper_line d a n = if line_of d a == line_of d (a + n - 1) then None else Some (line_of d (a + n - 1))
 
--- the lines of an access of n bytes: those of its first and of its last byte
+-- the lines of an access of n bytes: that of its first byte, and that of its last where it is another
 abbrev pub lines_of : Desc → ℕ → ℕ → List ℕ
-lines_of d a n = one_or_two (line_of d a) (line_of d (a + n - 1))
+lines_of d a n = line_of d a ∷ option_to_list (upper_line d a n)
 
 -- the set that a line belongs to
 abbrev pub set_of : Desc → ℕ → ℕ

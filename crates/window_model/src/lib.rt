@@ -13,12 +13,14 @@ mod blank;
 mod clocked;
 mod entries;
 mod line;
+mod lookup;
 mod position;
 mod row;
 mod table;
 
 pub use clocked::Clocked;
-pub use line::{line_of, lines_of};
+pub use line::{line_of, lines_of, upper_line};
+pub use lookup::{Access, Line, Lines, Request};
 pub use position::position_of;
 pub use row::{ROW_MAX, Row, empty_row};
 pub use table::index;

@@ -3,6 +3,7 @@
 use Rattle.std.proofs.Common.{◌≡◌, ℕ, List, [], ◌∷◌, Some, None, refl, inr, lit<, lit≤}
 use Rattle.std.specs.Prelude.{Bool, true, false, ◌*◌, length, map, replicate, slice_index_or}
 use Rattle.std.specs.List.{fold}
+use Rattle.std.specs.Option.{option_len}
 use Rattle.rv_types.specs.Decode.{decode}
 use Rattle.rv_types.specs.Kind.{kind_of}
 use Rattle.machine_desc.specs.declared.Desc.{Desc}
@@ -14,7 +15,9 @@ use Rattle.window_model.specs.declared.Item.{Item}
 use Rattle.window_model.specs.declared.Progress.{Progress}
 use Rattle.window_model.specs.declared.Progress.TheVariants.{Waiting, Done}
 use Rattle.window_model.specs.Around.{around}
-use Rattle.window_model.specs.Access.{Access, Looks, access}
+use Rattle.window_model.specs.declared.lookup.Access.{Access}
+use Rattle.window_model.specs.declared.lookup.Access.TheVariants.{Looks}
+use Rattle.window_model.specs.Access.{access, in_order}
 use Rattle.window_model.specs.Dependence.{bit_index}
 use Rattle.window_model.specs.Fetch.{fetch}
 use Rattle.window_model.specs.Fill.{with_line}
@@ -182,7 +185,7 @@ queue = refl
 
 -- how many lines an access looks up, besides how many are prefetched: none where registers lack
 abbrev looks : Access → List ℕ
-looks (Looks found ahead) = length found ∷ length ahead ∷ []
+looks (Looks found ahead) = length (in_order found) ∷ option_len ahead ∷ []
 looks _ = []
 
 -- the load of a word at an address while so many registers wait for other lines

@@ -1,7 +1,5 @@
 use Rattle.std.proofs.Common.{◌≡◌, ◌+◌, ◌≤◌, length, ap, subst, ◌∙◌, arith, refl, Some}
-use Rattle.std.specs.Option.{option_map}
 use Rattle.stations.specs.Stations.{PlacesAble}
-use Rattle.issue.specs.Accesses.{as_access}
 use Rattle.issue.proofs.Skipping.{one_unable, unable_by}
 use Rattle.issue.proofs.Stepping.{WalksAll, left_here, walks_on, walks_out, walks_past}
 use Rattle.issue.proofs.Walking.{walked_none}
@@ -15,7 +13,7 @@ loop-station-init c =
     let events = c.requires.events in
     record {
       walks = record {
-        walked = walked_none c.args.self.now c.args.ports.now _ _ _ nothing.puts (ap (option_map as_access) nothing.load) c.requires.left;
+        walked = walked_none c.args.self.now c.args.ports.now _ _ _ nothing.puts nothing.load c.requires.left;
         only = record { alus = refl; cycle = refl };
         few = omega (arith, none, few);
         room = omega (arith, events);

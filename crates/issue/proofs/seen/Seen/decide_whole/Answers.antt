@@ -1,5 +1,4 @@
 use Rattle.std.proofs.Common.{◌≡◌, ◌∙◌, ◌++◌, ◌&&◌, Bool, length, ap, ap₂, refl, sym, arith, false, true, append-nil}
-use Rattle.std.specs.Option.{option_map}
 use Rattle.window_model.specs.Ports.{is_granted}
 use Rattle.window_model.specs.Issue.{issue_entry}
 use Rattle.window_model.specs.inner.Row.{with_events}
@@ -8,7 +7,6 @@ use Rattle.window_model.specs.Row.{Row}
 use Rattle.issue.specs.declared.decide.Decided.{Decided}
 use Rattle.issue.specs.declared.seen.Place.{Place}
 use Rattle.issue.specs.declared.seen.Seen.{Seen}
-use Rattle.issue.specs.Accesses.{as_access}
 use Rattle.issue.specs.Decisions.{HadTurn}
 use Rattle.issue.specs.Ports.{LeftFor, besides, is_served}
 use Rattle.issue.specs.State.{around_of, before_of, here}
@@ -94,8 +92,8 @@ returns c =
     record {
       puts = c.note.ensures.puts ∙ ap (λ o. c.args.decided.now.puts.items ++ puts_by p.position p.station o) (comes.issued ∙ ap after_of (sym begins));
       row_is = comes.row ∙ ap (λ b. with_events c.args.row.now b.events) (sym begins);
-      load = ap (option_map as_access) c.note.ensures.load ∙ c.begin-after.ensures.load
-          ∙ ap (λ b. load_by b s p (option_map as_access c.args.decided.now.load)) (sym (load_where d now before e true granted));
+      load = c.note.ensures.load ∙ c.begin-after.ensures.load
+          ∙ ap (λ b. load_by b s p c.args.decided.now.load) (sym (load_where d now before e true granted));
       divider = left.divider ∙ ap (λ b. divider_by b s p c.args.ports.now.divider) (sym (division_where d now before e true granted));
       left = left.left;
       fewer = omega (arith, one, fewer);

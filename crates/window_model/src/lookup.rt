@@ -1,24 +1,24 @@
-//! What looking up the lines of an access comes to (`docs/machine.md`, "Loads", "Second level").
+//! What the access of a load comes to (`docs/machine.md`, "Loads", "Second level").
+use crate::Look;
 use machine_desc::Desc;
-use window_model::Look;
+use rv_types::Cause;
 
 /// A line that takes a miss register.
 #[derive(Clone, Copy, Debug, PartialEq, Eq)]
-pub(crate) struct Request {
+pub struct Request {
     /// The first address of the line.
-    pub(crate) line: u32,
+    pub line: u32,
     /// Whether the line comes from memory, and not from the second level.
-    pub(crate) from_memory: bool,
+    pub from_memory: bool,
 }
 
 impl Request {
     ghost use Rattle.std.specs.Prelude.{◌≡◌, ◌<◌, ◌^◌};
     ghost use Rattle.window_model.specs.Access.{register, source_of};
-    ghost use Rattle.issue.specs.Accesses.{as_request};
 
     /// Where the line comes from: the second level, or memory.
-    pub(crate) fn source(&self) -> Look
-        ensures { result ≡ source_of (as_request self.now) }
+    pub fn source(&self) -> Look
+        ensures { result ≡ source_of self.now }
     {
         if self.from_memory {
             return Look::Miss;
@@ -27,9 +27,9 @@ impl Request {
     }
 
     /// The cycle in which the line comes, if it takes a miss register in this cycle.
-    pub(crate) fn due(&self, cycle: u64, desc: &Desc) -> u64
+    pub fn due(&self, cycle: u64, desc: &Desc) -> u64
         requires soon { cycle < 2 ^ 32 }
-        ensures { result ≡ (register desc.now cycle (as_request self.now)).due }
+        ensures { result ≡ (register desc.now cycle self.now).due }
     {
         if self.from_memory {
             return cycle + desc.cache_miss_latency as u64;
@@ -38,9 +38,9 @@ impl Request {
     }
 }
 
-/// What looking up one line comes to.
+/// What looking up one line comes to. A line is named by its first address.
 #[derive(Clone, Copy, Debug, PartialEq, Eq)]
-pub(crate) enum Line {
+pub enum Line {
     /// The cache has the line.
     Hits(u32),
     /// A miss register waits for the line, until this cycle.
@@ -50,14 +50,13 @@ pub(crate) enum Line {
 }
 
 impl Line {
-    ghost use Rattle.std.specs.Prelude.{◌≡◌, ◌≤◌, length};
-    ghost use Rattle.std.specs.Option.{option_map, option_to_list};
+    ghost use Rattle.std.specs.Prelude.{◌≡◌, ◌≤◌};
+    ghost use Rattle.std.specs.Option.{option_len};
     ghost use Rattle.window_model.specs.Access.{line_at, look_at, request_by};
-    ghost use Rattle.issue.specs.Accesses.{as_line, as_request};
 
     /// The line, if it takes a miss register.
-    pub(crate) fn request(&self) -> Option<Request>
-        ensures { option_to_list (option_map as_request result) ≡ request_by (as_line self.now) }
+    pub fn request(&self) -> Option<Request>
+        ensures { result ≡ request_by self.now }
     {
         match *self {
             Line::Takes(request) => Some(request),
@@ -67,7 +66,7 @@ impl Line {
 
     // How many miss registers it takes.
     fn registers(&self) -> u32
-        ensures number { result ≡ length (request_by (as_line self.now)) }
+        ensures number { result ≡ option_len (request_by self.now) }
         ensures few { result ≤ 1 }
     {
         match self {
@@ -77,8 +76,8 @@ impl Line {
     }
 
     /// The first address of the line that was looked up.
-    pub(crate) fn line(&self) -> u32
-        ensures { result ≡ line_at (as_line self.now) }
+    pub fn line(&self) -> u32
+        ensures { result ≡ line_at self.now }
     {
         match *self {
             Line::Hits(line) => line,
@@ -88,8 +87,8 @@ impl Line {
     }
 
     /// Where the line was found, as the trace tells it.
-    pub(crate) fn look(&self) -> Look
-        ensures { result ≡ look_at (as_line self.now) }
+    pub fn look(&self) -> Look
+        ensures { result ≡ look_at self.now }
     {
         match self {
             Line::Hits(_) => Look::Hit,
@@ -99,25 +98,23 @@ impl Line {
     }
 }
 
-/// The lines of an access.
+/// What looking up the lines of an access comes to.
 #[derive(Clone, Copy, Debug, PartialEq, Eq)]
-pub(crate) struct Lines {
+pub struct Lines {
     /// The line of the access's first byte.
-    pub(crate) lower: Line,
+    pub lower: Line,
     /// The line of the access's last byte, where it is another line.
-    pub(crate) upper: Option<Line>,
+    pub upper: Option<Line>,
 }
 
 impl Lines {
     ghost use Rattle.std.specs.Prelude.{◌≡◌, ◌≤◌, length};
-    ghost use Rattle.std.specs.List.{flat_map};
-    ghost use Rattle.std.specs.Option.{option_map, option_to_list};
+    ghost use Rattle.std.specs.Option.{option_and_then};
     ghost use Rattle.window_model.specs.Access.{line_behind, request_by, requests};
-    ghost use Rattle.issue.specs.Accesses.{as_line, as_lines, as_request};
 
     /// How many miss registers they take.
-    pub(crate) fn registers(&self) -> u32
-        ensures number { result ≡ length (requests (as_lines self.now)) }
+    pub fn registers(&self) -> u32
+        ensures number { result ≡ length (requests self.now) }
         ensures few { result ≤ 2 }
     {
         match &self.upper {
@@ -127,9 +124,8 @@ impl Lines {
     }
 
     /// The upper line, if it takes a miss register.
-    pub(crate) fn upper_request(&self) -> Option<Request>
-        ensures { option_to_list (option_map as_request result)
-            ≡ flat_map request_by (option_to_list (option_map as_line self.now.upper)) }
+    pub fn upper_request(&self) -> Option<Request>
+        ensures { result ≡ option_and_then request_by self.now.upper }
     {
         match &self.upper {
             Some(upper) => upper.request(),
@@ -138,8 +134,8 @@ impl Lines {
     }
 
     /// The line behind the last of them, which may lie past the address 2^32 - 1.
-    pub(crate) fn behind(&self, desc: &Desc) -> u64
-        ensures { result ≡ line_behind desc.now (as_lines self.now) }
+    pub fn behind(&self, desc: &Desc) -> u64
+        ensures { result ≡ line_behind desc.now self.now }
     {
         let last = match &self.upper {
             Some(upper) => upper.line(),
@@ -147,4 +143,17 @@ impl Lines {
         };
         last as u64 + desc.cache_line as u64
     }
+}
+
+/// What the access of a load comes to.
+#[derive(Clone, Copy, Debug, PartialEq, Eq)]
+pub enum Access {
+    /// The load has a fault, and reads nothing.
+    Faults(Cause),
+    /// Older stores have all bytes of the load.
+    Forwards,
+    /// The load's lines are looked up, and this line, if any, is prefetched with them.
+    Looks(Lines, Option<Request>),
+    /// Too few miss registers are free for the load's lines.
+    Waits,
 }
