@@ -1,6 +1,6 @@
 -- What an entry's turn comes to: it waits on, or it goes on with an event.
 use Rattle.std.proofs.Common.{◌≡◌, ℕ, ◌+◌, ◌<◌, ◌≤◌, Bool, true, false, ◌&&◌, List, [], ◌∷◌, ◌++◌, length, refl, ap, ap₂, sym, subst, ◌∙◌, inl, inr, arith, append-nil, slice_get, Option, None, Some, eqb-true}
-use Rattle.std.specs.Prelude.{◌==◌, ◌||◌, if◌then◌else◌, map, slice_set, ◌⊎◌}
+use Rattle.std.specs.Prelude.{◌==◌, ◌||◌, if◌then◌else◌, slice_set, ◌⊎◌}
 use Rattle.std.specs.List.{All}
 use Rattle.std.proofs.lemmas.List.{set_at}
 use Rattle.std.proofs.lemmas.List.Elements.{All-push}
@@ -19,7 +19,7 @@ use Rattle.window_model.specs.declared.lookup.Line.{Line}
 use Rattle.window_model.specs.declared.lookup.Lines.{Lines}
 use Rattle.window_model.specs.declared.lookup.Request.{Request}
 use Rattle.window_model.specs.declared.lookup.Access.TheVariants.{Looks}
-use Rattle.window_model.specs.Access.{look_events, looked_up, prefetched}
+use Rattle.window_model.specs.Access.{looked_up, prefetched}
 use Rattle.window_model.specs.Order.{has_address, has_data, is_load, is_store, is_waiting}
 use Rattle.window_model.specs.Retire.{op_of, byte_count}
 use Rattle.window_model.specs.MayIssue.{effect_of}
