@@ -13,8 +13,7 @@ use Rattle.rv_types.specs.declared.Cause.{Cause}
 use Rattle.rv_types.specs.declared.Instr.{Instr}
 use Rattle.rv_types.specs.declared.Instr.TheVariants as instr
 use Rattle.rv_types.specs.declared.Kind.{Kind}
-use Rattle.rv_types.specs.declared.Kind.TheVariants.{Jal, Load, Store}
-use Rattle.rv_types.specs.declared.Op.TheVariants as op
+use Rattle.rv_types.specs.declared.Kind.TheVariants.{Load, Store}
 use Rattle.window_model.specs.declared.Entry.{Entry}
 use Rattle.window_model.specs.declared.Outcome.{Outcome}
 use Rattle.window_model.specs.Fetch.{instr_at, kind_at}

@@ -13,9 +13,8 @@ use Rattle.rv_types.specs.Isa.{Effect, effect}
 use Rattle.rv_types.specs.declared.Cause.{Cause}
 use Rattle.rv_types.specs.declared.Instr.{Instr}
 use Rattle.rv_types.specs.declared.Kind.{Kind}
-use Rattle.rv_types.specs.declared.Kind.TheVariants.{Load, Jal, Stop}
+use Rattle.rv_types.specs.declared.Kind.TheVariants.{Load, Stop}
 use Rattle.rv_types.specs.declared.Instr.TheVariants as instr
-use Rattle.rv_types.specs.declared.Op.TheVariants as op
 use Rattle.machine_desc.specs.declared.SttModel.{SttModel}
 use Rattle.window_model.specs.declared.Entry.{Entry}
 use Rattle.window_model.specs.Order.{base_of, is_load}
