@@ -63,7 +63,7 @@ impl<'a> Seen<'a> {
     // Whether the older stores, where they don't keep a load whatever its address, let it go that has this effect: in
     // version 1 they do; in version 2 they do where each has both its parts, or by its bytes, where each without data
     // has an untainted address and covers none of them.
-    // Where one covers some for want of its data, `kept` is that.
+    // The load and the oldest store that covers some so, if there is one, are put into `kept`.
     fn goes(&self, place: &Place, made: &Effect, kept: &mut Option<Kept>) -> bool
         requires turn { HasTurn self.now place.now }
         requires open { stores_keep self.now place.now ≡ false }
@@ -98,7 +98,7 @@ impl<'a> Seen<'a> {
         (passes || !pending.address) && !pending.overlap && !self.point.tainted(pending.root)
     }
 
-    // Whether a load waits for the data of an older store, by what it asks for. If so `kept` tells of which.
+    // Whether a load waits for the data of an older store, by what it asks for. If so the two are put into `kept`.
     fn awaits_data(&self, place: &Place, request: &LoadRequest, kept: &mut Option<Kept>) -> bool
         requires bytes { bytes_requested request.now
             ≡ bytes_of (around_of self.now) (before_of self.now place.now) place.now.entry.now }
@@ -122,18 +122,21 @@ impl<'a> Seen<'a> {
         ensures { result ≡ true → besides self.now place.now ≡ false }
     {
         match place.entry.item.kind {
-            Kind::Load => self.is_kept_by(place, self.keepers.keeper(place.entry.serial)),
+            Kind::Load => self.keeper_keeps(place),
             _ => false,
         }
     }
 
-    // Whether the store with this serial, if it is in flight, keeps a load for want of its data.
+    // Whether the store that kept a load of this one's group last is in flight, and keeps it for want of its data.
     #[inline(always)]
-    fn is_kept_by(&self, place: &Place, store: u64) -> bool
+    fn keeper_keeps(&self, place: &Place) -> bool
         requires turn { HasTurn self.now place.now }
         ensures { result ≡ true → (pending_here self.now place.now).overlap ≡ true }
     {
-        let Some(store) = self.lsq.store(store) else {
+        let Some(keeper) = self.keepers.keeper(place.entry.serial) else {
+            return false;
+        };
+        let Some(store) = self.lsq.store(keeper) else {
             return false;
         };
         if store.stored.is_some() {
@@ -185,7 +188,8 @@ impl<'a> Seen<'a> {
     }
 
     /// Whether an entry with this effect, which isn't kept whatever its operands are, has what it asks for besides
-    /// untainted ones: a load older stores that let it go.
+    /// untainted ones: a load older stores that let it go. A load that lacks a store's data is put into `kept` with the
+    /// store.
     pub(crate) fn has_besides(&self, place: &Place, made: &Effect, kept: &mut Option<Kept>) -> bool
         requires turn { HasTurn self.now place.now }
         requires open { is_kept self.now place.now ≡ false }
@@ -198,8 +202,9 @@ impl<'a> Seen<'a> {
         }
     }
 
-    /// Whether the entry, which is no store, may ask for its port: one is left, no tainted operand holds it back, and
-    /// nothing keeps it whatever its operands are. It is served then where it has what it asks for besides.
+    /// Whether the entry, which is no store, may ask for its port: one is left, the store that kept such a load last
+    /// doesn't keep it, no tainted operand holds it back, and nothing keeps it whatever its operands are. It is served
+    /// then where it has what it asks for besides.
     pub(crate) fn may_ask(&self, place: &Place, ports: &Ports) -> bool
         requires turn { HasTurn self.now place.now }
         requires whole { is_store place.now.entry.now.item.kind ≡ false }

@@ -3,6 +3,6 @@ use Rattle.std.specs.Prelude.{ℕ, ◌%◌, List, Option, None, Some, slice_set}
 use Rattle.lsq.specs.declared.keepers.Kept.{Kept}
 
 -- the guesses, with the store that keeps a load as that of the load's group
-abbrev pub noted : Option Kept → List ℕ → List ℕ
+abbrev pub noted : Option Kept → List (Option ℕ) → List (Option ℕ)
 noted None stores = stores
-noted (Some k) stores = slice_set stores (k.load % 64) k.store
+noted (Some k) stores = slice_set stores (k.load % 64) (Some k.store)

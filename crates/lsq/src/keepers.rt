@@ -1,5 +1,5 @@
 //! Which store kept a load when it last asked.
-ghost use Rattle.std.specs.Prelude.{◌≡◌, ◌%◌, replicate, slice_index, slice_set};
+ghost use Rattle.std.specs.Prelude.{◌≡◌, ◌%◌, None, Some, replicate, slice_get};
 ghost use Rattle.lsq.specs.Keepers.{noted};
 
 /// So many groups of loads have a guess each.
@@ -15,28 +15,28 @@ pub struct Kept {
 }
 
 /// For each group of loads, those whose serials are the same modulo 64, the serial of the store that kept one of them
-/// last. It is a guess by which a load that waits asks one store first: nothing rests on it, and who takes it looks
-/// whether the store still keeps the load.
+/// last, None as long as none was kept. It is a guess by which a load that waits asks one store first: nothing rests
+/// on it, and who takes it looks whether the store still keeps the load.
 #[derive(Clone, Copy, Debug, PartialEq, Eq)]
 pub struct Keepers {
     /// The serial for each group.
-    pub stores: [u64; GROUPS],
+    pub stores: [Option<u64>; GROUPS],
 }
 
 impl Keepers {
-    /// The guesses before any load was kept: serial 0.
+    /// No guesses, before any load was kept.
     pub fn none() -> Keepers
-        ensures { result.stores ≡ replicate 64 0 }
+        ensures { result.stores ≡ replicate 64 None }
     {
         Keepers {
-            stores: [0; GROUPS],
+            stores: [None; GROUPS],
         }
     }
 
-    /// The serial of the store that kept a load of this one's group last.
+    /// The serial of the store that kept a load of this one's group last, if one did.
     #[inline(always)]
-    pub fn keeper(&self, load: u64) -> u64
-        ensures { result ≡ slice_index self.now.stores (load % 64) }
+    pub fn keeper(&self, load: u64) -> Option<u64>
+        ensures { slice_get self.now.stores (load % 64) ≡ Some result }
     {
         self.stores[(load % GROUPS as u64) as usize]
     }
@@ -46,7 +46,7 @@ impl Keepers {
         ensures { self.new.stores ≡ noted kept self.old.stores }
     {
         if let Some(kept) = kept {
-            self.stores[(kept.load % GROUPS as u64) as usize] = kept.store;
+            self.stores[(kept.load % GROUPS as u64) as usize] = Some(kept.store);
         }
     }
 }

@@ -8,4 +8,4 @@ pub returns-in-Load : goal.returns-in-Load
 returns-in-Load c k =
     let s = c.args.self.now in
     let p = c.args.place.now in
-    ap (λ k. asks_besides k s.desc.now (around_of s) (before_of s p) p.entry.now) c.in-Load.is ∙ refused_by_data s p c.requires.turn (c.is_kept_by.ensures k)
+    ap (λ k. asks_besides k s.desc.now (around_of s) (before_of s p) p.entry.now) c.in-Load.is ∙ refused_by_data s p c.requires.turn (c.keeper_keeps.ensures k)
