@@ -1,18 +1,24 @@
 -- An entry that is kept whatever its operands are lacks what it asks for besides.
-use Rattle.std.proofs.Common.{◌≡◌, Bool, true, false, not, ◌&&◌, ◌||◌, refl, ap, sym, ◌∙◌}
+use Rattle.std.proofs.Common.{◌≡◌, Bool, true, false, not, ◌&&◌, ◌||◌, List, refl, ap, sym, ◌∙◌}
 use Rattle.std.specs.Prelude.{◌==◌, if◌then◌else◌}
 use Rattle.std.specs.List.{list_all, list_any}
+use Rattle.std.proofs.Math.Bool.{and-false}
 use Rattle.rv_types.specs.Memory.{load_fault}
 use Rattle.rv_types.specs.declared.Kind.{Kind}
 use Rattle.rv_types.specs.declared.Kind.TheVariants.{Div, Load}
-use Rattle.window_model.specs.Around.{is_free}
-use Rattle.window_model.specs.MayIssue.{address_of, goes_behind}
+use Rattle.machine_desc.specs.declared.Desc.{Desc}
+use Rattle.window_model.specs.declared.Entry.{Entry}
+use Rattle.window_model.specs.Around.{Around, is_free}
+use Rattle.window_model.specs.MayIssue.{address_of, goes_behind, may_issue, may_issue_as}
+use Rattle.window_model.specs.Order.{is_waiting}
+use Rattle.window_model.specs.Ready.{ready}
+use Rattle.window_model.specs.Taint.{address_tainted, any_tainted}
 use Rattle.window_model.specs.Retire.{byte_count}
 use Rattle.lsq.specs.Pending.{lacks_address}
 use Rattle.lsq.specs.Queues.{is_known}
 use Rattle.issue.specs.declared.seen.Place.{Place}
 use Rattle.issue.specs.declared.seen.Seen.{Seen}
-use Rattle.issue.specs.Pending.{is_kept, kept_as, older_here, passes_here, stores_keep}
+use Rattle.issue.specs.Pending.{is_kept, kept_as, older_here, passes_here, pending_here, stores_keep}
 use Rattle.issue.specs.Ports.{besides}
 use Rattle.issue.specs.State.{HasTurn, around_of, before_of, here}
 use Rattle.issue.specs.Telling.{asks_besides}
@@ -57,6 +63,15 @@ module _ (s : Seen) (p : Place) where
         ∙ let_is s p.position e t.stands t.at (passes_here s p) (load_fault s.ram.now a (byte_count e)) a (byte_count e)
         ∙ refused (passes_here s p) (list_any lacks_address (older_here s p)) _ _ k
 
+    -- a load that meets an older store without data isn't let go, in either version
+    pub refused_by_data : (pending_here s p).overlap ≡ true → here goes_behind s p ≡ false
+    refused_by_data k =
+        let e = p.entry.now in
+        let a = address_of s.regs.now (before_of s p) e in
+        goes_is s p.position e t.stands t.at
+        ∙ let_is s p.position e t.stands t.at (passes_here s p) (load_fault s.ram.now a (byte_count e)) a (byte_count e)
+        ∙ meets_none _ _ _ k
+
     lacks_besides : (k : Kind) → kept_as k s p ≡ true → asks_besides k s.desc.now (around_of s) (before_of s p) p.entry.now ≡ false
     lacks_besides Load k = stores_refuse (s.desc.now.version == 1) refl k
     lacks_besides Div k = not_false (is_free (around_of s)) k
@@ -69,6 +84,19 @@ module _ (s : Seen) (p : Place) where
         by_kept : (k : Bool) → is_kept s p ≡ k → besides s p ≡ (not k && besides s p)
         by_kept true k = lacks_besides p.entry.now.item.kind k
         by_kept false k = refl
+
+-- ---- an entry that lacks what it asks for besides may not issue
+
+issue_lacks : (d : Desc) (now : Around) (before : List Entry) (e : Entry) (k : Kind) → asks_besides k d now before e ≡ false → may_issue_as k d now before e ≡ false
+issue_lacks d now before e Load h = ap (λ b. not (address_tainted d.stt_model before e) && b) h ∙ and-false (not (address_tainted d.stt_model before e))
+issue_lacks d now before e Div h = ap (λ b. not (any_tainted d.stt_model before e) && b) h ∙ and-false (not (any_tainted d.stt_model before e))
+issue_lacks d now before e _ h = h
+
+pub may_not : (s : Seen) (p : Place) → besides s p ≡ false → may_issue s.desc.now (around_of s) (before_of s p) p.entry.now ≡ false
+may_not s p h =
+    let e = p.entry.now in
+    let asks = is_waiting e.state && ready s.desc.now (before_of s p) e in
+    ap (λ b. asks && b) (issue_lacks s.desc.now (around_of s) (before_of s p) e e.item.kind h) ∙ and-false asks
 
 -- an entry that isn't kept and is no load has what it asks for besides
 pub besides_no_load : (s : Seen) (p : Place) (k : Kind) → (k ≡ Load → ⊥) → kept_as k s p ≡ false → asks_besides k s.desc.now (around_of s) (before_of s p) p.entry.now ≡ true

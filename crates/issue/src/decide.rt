@@ -2,6 +2,7 @@
 //! is made on the state before the phase.
 use crate::seen::{Place, Seen};
 use arrayvec::ArrayVec;
+use lsq::Kept;
 use rob_ring::Issued;
 use unit_ports::Ports;
 use window_model::{Access, Progress, Row};
@@ -45,6 +46,8 @@ pub(crate) struct Decided {
     pub(crate) puts: ArrayVec<Put, PUTS_MAX>,
     /// What the access of the load that was tried came to.
     pub(crate) load: Option<Access>,
+    /// The last load that was found to be kept for want of a store's data, but for those that a guess told.
+    pub(crate) kept: Option<Kept>,
 }
 
 impl Decided {
@@ -59,6 +62,7 @@ impl Decided {
         Decided {
             puts: ArrayVec::new(),
             load: None,
+            kept: None,
         }
     }
 
@@ -122,7 +126,7 @@ impl<'a> Seen<'a> {
             return;
         }
         let computed = self.compute(place);
-        if !self.has_besides(place, &computed.effect) {
+        if !self.has_besides(place, &computed.effect, &mut decided.kept) {
             return;
         }
         let after = self.begin(place, &computed, &mut decided.load, ports, row);

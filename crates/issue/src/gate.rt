@@ -1,6 +1,6 @@
 //! Which entries may issue, and which are granted a port (`docs/machine.md`, "Issue").
 use crate::seen::{Place, Seen};
-use lsq::{LoadRequest, Pending};
+use lsq::{Kept, LoadRequest, Pending};
 use rob_ring::{Sources, sources_at};
 use rv_effect::Effect;
 use rv_types::Kind;
@@ -10,7 +10,7 @@ use unit_ports::Ports;
 impl<'a> Seen<'a> {
     ghost use Rattle.std.specs.Prelude.{◌≡◌, ◌&&◌, Some, false, slice_get, true};
     ghost use Rattle.rv_effect.specs.Seen.{seen};
-    ghost use Rattle.window_model.specs.MayIssue.{bytes_of, goes_behind};
+    ghost use Rattle.window_model.specs.MayIssue.{address_of, bytes_of, goes_behind};
     ghost use Rattle.window_model.specs.Order.{is_store};
     ghost use Rattle.window_model.specs.Around.{is_free};
     ghost use Rattle.window_model.specs.Retire.{byte_count};
@@ -30,6 +30,23 @@ impl<'a> Seen<'a> {
         *sources_at(self.sources, place.position)
     }
 
+    // What a load asks for from its address on.
+    #[inline(always)]
+    fn request_at(&self, place: &Place, addr: u32) -> LoadRequest
+        requires { addr ≡ address_of self.now.regs.now (before_of self.now place.now) place.now.entry.now }
+        ensures addr { result.addr ≡ addr }
+        ensures size { bytes_in result.width ≡ byte_count place.now.entry.now }
+        ensures fault { result.fault ≡ load_fault self.now.ram.now addr (byte_count place.now.entry.now) }
+        ensures bytes { bytes_requested result
+            ≡ bytes_of (around_of self.now) (before_of self.now place.now) place.now.entry.now }
+    {
+        LoadRequest {
+            addr,
+            width: place.entry.width(),
+            fault: self.ram.load_fault(addr, place.entry.bytes()),
+        }
+    }
+
     /// What a load asks for, by what its instruction makes of its operands.
     #[inline(always)]
     pub(crate) fn load_request(&self, place: &Place, made: &Effect) -> LoadRequest
@@ -40,17 +57,14 @@ impl<'a> Seen<'a> {
         ensures bytes { bytes_requested result
             ≡ bytes_of (around_of self.now) (before_of self.now place.now) place.now.entry.now }
     {
-        LoadRequest {
-            addr: made.addr,
-            width: place.entry.width(),
-            fault: self.ram.load_fault(made.addr, place.entry.bytes()),
-        }
+        self.request_at(place, made.addr)
     }
 
     // Whether the older stores, where they don't keep a load whatever its address, let it go that has this effect: in
     // version 1 they do; in version 2 they do where each has both its parts, or by its bytes, where each without data
     // has an untainted address and covers none of them.
-    fn goes(&self, place: &Place, made: &Effect) -> bool
+    // The load and the oldest store that covers some so, if there is one, are put into `kept`.
+    fn goes(&self, place: &Place, made: &Effect, kept: &mut Option<Kept>) -> bool
         requires turn { HasTurn self.now place.now }
         requires open { stores_keep self.now place.now ≡ false }
         requires effect { seen made.now ≡ effect_here self.now place.now }
@@ -63,7 +77,7 @@ impl<'a> Seen<'a> {
             return true;
         }
         let request = self.load_request(place, made);
-        if self.awaits_data(place, &request) {
+        if self.awaits_data(place, &request, kept) {
             return false;
         }
         self.is_let(self.passes(place), &self.pending(place, &request))
@@ -84,13 +98,52 @@ impl<'a> Seen<'a> {
         (passes || !pending.address) && !pending.overlap && !self.point.tainted(pending.root)
     }
 
-    // Whether a load waits for the data of an older store, by what it asks for.
-    fn awaits_data(&self, place: &Place, request: &LoadRequest) -> bool
+    // Whether a load waits for the data of an older store, by what it asks for. If so the two are put into `kept`.
+    fn awaits_data(&self, place: &Place, request: &LoadRequest, kept: &mut Option<Kept>) -> bool
         requires bytes { bytes_requested request.now
             ≡ bytes_of (around_of self.now) (before_of self.now place.now) place.now.entry.now }
         ensures { result ≡ (pending_here self.now place.now).overlap }
     {
-        self.lsq.awaits_data(place.entry.serial, request)
+        let load = place.entry.serial;
+        match self.lsq.keeper(load, request) {
+            Some(store) => {
+                *kept = Some(Kept { load, store });
+                true
+            }
+            None => false,
+        }
+    }
+
+    // Whether the store that was last found to keep such a load keeps this one. It is a guess that spares a walk over
+    // the stores: where it isn't right the answer says nothing.
+    #[inline(always)]
+    fn is_still_kept(&self, place: &Place) -> bool
+        requires turn { HasTurn self.now place.now }
+        ensures { result ≡ true → besides self.now place.now ≡ false }
+    {
+        match place.entry.item.kind {
+            Kind::Load => self.keeper_keeps(place),
+            _ => false,
+        }
+    }
+
+    // Whether the store that kept a load of this one's group last is in flight, and keeps it for want of its data.
+    #[inline(always)]
+    fn keeper_keeps(&self, place: &Place) -> bool
+        requires turn { HasTurn self.now place.now }
+        ensures { result ≡ true → (pending_here self.now place.now).overlap ≡ true }
+    {
+        let Some(keeper) = self.keepers.keeper(place.entry.serial) else {
+            return false;
+        };
+        let Some(store) = self.lsq.store(keeper) else {
+            return false;
+        };
+        if store.stored.is_some() {
+            return false;
+        }
+        let request = self.request_at(place, self.address(place));
+        store.keeps(place.entry.serial, &request)
     }
 
     // What a load waits for in the older stores, by what it asks for.
@@ -135,21 +188,23 @@ impl<'a> Seen<'a> {
     }
 
     /// Whether an entry with this effect, which isn't kept whatever its operands are, has what it asks for besides
-    /// untainted ones: a load older stores that let it go.
-    pub(crate) fn has_besides(&self, place: &Place, made: &Effect) -> bool
+    /// untainted ones: a load older stores that let it go. A load that lacks a store's data is put into `kept` with the
+    /// store.
+    pub(crate) fn has_besides(&self, place: &Place, made: &Effect, kept: &mut Option<Kept>) -> bool
         requires turn { HasTurn self.now place.now }
         requires open { is_kept self.now place.now ≡ false }
         requires effect { seen made.now ≡ effect_here self.now place.now }
         ensures { result ≡ besides self.now place.now }
     {
         match place.entry.item.kind {
-            Kind::Load => self.goes(place, made),
+            Kind::Load => self.goes(place, made, kept),
             _ => true,
         }
     }
 
-    /// Whether the entry, which is no store, may ask for its port: one is left, no tainted operand holds it back, and
-    /// nothing keeps it whatever its operands are. It is served then where it has what it asks for besides.
+    /// Whether the entry, which is no store, may ask for its port: one is left, the store that kept such a load last
+    /// doesn't keep it, no tainted operand holds it back, and nothing keeps it whatever its operands are. It is served
+    /// then where it has what it asks for besides.
     pub(crate) fn may_ask(&self, place: &Place, ports: &Ports) -> bool
         requires turn { HasTurn self.now place.now }
         requires whole { is_store place.now.entry.now.item.kind ≡ false }
@@ -159,6 +214,9 @@ impl<'a> Seen<'a> {
     {
         let kind = place.entry.item.kind;
         if !ports.has(kind) {
+            return false;
+        }
+        if self.is_still_kept(place) {
             return false;
         }
         if !may_transmit(kind, self.sources_of(place).roots, self.point) {

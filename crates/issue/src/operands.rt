@@ -73,8 +73,9 @@ pub(crate) struct Computed {
 impl<'a> Seen<'a> {
     ghost use Rattle.std.specs.Prelude.{◌≡◌};
     ghost use Rattle.rv_effect.specs.Seen.{seen};
+    ghost use Rattle.window_model.specs.MayIssue.{address_of};
     ghost use Rattle.issue.specs.Operands.{first_of, second_of};
-    ghost use Rattle.issue.specs.State.{HasTurn};
+    ghost use Rattle.issue.specs.State.{HasTurn, before_of};
     ghost use Rattle.issue.specs.Turns.{effect_here};
 
     // The values of the entry's sources.
@@ -90,6 +91,31 @@ impl<'a> Seen<'a> {
             first: source_value(self.rob, self.regs, first, writers[0]),
             second: source_value(self.rob, self.regs, second, writers[1]),
         }
+    }
+
+    // The value of the entry's first source.
+    #[inline(always)]
+    fn first(&self, place: &Place) -> u32
+        requires turn { HasTurn self.now place.now }
+        ensures { result ≡ first_of self.now place.now }
+    {
+        let [first, _] = reads_of(&place.entry.item.instr);
+        source_value(
+            self.rob,
+            self.regs,
+            first,
+            self.sources_of(place).writers[0],
+        )
+    }
+
+    /// The address of a load or store, which its base alone decides.
+    #[inline(always)]
+    pub(crate) fn address(&self, place: &Place) -> u32
+        requires turn { HasTurn self.now place.now }
+        ensures { result ≡ address_of self.now.regs.now (before_of self.now place.now) place.now.entry.now }
+    {
+        let item = &place.entry.item;
+        effect(item.pc, &item.instr, self.first(place), 0).addr
     }
 
     /// What the entry's instruction makes of the values of its sources.

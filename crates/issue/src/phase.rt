@@ -40,6 +40,7 @@ pub fn issue<R: RenameTaint>(parts: &mut Parts<R>, row: &mut Row)
         rob: &parts.rob,
         stations: &parts.stations,
         lsq: &parts.lsq,
+        keepers: &parts.keepers,
         point: &parts.point,
         sources: &parts.sources,
         dependence: &parts.dependence,
@@ -54,6 +55,7 @@ pub fn issue<R: RenameTaint>(parts: &mut Parts<R>, row: &mut Row)
         cycle: parts.cycle,
     };
     seen.decide(&mut parts.ports, &mut decided, row);
+    parts.keepers.note(decided.kept);
     place(
         &decided.puts,
         &parts.desc,

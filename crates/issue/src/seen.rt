@@ -3,7 +3,7 @@ use byte_ram::Ram;
 use cache_tags::Tags;
 use circular_buffer::HeapCircularBuffer;
 use dep_pred::DepPred;
-use lsq::Lsq;
+use lsq::{Keepers, Lsq};
 use machine_desc::Desc;
 use mshr_file::Mshrs;
 use rob_ring::{RobRing, Sources};
@@ -22,6 +22,8 @@ pub(crate) struct Seen<'a> {
     pub(crate) stations: &'a Stations,
     /// The loads and stores in flight.
     pub(crate) lsq: &'a Lsq,
+    /// Which store kept a load when it last asked: a guess.
+    pub(crate) keepers: &'a Keepers,
     /// The visibility point.
     pub(crate) point: &'a VisPoint,
     /// At each entry's position the youngest roots and the writers of its sources, as it was renamed.

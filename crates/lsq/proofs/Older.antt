@@ -1,13 +1,14 @@
 -- The stores older than a serial.
-use Rattle.std.proofs.Common.{◌≡◌, ℕ, Bool, true, false, cond, not, ◌||◌, ◌&&◌, List, [], ◌∷◌, refl, ap, sym, ◌∙◌, arith}
-use Rattle.std.specs.Prelude.{nat_lt, nat_le, reverse}
-use Rattle.std.specs.List.{filter, list_all, list_any}
+use Rattle.std.proofs.Common.{◌≡◌, ℕ, Bool, true, false, cond, not, ◌||◌, ◌&&◌, List, [], ◌∷◌, Option, Some, is_some, refl, ap, sym, ◌∙◌, arith}
+use Rattle.std.specs.Prelude.{◌==◌, nat_lt, nat_le, reverse}
+use Rattle.std.specs.List.{filter, find, list_all, list_any}
 use Rattle.std.proofs.lemmas.Bool.Decides.{nat_tests}
 use Rattle.std.proofs.lemmas.List.{reverse-append}
 use Rattle.std.proofs.lemmas.List.Folds.{list_any-append}
 use Rattle.window_model.proofs.Before.{all_reverse}
 use Rattle.lsq.specs.declared.store.Store.{Store}
-use Rattle.lsq.specs.Pending.{lacks_address, lacks_data_for}
+use Rattle.lsq.specs.Clearing.{store_of}
+use Rattle.lsq.specs.Pending.{keeps, lacks_address, lacks_data_for}
 use Rattle.lsq.specs.Queues.{is_known, older}
 
 all_if : (b young : Bool) (s : Store) (old : List Store) (r : Bool) → young ≡ not b → list_all is_known old ≡ r → list_all is_known (cond b (s ∷ old) old) ≡ ((young || is_known s) && r)
@@ -55,6 +56,38 @@ any_older p serial stores = any_reverse p (filter (λ s. nat_lt s.serial serial)
 pub any_lacks_address : (serial : ℕ) (stores : List Store) → list_any lacks_address (older serial stores) ≡ list_any (λ s. nat_lt s.serial serial && lacks_address s) stores
 any_lacks_address serial stores = any_older lacks_address serial stores
 
--- some older store lacks data for bytes where some store of the queue is older and does
-pub any_lacks_data : (bytes : List ℕ) (serial : ℕ) (stores : List Store) → list_any (lacks_data_for bytes) (older serial stores) ≡ list_any (λ s. nat_lt s.serial serial && lacks_data_for bytes s) stores
-any_lacks_data bytes serial stores = any_older (lacks_data_for bytes) serial stores
+-- ---- the store that keeps a load
+
+either_true : (b : Bool) → (b || true) ≡ true
+either_true true = refl
+either_true false = refl
+
+some_if : (b r : Bool) (s : Store) (o : Option Store) → is_some o ≡ r → is_some (cond b (Some s) o) ≡ (b || r)
+some_if true r s o h = refl
+some_if false r s o h = h
+
+some_found : (p : Store → Bool) (stores : List Store) → is_some (find p stores) ≡ list_any p stores
+some_found p [] = refl
+some_found p (s ∷ stores) = some_if (p s) (list_any p stores) s (find p stores) (some_found p stores)
+
+-- some older store lacks data for bytes where some store of the queue keeps a load of them
+any_keeps : (serial : ℕ) (bytes : List ℕ) (stores : List Store) → list_any (lacks_data_for bytes) (older serial stores) ≡ list_any (keeps serial bytes) stores
+any_keeps serial bytes stores = any_older (lacks_data_for bytes) serial stores
+
+-- the oldest that keeps a load is found where an older one lacks data for its bytes
+pub keeper_is : (serial : ℕ) (bytes : List ℕ) (stores : List Store) (o : Option Store) → o ≡ find (keeps serial bytes) stores → is_some o ≡ list_any (lacks_data_for bytes) (older serial stores)
+keeper_is serial bytes stores o h = ap is_some h ∙ some_found (keeps serial bytes) stores ∙ sym (any_keeps serial bytes stores)
+
+-- a test that one passes that another test finds is passed by some
+passed_if : (p q : Store → Bool) (b : Bool) (s x : Store) (stores : List Store) → (find q stores ≡ Some x → list_any p stores ≡ true) → cond b (Some s) (find q stores) ≡ Some x → p x ≡ true → (p s || list_any p stores) ≡ true
+passed_if p q true s x stores rest h k = let same : s ≡ x = cc in ap (λ b. b || list_any p stores) (ap p same ∙ k)
+passed_if p q false s x stores rest h k = ap (λ b. p s || b) (rest h) ∙ either_true (p s)
+
+passed : (p q : Store → Bool) (x : Store) (stores : List Store) → find q stores ≡ Some x → p x ≡ true → list_any p stores ≡ true
+passed p q x [] h k = absurd (cc)
+passed p q x (s ∷ stores) h k = passed_if p q (q s) s x stores (λ h. passed p q x stores h k) h k
+
+-- where a store that is found keeps a load, some older store lacks data for the load's bytes
+pub lacks_where_kept : (serial store : ℕ) (bytes : List ℕ) (stores : List Store) (x : Store) → store_of store stores ≡ Some x → keeps serial bytes x ≡ true →
+    list_any (lacks_data_for bytes) (older serial stores) ≡ true
+lacks_where_kept serial store bytes stores x h k = any_keeps serial bytes stores ∙ passed (keeps serial bytes) (λ s. s.serial == store) x stores h k

@@ -3,3 +3,4 @@ pub mod Merging
 pub mod Gathering
 pub mod Pending
 pub mod Clearing
+pub mod Keepers

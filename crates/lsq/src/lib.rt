@@ -11,6 +11,7 @@
 #![tactic(auto)]
 
 mod clearing;
+mod keepers;
 mod load;
 mod loads;
 mod merging;
@@ -20,6 +21,7 @@ mod serials;
 mod store;
 
 pub use clearing::StoreInfo;
+pub use keepers::{Keepers, Kept};
 pub use load::{IssuedLoad, Load, LoadRequest};
 pub use merging::Merged;
 pub use pending::Pending;

@@ -1,9 +1,10 @@
 //! What a load still waits for in the stores before it (`docs/machine.md`, "Issue"): one walk over the stores.
 ghost use Rattle.std.specs.Prelude.{◌≡◌, ◌&&◌, [], nat_lt, if◌then◌else◌};
-ghost use Rattle.std.specs.List.{list_any};
+ghost use Rattle.std.specs.List.{find, list_any};
+ghost use Rattle.std.specs.Option.{option_map};
 ghost use Rattle.lsq.specs.Queues.{older};
 ghost use Rattle.lsq.specs.Merging.{reaches};
-ghost use Rattle.lsq.specs.Pending.{awaited, awaits_too, bytes_requested, lacks_address, lacks_data_for, reaches_one};
+ghost use Rattle.lsq.specs.Pending.{awaited, awaits_too, bytes_requested, keeps, lacks_address, reaches_one};
 
 use crate::load::LoadRequest;
 use crate::merging::{is_near, reaches};
@@ -57,32 +58,38 @@ pub(crate) fn shares(span: &Span, request: &LoadRequest) -> bool
     }
 }
 
-// Whether a store is older than a load, and it isn't known what it writes of bytes that the load asks for.
-#[inline(always)]
-fn lacks_data_for(store: &Store, serial: u64, request: &LoadRequest) -> bool
-    ensures { result ≡ (nat_lt store.now.serial serial
-        && lacks_data_for (bytes_requested request.now) store.now) }
-{
-    if store.serial >= serial {
-        return false;
-    }
-    if store.stored.is_some() {
-        return false;
-    }
-    match &store.span {
-        Some(span) => shares(span, request),
-        None => false,
+impl Store {
+    ghost use Rattle.std.specs.Prelude.{◌≡◌};
+    ghost use Rattle.lsq.specs.Pending.{bytes_requested, keeps};
+
+    /// Whether the store keeps a load with this serial, by what the load asks for: it is older, and it isn't known what
+    /// it writes of the load's bytes.
+    #[inline(always)]
+    pub fn keeps(&self, serial: u64, request: &LoadRequest) -> bool
+        ensures { result ≡ keeps serial (bytes_requested request.now) self.now }
+    {
+        if self.serial >= serial {
+            return false;
+        }
+        if self.stored.is_some() {
+            return false;
+        }
+        match &self.span {
+            Some(span) => shares(span, request),
+            None => false,
+        }
     }
 }
 
-/// Whether of some store that is older than a load, and writes bytes that the load asks for, it isn't known what.
-pub(crate) fn lack_data_for(stores: &[Store], serial: u64, request: &LoadRequest) -> bool
-    ensures { result ≡ list_any
-        (λ s. nat_lt s.serial serial && lacks_data_for (bytes_requested request.now) s) stores.now }
+/// The oldest of the stores that keep a load with this serial for want of their data.
+pub(crate) fn keeper<'a>(
+    stores: &'a [Store],
+    serial: u64,
+    request: &LoadRequest,
+) -> Option<&'a Store>
+    ensures { option_map (λ s. s.now) result ≡ find (keeps serial (bytes_requested request.now)) stores.now }
 {
-    stores
-        .iter()
-        .any(|store| lacks_data_for(store, serial, request))
+    stores.iter().find(|store| store.keeps(serial, request))
 }
 
 /// Whether of some store with a serial below this one it isn't known where it writes.

@@ -1,21 +1,21 @@
 //! The queue of loads and the queue of stores.
 ghost use Rattle.std.specs.Prelude.{◌≡◌, ◌<◌, ◌≤◌, ◌*◌, ◌^◌, not, ◌==◌, ◌||◌, nat_le, nat_lt, [], ◌∷◌, ◌++◌, length, map, None, is_some, false, slice_get, IfOk, vec_len, vec_capacity};
-ghost use Rattle.std.specs.List.{filter, list_all, list_any};
+ghost use Rattle.std.specs.List.{filter, find, list_all, list_any};
 ghost use Rattle.std.specs.Option.{option_map};
 ghost use Rattle.rv_types.specs.Memory.{load_fault};
 ghost use Rattle.rv_types.specs.Value.{bytes_in};
 ghost use Rattle.rv_types.specs.Word.{from_le};
-ghost use Rattle.lsq.specs.Clearing.{info_of, violated_by};
+ghost use Rattle.lsq.specs.Clearing.{info_of, store_of, violated_by};
 ghost use Rattle.lsq.specs.Queues.{addressed_at, cleared_at, cut_at, empty, filled_at, is_known, issued_at, older, without, youngest_root};
 ghost use Rattle.lsq.specs.Merging.{all_forwarded, merged_bytes};
-ghost use Rattle.lsq.specs.Pending.{bytes_requested, lacks_address, lacks_data_for};
+ghost use Rattle.lsq.specs.Pending.{bytes_requested, keeps, lacks_address, lacks_data_for};
 
 use crate::clearing::{StoreInfo, info_of, violated_by};
 use crate::load::{IssuedLoad, Load, LoadRequest};
 use crate::loads::issue_load;
 use crate::merging::{Merged, merge};
-use crate::pending::{Pending, lack_address, lack_data_for, pending_in};
-use crate::serials::{cut_items, pop_item, rises_with};
+use crate::pending::{Pending, keeper, lack_address, pending_in};
+use crate::serials::{cut_items, find_item, pop_item, rises_with};
 use crate::store::{Span, Store};
 use byte_ram::Ram;
 use machine_desc::Desc;
@@ -164,14 +164,25 @@ impl Lsq {
         lack_address(self.stores.as_slice(), serial)
     }
 
-    /// Whether of some store older than a load with this serial, and that writes bytes that the load asks for, it isn't
-    /// known what.
-    #[tactic(auto, using(crate::proofs::Older::any_lacks_data))]
-    pub fn awaits_data(&self, serial: u64, request: &LoadRequest) -> bool
-        ensures { result
+    /// The serial of the store that keeps a load with this serial, by what the load asks for: the oldest store before
+    /// the load that writes bytes of it, of which it isn't known what. There is one where the load awaits data.
+    pub fn keeper(&self, serial: u64, request: &LoadRequest) -> Option<u64>
+        ensures oldest { result ≡ option_map (λ s. s.serial)
+            (find (keeps serial (bytes_requested request.now)) self.now.stores) }
+        ensures awaited { is_some result
             ≡ list_any (lacks_data_for (bytes_requested request.now)) (older serial self.now.stores) }
     {
-        lack_data_for(self.stores.as_slice(), serial, request)
+        match keeper(self.stores.as_slice(), serial, request) {
+            Some(store) => Some(store.serial),
+            None => None,
+        }
+    }
+
+    /// Lends the store with this serial, if it is in flight.
+    pub fn store(&self, serial: u64) -> Option<&Store>
+        ensures { option_map (λ s. s.now) result ≡ store_of serial self.now.stores }
+    {
+        find_item(self.stores.as_slice(), self.stores_rise, serial)
     }
 
     /// Whether each store older than this serial has both its address and its data.

@@ -1,6 +1,7 @@
 //! What is done to both queues alike: the loads, and the stores. Each item has its serial.
 ghost use Rattle.std.specs.Prelude.{◌≡◌, ℕ, not, ◌==◌, nat_lt, [], ◌∷◌, ◌++◌, true, vec_capacity};
-ghost use Rattle.std.specs.List.{filter};
+ghost use Rattle.std.specs.List.{filter, find};
+ghost use Rattle.std.specs.Option.{option_map};
 ghost use Rattle.lsq.specs.Queues.{Rise};
 
 /// What a queue holds: loads, or stores.
@@ -65,4 +66,37 @@ pub(crate) fn pop_item<T: Queued + Drop>(items: &mut Vec<T>, rising: bool, seria
     } else {
         items.retain(|item| item.serial() != serial);
     }
+}
+
+// The item with this serial, if there is one. One below the oldest's isn't looked for.
+fn find_rising<T: Queued>(items: &[T], serial: u64) -> Option<&T>
+    requires { Rise T.serial items.now }
+    ensures { option_map (λ x. x.now) result ≡ find (λ x. T.serial x == serial) items.now }
+{
+    if items.len() == 0 {
+        return None;
+    }
+    if serial < items[0].serial() {
+        return None;
+    }
+    let place = items.partition_point(|item| item.serial() < serial);
+    if place >= items.len() {
+        return None;
+    }
+    let item = &items[place];
+    if item.serial() != serial {
+        return None;
+    }
+    Some(item)
+}
+
+// The item with this serial, if there is one.
+pub(crate) fn find_item<T: Queued>(items: &[T], rising: bool, serial: u64) -> Option<&T>
+    requires { rising ≡ true → Rise T.serial items.now }
+    ensures { option_map (λ x. x.now) result ≡ find (λ x. T.serial x == serial) items.now }
+{
+    if rising {
+        return find_rising(items, serial);
+    }
+    items.iter().find(|item| item.serial() == serial)
 }

@@ -163,7 +163,7 @@ fn a_load_waits_for_parts_of_older_stores(rt: HostRuntime) -> Result<(), Fail> {
         assert_same(&rt, &(serial, addr, told), &(serial, addr, want));
         // Each of the first two is asked for by itself too.
         assert!(rt; lsq.awaits_address(serial) == want.address);
-        assert!(rt; lsq.awaits_data(serial, &request) == want.overlap);
+        assert!(rt; lsq.keeper(serial, &request).is_some() == want.overlap);
     }
     // Up to the second store each has both its parts.
     assert!(rt; lsq.all_older_known(5) && !lsq.all_older_known(6));

@@ -1,9 +1,10 @@
-use Rattle.std.proofs.Common.{◌≡◌, ◌∙◌, ◌++◌, ◌&&◌, Bool, length, ap, ap₂, refl, sym, arith, false, true, append-nil}
+use Rattle.std.proofs.Common.{◌≡◌, ◌∙◌, ◌++◌, ◌&&◌, Bool, Option, length, ap, ap₂, refl, sym, arith, false, true, append-nil}
 use Rattle.window_model.specs.Ports.{is_granted}
 use Rattle.window_model.specs.Issue.{issue_entry}
 use Rattle.window_model.specs.inner.Row.{with_events}
 use Rattle.window_model.specs.Order.{is_store}
 use Rattle.window_model.specs.Row.{Row}
+use Rattle.lsq.specs.declared.keepers.Kept.{Kept}
 use Rattle.issue.specs.declared.decide.Decided.{Decided}
 use Rattle.issue.specs.declared.seen.Place.{Place}
 use Rattle.issue.specs.declared.seen.Seen.{Seen}
@@ -18,9 +19,10 @@ use Rattle.issue.proofs.Testing.{events_served, left_refused, served, some_left}
 use Rattle.issue.proofs.Turning.{few_events, turn_is}
 use Rattle.issue.proofs.seen.Seen.decide_whole.Goals as goal
 
--- an entry that isn't served leaves all as it is
-unserved : (s : Seen) (p : Place) (ports : Ports) (decided : Decided) (row : Row) → is_store p.entry.now.item.kind ≡ false → LeftFor s p ports → is_served s p ≡ false → HadTurn s p ports decided row ports decided row
-unserved s p ports decided row whole left refused =
+-- an entry that isn't served leaves all as it is, whichever store is noted as one that keeps it
+unserved : (s : Seen) (p : Place) (ports : Ports) (decided : Decided) (row : Row) (kept : Option Kept) → is_store p.entry.now.item.kind ≡ false → LeftFor s p ports → is_served s p ≡ false →
+    HadTurn s p ports decided row ports (record decided { kept = kept }) row
+unserved s p ports decided row kept whole left refused =
     let d = s.desc.now in
     let now = around_of s in
     let before = before_of s p in
@@ -43,11 +45,11 @@ pub returns-then-not-may_ask : goal.returns-then-not-may_ask
 returns-then-not-may_ask c =
     let s = c.args.self.now in
     let p = c.args.place.now in
-    unserved s p _ _ _ c.requires.whole c.requires.left (c.may_ask.ensures.served ∙ ap (λ b. b && besides s p) c.if-not-may_ask.true)
+    unserved s p _ _ _ _ c.requires.whole c.requires.left (c.may_ask.ensures.served ∙ ap (λ b. b && besides s p) c.if-not-may_ask.true)
 
 pub returns-then-not-has_besides : goal.returns-then-not-has_besides
 returns-then-not-has_besides c =
-    unserved c.args.self.now c.args.place.now _ _ _ c.requires.whole c.requires.left
+    unserved c.args.self.now c.args.place.now _ _ _ _ c.requires.whole c.requires.left
     (c.may_ask.ensures.served ∙ ap₂ (λ a b. a && b) c.if-not-may_ask.false (sym c.has_besides.ensures ∙ c.if-not-has_besides.true))
 
 -- it is served where it may ask for its port and has what it asks for besides

@@ -6,7 +6,7 @@ use Rattle.issue.specs.Pending.{lets_by, passes_here}
 use Rattle.issue.specs.State.{before_of}
 use Rattle.issue.proofs.Behind.{goes_is, goes_known}
 use Rattle.issue.proofs.Bytes.{let_is}
-use Rattle.issue.proofs.Kept.{all_known_in_one, meets_none}
+use Rattle.issue.proofs.Kept.{all_known_in_one, refused_by_data}
 use Rattle.issue.proofs.seen.Seen.goes.Goals as goal
 
 pub returns-then-stores_in_one : goal.returns-then-stores_in_one
@@ -21,12 +21,7 @@ returns-then-all_older_known c =
 
 pub returns-then-awaits_data : goal.returns-then-awaits_data
 returns-then-awaits_data c =
-    let s = c.args.self.now in
-    let t = c.requires.turn in
-    let e = c.args.place.now.entry.now in
-    let a = address_of s.regs.now (before_of s c.args.place.now) e in
-    sym (goes_is s _ e t.stands t.at ∙ let_is s _ e t.stands t.at (passes_here s c.args.place.now) (load_fault s.ram.now a (byte_count e)) a (byte_count e)
-    ∙ meets_none _ _ _ (sym c.awaits_data.ensures ∙ c.if-awaits_data.true))
+    sym (refused_by_data c.args.self.now c.args.place.now c.requires.turn (sym c.awaits_data.ensures ∙ c.if-awaits_data.true))
 
 pub returns : goal.returns
 returns c =

@@ -1,0 +1,52 @@
+//! Which store kept a load when it last asked.
+ghost use Rattle.std.specs.Prelude.{◌≡◌, ◌%◌, None, Some, replicate, slice_get};
+ghost use Rattle.lsq.specs.Keepers.{noted};
+
+/// So many groups of loads have a guess each.
+pub const GROUPS: usize = 64;
+
+/// A load that is kept for want of a store's data.
+#[derive(Clone, Copy, Debug, PartialEq, Eq)]
+pub struct Kept {
+    /// The load's number in the order of renaming.
+    pub load: u64,
+    /// That of the store.
+    pub store: u64,
+}
+
+/// For each group of loads, those whose serials are the same modulo 64, the serial of the store that kept one of them
+/// last, None as long as none was kept. It is a guess by which a load that waits asks one store first: nothing rests
+/// on it, and who takes it looks whether the store still keeps the load.
+#[derive(Clone, Copy, Debug, PartialEq, Eq)]
+pub struct Keepers {
+    /// The serial for each group.
+    pub stores: [Option<u64>; GROUPS],
+}
+
+impl Keepers {
+    /// No guesses, before any load was kept.
+    pub fn none() -> Keepers
+        ensures { result.stores ≡ replicate 64 None }
+    {
+        Keepers {
+            stores: [None; GROUPS],
+        }
+    }
+
+    /// The serial of the store that kept a load of this one's group last, if one did.
+    #[inline(always)]
+    pub fn keeper(&self, load: u64) -> Option<u64>
+        ensures { slice_get self.now.stores (load % 64) ≡ Some result }
+    {
+        self.stores[(load % GROUPS as u64) as usize]
+    }
+
+    /// Notes which store keeps a load, if one does.
+    pub fn note(&mut self, kept: Option<Kept>)
+        ensures { self.new.stores ≡ noted kept self.old.stores }
+    {
+        if let Some(kept) = kept {
+            self.stores[(kept.load % GROUPS as u64) as usize] = Some(kept.store);
+        }
+    }
+}
