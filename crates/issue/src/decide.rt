@@ -113,7 +113,8 @@ impl<'a> Seen<'a> {
         }
     }
 
-    // An entry that is no store has its turn. What it comes to is made before it takes its port.
+    // An entry that is no store has its turn. What it comes to is made before it takes its port. A load that a store was
+    // found to keep asks that store first.
     fn decide_whole(&self, place: &Place, ports: &mut Ports, decided: &mut Decided, row: &mut Row)
         requires turn { HasTurn self.now place.now }
         requires whole { is_store place.now.entry.now.item.kind ≡ false }
@@ -122,6 +123,9 @@ impl<'a> Seen<'a> {
         requires room { HasRoom (events_left ports.old) row.old }
         ensures { HadTurn self.now place.now ports.old decided.old row.old ports.new decided.new row.new }
     {
+        if self.is_still_kept(place) {
+            return;
+        }
         if !self.may_ask(place, ports) {
             return;
         }

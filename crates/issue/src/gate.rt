@@ -114,13 +114,16 @@ impl<'a> Seen<'a> {
         }
     }
 
-    // Whether the store that was last found to keep such a load keeps this one. It is a guess that spares a walk over
-    // the stores: where it isn't right the answer says nothing.
+    /// Whether the store that was last found to keep such a load keeps this one. It is a guess that spares a walk over
+    /// the stores: where it isn't right the answer says nothing. In version 1 no load is kept for its bytes.
     #[inline(always)]
-    fn is_still_kept(&self, place: &Place) -> bool
+    pub(crate) fn is_still_kept(&self, place: &Place) -> bool
         requires turn { HasTurn self.now place.now }
         ensures { result ≡ true → besides self.now place.now ≡ false }
     {
+        if self.desc.stores_in_one() {
+            return false;
+        }
         match place.entry.item.kind {
             Kind::Load => self.keeper_keeps(place),
             _ => false,
@@ -202,9 +205,8 @@ impl<'a> Seen<'a> {
         }
     }
 
-    /// Whether the entry, which is no store, may ask for its port: one is left, the store that kept such a load last
-    /// doesn't keep it, no tainted operand holds it back, and nothing keeps it whatever its operands are. It is served
-    /// then where it has what it asks for besides.
+    /// Whether the entry, which is no store, may ask for its port: one is left, no tainted operand holds it back, and
+    /// nothing keeps it whatever its operands are. It is served then where it has what it asks for besides.
     pub(crate) fn may_ask(&self, place: &Place, ports: &Ports) -> bool
         requires turn { HasTurn self.now place.now }
         requires whole { is_store place.now.entry.now.item.kind ≡ false }
@@ -214,9 +216,6 @@ impl<'a> Seen<'a> {
     {
         let kind = place.entry.item.kind;
         if !ports.has(kind) {
-            return false;
-        }
-        if self.is_still_kept(place) {
             return false;
         }
         if !may_transmit(kind, self.sources_of(place).roots, self.point) {

@@ -1,5 +1,6 @@
 use Rattle.std.proofs.Common.{◌≡◌, ◌∙◌, ◌++◌, ◌&&◌, Bool, Option, length, ap, ap₂, refl, sym, arith, false, true, append-nil}
-use Rattle.window_model.specs.Ports.{is_granted}
+use Rattle.std.specs.Prelude.{nat_lt}
+use Rattle.window_model.specs.Ports.{asking, is_granted, ports}
 use Rattle.window_model.specs.Issue.{issue_entry}
 use Rattle.window_model.specs.inner.Row.{with_events}
 use Rattle.window_model.specs.Order.{is_store}
@@ -13,6 +14,8 @@ use Rattle.issue.specs.Ports.{LeftFor, besides, is_served}
 use Rattle.issue.specs.State.{around_of, before_of, here}
 use Rattle.issue.specs.Turns.{after_of, divider_by, load_by, puts_by, puts_of}
 use Rattle.unit_ports.specs.Ports.{Ports, port_for}
+use Rattle.issue.proofs.Asking.{asks_own}
+use Rattle.issue.proofs.Kept.{may_not}
 use Rattle.issue.proofs.Choosing.{division_where, granted_goes, load_where, the_other}
 use Rattle.issue.proofs.Noting.{one_put_of, same_row}
 use Rattle.issue.proofs.Testing.{events_served, left_refused, served, some_left}
@@ -40,6 +43,22 @@ unserved s p ports decided row kept whole left refused =
       events = omega (arith, none);
       only = record { alus = refl; cycle = refl };
     }
+
+-- an entry that lacks what it asks for besides isn't served
+unserved_without : (s : Seen) (p : Place) → is_store p.entry.now.item.kind ≡ false → besides s p ≡ false → is_served s p ≡ false
+unserved_without s p whole lacks =
+    let d = s.desc.now in
+    let now = around_of s in
+    let before = before_of s p in
+    let e = p.entry.now in
+    let port = port_for e.item.kind in
+    ap (λ m. m && nat_lt (asking d now port before) (ports d port)) (asks_own d now before e whole ∙ may_not s p lacks)
+
+pub returns-then-is_still_kept : goal.returns-then-is_still_kept
+returns-then-is_still_kept c =
+    let s = c.args.self.now in
+    let p = c.args.place.now in
+    unserved s p _ _ _ _ c.requires.whole c.requires.left (unserved_without s p c.requires.whole (c.is_still_kept.ensures c.if-is_still_kept.true))
 
 pub returns-then-not-may_ask : goal.returns-then-not-may_ask
 returns-then-not-may_ask c =

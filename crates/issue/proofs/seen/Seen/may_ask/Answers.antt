@@ -1,17 +1,12 @@
 use Rattle.std.proofs.Common.{◌∙◌, ◌&&◌, not, ap, refl, sym}
 use Rattle.issue.specs.Ports.{besides}
 use Rattle.issue.proofs.Asking.{whole_ready}
-use Rattle.issue.proofs.Kept.{may_not, unless_kept}
+use Rattle.issue.proofs.Kept.{unless_kept}
 use Rattle.issue.proofs.Testing.{issue_is, refused_where_none, served_where_left}
 use Rattle.issue.proofs.seen.Seen.may_ask.Goals as goal
 
 pub returns-then-not-has-clause-served : goal.returns-then-not-has-clause-served
 returns-then-not-has-clause-served c = refused_where_none _ _ _ c.args.place.now.entry.now _ c.requires.whole c.requires.left (sym c.has.ensures ∙ c.if-not-has.true)
-
-pub returns-then-is_still_kept-clause-served : goal.returns-then-is_still_kept-clause-served
-returns-then-is_still_kept-clause-served c =
-    served_where_left _ _ _ c.args.place.now.entry.now _ c.requires.whole c.requires.left (sym c.has.ensures ∙ c.if-not-has.false)
-    ∙ may_not c.args.self.now c.args.place.now (c.is_still_kept.ensures c.if-is_still_kept.true)
 
 pub returns-then-not-may_transmit-clause-served : goal.returns-then-not-may_transmit-clause-served
 returns-then-not-may_transmit-clause-served c =
