@@ -16,7 +16,7 @@ use Rattle.window_model.specs.Taint.{address_tainted, any_tainted}
 use Rattle.window_model.specs.Retire.{byte_count}
 use Rattle.lsq.specs.Pending.{lacks_address}
 use Rattle.lsq.specs.Queues.{is_known}
-use Rattle.issue.specs.declared.seen.Place.{Place}
+use Rattle.issue.specs.declared.seen.Candidate.{Candidate}
 use Rattle.issue.specs.declared.seen.Seen.{Seen}
 use Rattle.issue.specs.Pending.{is_kept, kept_as, older_here, passes_here, pending_here, stores_keep}
 use Rattle.issue.specs.Ports.{besides}
@@ -45,7 +45,7 @@ meets_none true true visible h = refl
 meets_none true false visible h = absurd (cc)
 meets_none false lacks visible h = refl
 
-module _ (s : Seen) (p : Place) where
+module _ (s : Seen) (p : Candidate) where
   -- in version 1 older stores that don't keep a load are all known
   pub all_known_in_one : (s.desc.now.version == 1) ≡ true → stores_keep s p ≡ false → list_all is_known (older_here s p) ≡ true
   all_known_in_one v k =
@@ -92,14 +92,14 @@ issue_lacks d now before e Load h = ap (λ b. not (address_tainted d.stt_model b
 issue_lacks d now before e Div h = ap (λ b. not (any_tainted d.stt_model before e) && b) h ∙ and-false (not (any_tainted d.stt_model before e))
 issue_lacks d now before e _ h = h
 
-pub may_not : (s : Seen) (p : Place) → besides s p ≡ false → may_issue s.desc.now (around_of s) (before_of s p) p.entry.now ≡ false
+pub may_not : (s : Seen) (p : Candidate) → besides s p ≡ false → may_issue s.desc.now (around_of s) (before_of s p) p.entry.now ≡ false
 may_not s p h =
     let e = p.entry.now in
     let asks = is_waiting e.state && ready s.desc.now (before_of s p) e in
     ap (λ b. asks && b) (issue_lacks s.desc.now (around_of s) (before_of s p) e e.item.kind h) ∙ and-false asks
 
 -- an entry that isn't kept and is no load has what it asks for besides
-pub besides_no_load : (s : Seen) (p : Place) (k : Kind) → (k ≡ Load → ⊥) → kept_as k s p ≡ false → asks_besides k s.desc.now (around_of s) (before_of s p) p.entry.now ≡ true
+pub besides_no_load : (s : Seen) (p : Candidate) (k : Kind) → (k ≡ Load → ⊥) → kept_as k s p ≡ false → asks_besides k s.desc.now (around_of s) (before_of s p) p.entry.now ≡ true
 besides_no_load s p Load n h = absurd (n refl)
 besides_no_load s p Div n h = not_true (is_free (around_of s)) h
 besides_no_load s p _ n h = refl

@@ -9,7 +9,7 @@ use Rattle.window_model.specs.inner.Row.{IsLonger, most_issued, with_events}
 use Rattle.unit_ports.specs.Ports.{Ports}
 use Rattle.stations.specs.Stations.{is_able}
 use Rattle.issue.specs.declared.decide.Decided.{Decided}
-use Rattle.issue.specs.declared.seen.Place.{Place}
+use Rattle.issue.specs.declared.seen.Candidate.{Candidate}
 use Rattle.issue.specs.declared.seen.Seen.{Seen}
 use Rattle.issue.specs.Decisions.{DecidesFor, HadTurn, most_begun, turns_of}
 use Rattle.issue.specs.Ports.{LeftFor, OnlyPorts, events_left, left_in_all}
@@ -64,11 +64,11 @@ module _ (s : Seen) (first ports : Ports) (decided : Decided) (start row : Row) 
       }
 
   -- the ports that are left to the one at a station
-  pub left_here : (k : ℕ) (p : Place) → HasTurn s p → p.station ≡ k → Walks s first ports decided start row k → LeftFor s p ports
+  pub left_here : (k : ℕ) (p : Candidate) → HasTurn s p → p.station ≡ k → Walks s first ports decided start row k → LeftFor s p ports
   left_here k p turn at t = (at_next _ (window_of s) k p.position p.entry.now (keeps s ports _ _ _ _ _ stands) t.walked turn.at turn.waits (sym turn.station ∙ at)).left
 
   -- the walk goes on behind an entry that has had its turn
-  pub walks_on : (k : ℕ) (p : Place) (new_ports : Ports) (new_decided : Decided) (new_row : Row) → HasTurn s p → p.station ≡ k → HadTurn s p ports decided row new_ports new_decided new_row →
+  pub walks_on : (k : ℕ) (p : Candidate) (new_ports : Ports) (new_decided : Decided) (new_row : Row) → HasTurn s p → p.station ≡ k → HadTurn s p ports decided row new_ports new_decided new_row →
       Walks s first ports decided start row k → Walks s first new_ports new_decided start new_row (k + 1)
   walks_on k p new_ports new_decided new_row turn at had t =
       let i = p.position in

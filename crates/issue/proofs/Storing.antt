@@ -16,7 +16,7 @@ use Rattle.unit_ports.specs.Laws.{LeftAfter, if_asked}
 use Rattle.unit_ports.specs.Ports.{Ports, left_at}
 use Rattle.unit_ports.proofs.Granting.{granted_is, left_by_store}
 use Rattle.issue.specs.declared.decide.Decided.{Decided}
-use Rattle.issue.specs.declared.seen.Place.{Place}
+use Rattle.issue.specs.declared.seen.Candidate.{Candidate}
 use Rattle.issue.specs.declared.seen.Seen.{Seen}
 use Rattle.issue.specs.Decisions.{HadTurn}
 use Rattle.issue.specs.Ports.{LeftBehind, LeftFor, OnlyPorts, events_left, granted_at, left_in_all, may_here}
@@ -39,13 +39,13 @@ one_at_least false true h = omega arith
 one_at_least false false h = absurd (cc)
 
 -- what is made of an entry, part by part
-same_parts : (a c : Bool) (s : Seen) (p : Place) → parts_by a c s p ≡ parts_here a c s.desc.now (around_of s) (before_of s p) p.entry.now
+same_parts : (a c : Bool) (s : Seen) (p : Candidate) → parts_by a c s p ≡ parts_here a c s.desc.now (around_of s) (before_of s p) p.entry.now
 same_parts true true s p = refl
 same_parts true false s p = refl
 same_parts false true s p = refl
 same_parts false false s p = refl
 
-module _ (s : Seen) (p : Place) (ports first new : Ports) (address stored : Bool) (store : is_store p.entry.now.item.kind ≡ true) (left : LeftFor s p ports)
+module _ (s : Seen) (p : Candidate) (ports first new : Ports) (address stored : Bool) (store : is_store p.entry.now.item.kind ≡ true) (left : LeftFor s p ports)
     (g : address ≡ granted_at AddressPort s p) (a : first ≡ if_asked (may_here AddressPort s p) AddressPort ports)
     (g2 : stored ≡ granted_at DataPort s p) (a2 : new ≡ if_asked (may_here DataPort s p) DataPort first) where
   abbrev d : Desc

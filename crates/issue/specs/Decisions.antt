@@ -13,7 +13,7 @@ use Rattle.issue.specs.declared.decide.Decided.{Decided}
 use Rattle.issue.specs.declared.seen.Seen.{Seen}
 use Rattle.issue.specs.Puts.{placed}
 use Rattle.issue.specs.Shared.{divider_left}
-use Rattle.issue.specs.declared.seen.Place.{Place}
+use Rattle.issue.specs.declared.seen.Candidate.{Candidate}
 use Rattle.issue.specs.Ports.{LeftBehind, OnlyPorts, events_left, granted_at, left_in_all}
 use Rattle.issue.specs.State.{around_of, here, window_of}
 use Rattle.issue.specs.Turns.{divider_by, load_by, puts_of}
@@ -58,7 +58,7 @@ abbrev pub DecidesFor : Seen → Decided → Divider → Divider → Type 0
 DecidesFor s decided old new = Decides s.desc.now (around_of s) (window_of s) decided old new
 
 -- what an entry's turn leaves
-pub record HadTurn (s : Seen) (p : Place) (ports : Ports) (decided : Decided) (row : Row) (new_ports : Ports) (new_decided : Decided) (new_row : Row) : Type 0 where
+pub record HadTurn (s : Seen) (p : Candidate) (ports : Ports) (decided : Decided) (row : Row) (new_ports : Ports) (new_decided : Decided) (new_row : Row) : Type 0 where
   pub puts : new_decided.puts.items ≡ decided.puts.items ++ puts_of p.position p.station (here issue_entry s p)
   pub row_is : new_row ≡ with_events row (here issue_entry s p).events
   pub load : new_decided.load ≡ load_by (granted_at LoadPort s p) s p decided.load

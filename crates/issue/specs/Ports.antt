@@ -9,7 +9,7 @@ use Rattle.stations.specs.declared.wants.Part.{Part}
 use Rattle.stations.specs.declared.wants.Part.TheVariants as part
 use Rattle.unit_ports.specs.Laws.{LeftAfter}
 use Rattle.unit_ports.specs.Ports.{Ports, port_for}
-use Rattle.issue.specs.declared.seen.Place.{Place}
+use Rattle.issue.specs.declared.seen.Candidate.{Candidate}
 use Rattle.issue.specs.declared.seen.Seen.{Seen}
 use Rattle.issue.specs.State.{around_of, before_of}
 use Rattle.issue.specs.Telling.{asks_besides}
@@ -17,11 +17,11 @@ use Rattle.issue.specs.Telling.{asks_besides}
 -- ---- of an entry in its place
 
 -- the entry in its place has what it asks for besides untainted operands
-abbrev pub besides : Seen → Place → Bool
+abbrev pub besides : Seen → Candidate → Bool
 besides s p = asks_besides p.entry.now.item.kind s.desc.now (around_of s) (before_of s p) p.entry.now
 
 -- the entry in its place may issue at this port
-abbrev pub may_here : Port → Seen → Place → Bool
+abbrev pub may_here : Port → Seen → Candidate → Bool
 may_here port s p = may_at s.desc.now (around_of s) port (before_of s p) p.entry.now
 
 -- a part of a store has issued
@@ -35,18 +35,18 @@ part_port part.Address = AddressPort
 part_port part.Data = DataPort
 
 -- the entry in its place is granted this port
-abbrev pub granted_at : Port → Seen → Place → Bool
+abbrev pub granted_at : Port → Seen → Candidate → Bool
 granted_at port s p = is_granted s.desc.now (around_of s) port (before_of s p) p.entry.now
 
 -- the entry in its place is granted the port of its kind
-abbrev pub is_served : Seen → Place → Bool
+abbrev pub is_served : Seen → Candidate → Bool
 is_served s p = granted_at (port_for p.entry.now.item.kind) s p
 
 -- the ports that are left to the entry in its place, and below those that are left to the entries behind it
-abbrev pub LeftFor : Seen → Place → Ports → Type 0
+abbrev pub LeftFor : Seen → Candidate → Ports → Type 0
 LeftFor s p ports = LeftAfter s.desc.now (around_of s) (before_of s p) ports
 
-abbrev pub LeftBehind : Seen → Place → Ports → Type 0
+abbrev pub LeftBehind : Seen → Candidate → Ports → Type 0
 LeftBehind s p ports = LeftAfter s.desc.now (around_of s) (p.entry.now ∷ before_of s p) ports
 
 -- ---- the ports of all entries

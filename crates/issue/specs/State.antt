@@ -17,7 +17,7 @@ use Rattle.refinement.specs.Refines.{Refines}
 use Rattle.refinement.specs.Stations.{station_of}
 use Rattle.refinement.specs.Telling.{has_sources}
 use Rattle.refinement.specs.Waiters.{wants_of}
-use Rattle.issue.specs.declared.seen.Place.{Place}
+use Rattle.issue.specs.declared.seen.Candidate.{Candidate}
 use Rattle.issue.specs.declared.seen.Seen.{Seen}
 
 -- what an entry looks at besides the older ones
@@ -67,11 +67,11 @@ pub record IssueInvariant (s : Seen) : Type 0 where
 -- ---- an entry in its place
 
 -- the older ones, youngest first
-abbrev pub before_of : Seen → Place → List Entry
+abbrev pub before_of : Seen → Candidate → List Entry
 before_of s p = before_at s.rob.now.entries p.position
 
 -- what a definition of the machine says of the entry in its place
-abbrev pub here : {A : Type 0} → (Desc → Around → List Entry → Entry → A) → Seen → Place → A
+abbrev pub here : {A : Type 0} → (Desc → Around → List Entry → Entry → A) → Seen → Candidate → A
 here f s p = f s.desc.now (around_of s) (before_of s p) p.entry.now
 
 -- the entry stands at this position of the window
@@ -79,7 +79,7 @@ abbrev pub StandsAt : Seen → ℕ → Entry → Type 0
 StandsAt s i e = slice_get s.rob.now.entries i ≡ Some e
 
 -- the entry stands in the window at its place, waits at its station, and what it wants is there
-pub record HasTurn (s : Seen) (p : Place) : Type 0 where
+pub record HasTurn (s : Seen) (p : Candidate) : Type 0 where
   pub stands : IssueInvariant s
   pub at : StandsAt s p.position p.entry.now
   pub waits : is_waiting p.entry.now.state ≡ true

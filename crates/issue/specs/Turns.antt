@@ -22,12 +22,12 @@ use Rattle.rob_ring.specs.Issued.{issued_of}
 use Rattle.rob_ring.specs.declared.issued.Issued.{Issued}
 use Rattle.issue.specs.declared.decide.Put.{Put}
 use Rattle.issue.specs.declared.loads.Loaded.{Loaded}
-use Rattle.issue.specs.declared.seen.Place.{Place}
+use Rattle.issue.specs.declared.seen.Candidate.{Candidate}
 use Rattle.issue.specs.declared.seen.Seen.{Seen}
 use Rattle.issue.specs.State.{around_of, before_of, here}
 
 -- what the instruction of the entry in its place makes of its operands
-abbrev pub effect_here : Seen → Place → Effect
+abbrev pub effect_here : Seen → Candidate → Effect
 effect_here s p = effect_of s.regs.now (before_of s p) p.entry.now
 
 -- what a load without fault finds from an address on: what its access comes to, and its value
@@ -38,18 +38,18 @@ abbrev pub value_from : ℕ → Desc → Around → List Entry → Entry → ℕ
 value_from a d now before e = value_loaded now.ram before e a
 
 -- what a load comes to by what it finds
-abbrev pub loads : Seen → Place → made.Effect → Loaded → Begun
+abbrev pub loads : Seen → Candidate → made.Effect → Loaded → Begun
 loads s p f l = load_as l.access s.desc.now (around_of s) p.entry.now (seen f) l.value
 
 -- a store by whether its address part is granted its port, and its data part
-abbrev pub address_by : Bool → Seen → Place → Effect → Begun
+abbrev pub address_by : Bool → Seen → Candidate → Effect → Begun
 address_by granted s p f = if_granted granted (with_address (around_of s) f) (event.Agu p.entry.now.serial ∷ []) p.entry.now
 
 abbrev pub data_by : Bool → Seen → Entry → Effect → Begun
 data_by granted s e f = if_granted granted (with_data (around_of s) f) (data_events s.desc.now e) e
 
 -- what a store comes to by whether each part is granted its port, the address first
-abbrev pub parts_by : Bool → Bool → Seen → Place → Begun
+abbrev pub parts_by : Bool → Bool → Seen → Candidate → Begun
 parts_by address stored s p =
     let a = address_by address s p (effect_here s p) in
     let b = data_by stored s a.entry (effect_here s p) in
@@ -85,9 +85,9 @@ abbrev pub puts_of : ℕ → ℕ → Begun → List Put
 puts_of i station b = puts_by i station (after_of b)
 
 -- what the access of the load that is tried comes to, where this is it
-abbrev pub load_by : Bool → Seen → Place → Option Access → Option Access
+abbrev pub load_by : Bool → Seen → Candidate → Option Access → Option Access
 load_by b s p old = if b then Some (here access_of s p) else old
 
 -- the divider, where this is the division that takes it
-abbrev pub divider_by : Bool → Seen → Place → Divider → Divider
+abbrev pub divider_by : Bool → Seen → Candidate → Divider → Divider
 divider_by b s p old = if b then taken_for (around_of s) (before_of s p) p.entry.now else old

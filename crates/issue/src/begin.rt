@@ -7,7 +7,7 @@ ghost use Rattle.rob_ring.specs.Issued.{issued_of};
 
 use crate::loads::Loaded;
 use crate::operands::Computed;
-use crate::seen::{Place, Seen};
+use crate::seen::{Candidate, Seen};
 use rob_ring::Issued;
 use rv_alu::div_time;
 use rv_effect::Effect;
@@ -67,91 +67,91 @@ impl<'a> Seen<'a> {
     // A division takes the divider for its time, which its first operand tells.
     fn begin_division(
         &self,
-        place: &Place,
+        candidate: &Candidate,
         computed: &Computed,
         ports: &mut Ports,
         row: &mut Row,
     ) -> Issued
-        requires effect { seen computed.now.effect ≡ effect_here self.now place.now }
-        requires first { computed.now.first ≡ first_of self.now place.now }
+        requires effect { seen computed.now.effect ≡ effect_here self.now candidate.now }
+        requires first { computed.now.first ≡ first_of self.now candidate.now }
         requires room { HasRoom 1 row.old }
         ensures divider { ports.new ≡ record ports.old {
-          divider = divider_by true self.now place.now ports.old.divider;
+          divider = divider_by true self.now candidate.now ports.old.divider;
         } }
-        ensures comes { Comes (here (begin_as kind.Div) self.now place.now) (Some result) row.old row.new }
+        ensures comes { Comes (here (begin_as kind.Div) self.now candidate.now) (Some result) row.old row.new }
     {
         let made = &computed.effect;
-        let time = div_time(place.entry.op(), computed.first);
+        let time = div_time(candidate.entry.op(), computed.first);
         let due = self.cycle as u64 + time as u64;
-        ports.divide(due, place.entry.serial);
-        row.push(Event::Div(place.entry.serial, time));
+        ports.divide(due, candidate.entry.serial);
+        row.push(Event::Div(candidate.entry.serial, time));
         begun(
             self.cycle,
-            place.entry,
+            candidate.entry,
             due,
             outcome(made, made.value, None),
         )
     }
 
     // A multiplication executes for the description's latency of multiplications.
-    fn begin_product(&self, place: &Place, made: &Effect, row: &mut Row) -> Issued
-        requires effect { seen made.now ≡ effect_here self.now place.now }
+    fn begin_product(&self, candidate: &Candidate, made: &Effect, row: &mut Row) -> Issued
+        requires effect { seen made.now ≡ effect_here self.now candidate.now }
         requires room { HasRoom 1 row.old }
-        ensures { Comes (here (begin_as kind.Mul) self.now place.now) (Some result) row.old row.new }
+        ensures { Comes (here (begin_as kind.Mul) self.now candidate.now) (Some result) row.old row.new }
     {
-        row.push(Event::Mul(place.entry.serial));
+        row.push(Event::Mul(candidate.entry.serial));
         let due = self.cycle as u64 + self.desc.units_mul_latency as u64;
         begun(
             self.cycle,
-            place.entry,
+            candidate.entry,
             due,
             outcome(made, made.value, None),
         )
     }
 
     // What takes one cycle of an arithmetic unit.
-    fn begin_simple(&self, place: &Place, made: &Effect, row: &mut Row) -> Issued
-        requires effect { seen made.now ≡ effect_here self.now place.now }
+    fn begin_simple(&self, candidate: &Candidate, made: &Effect, row: &mut Row) -> Issued
+        requires effect { seen made.now ≡ effect_here self.now candidate.now }
         requires room { HasRoom 1 row.old }
-        ensures { Comes (here (begin_as kind.Alu) self.now place.now) (Some result) row.old row.new }
+        ensures { Comes (here (begin_as kind.Alu) self.now candidate.now) (Some result) row.old row.new }
     {
-        row.push(Event::Alu(place.entry.serial));
+        row.push(Event::Alu(candidate.entry.serial));
         let outcome = outcome(made, made.value, fault_if(made.misaligned));
-        begun(self.cycle, place.entry, self.cycle as u64 + 1, outcome)
+        begun(self.cycle, candidate.entry, self.cycle as u64 + 1, outcome)
     }
 
     /// What has then issued of the entry, which is no store, by its kind; None where it stays as it is. A load leaves
     /// what its access came to, a division the divider. No port is taken.
     pub(crate) fn begin(
         &self,
-        place: &Place,
+        candidate: &Candidate,
         computed: &Computed,
         load: &mut Option<Access>,
         ports: &mut Ports,
         row: &mut Row,
     ) -> Option<Issued>
-        requires turn { HasTurn self.now place.now }
-        requires effect { seen computed.now.effect ≡ effect_here self.now place.now }
-        requires first { computed.now.first ≡ first_of self.now place.now }
-        requires whole { is_store place.now.entry.now.item.kind ≡ false }
-        requires goes { is_load place.now.entry.now.item.kind ≡ true → here goes_behind self.now place.now ≡ true }
-        requires room { HasRoom (most_events_of place.now.entry.now.item.kind) row.old }
-        ensures comes { Comes (here begin_entry self.now place.now) result row.old row.new }
-        ensures load { load.new ≡ load_by (is_load place.now.entry.now.item.kind) self.now place.now load.old }
+        requires turn { HasTurn self.now candidate.now }
+        requires effect { seen computed.now.effect ≡ effect_here self.now candidate.now }
+        requires first { computed.now.first ≡ first_of self.now candidate.now }
+        requires whole { is_store candidate.now.entry.now.item.kind ≡ false }
+        requires goes { is_load candidate.now.entry.now.item.kind ≡ true → here goes_behind self.now candidate.now ≡ true }
+        requires room { HasRoom (most_events_of candidate.now.entry.now.item.kind) row.old }
+        ensures comes { Comes (here begin_entry self.now candidate.now) result row.old row.new }
+        ensures load { load.new ≡ load_by (is_load candidate.now.entry.now.item.kind) self.now candidate.now load.old }
         ensures divider { ports.new ≡ record ports.old {
-          divider = divider_by (is_division place.now.entry.now.item.kind) self.now place.now ports.old.divider;
+          divider = divider_by (is_division candidate.now.entry.now.item.kind) self.now candidate.now ports.old.divider;
         } }
     {
         let made = &computed.effect;
-        match place.entry.item.kind {
+        match candidate.entry.item.kind {
             Kind::Load => {
-                let found = self.load(place, made);
+                let found = self.load(candidate, made);
                 *load = Some(found.access);
-                self.begin_load(place, made, &found, row)
+                self.begin_load(candidate, made, &found, row)
             }
-            Kind::Div => Some(self.begin_division(place, computed, ports, row)),
-            Kind::Mul => Some(self.begin_product(place, made, row)),
-            _ => Some(self.begin_simple(place, made, row)),
+            Kind::Div => Some(self.begin_division(candidate, computed, ports, row)),
+            Kind::Mul => Some(self.begin_product(candidate, made, row)),
+            _ => Some(self.begin_simple(candidate, made, row)),
         }
     }
 }

@@ -1,6 +1,6 @@
 //! What the phase decides as it goes over the entries that wait, oldest first (`docs/machine.md`, "Issue"). Every test
 //! is made on the state before the phase.
-use crate::seen::{Place, Seen};
+use crate::seen::{Candidate, Seen};
 use arrayvec::ArrayVec;
 use lsq::Kept;
 use rob_ring::Issued;
@@ -67,15 +67,15 @@ impl Decided {
     }
 
     /// Notes what has then issued of the entry, if it changes.
-    pub(crate) fn note(&mut self, place: &Place, after: Option<Issued>)
+    pub(crate) fn note(&mut self, candidate: &Candidate, after: Option<Issued>)
         requires few { length self.old.puts.items < most_begun }
-        ensures puts { self.new.puts.items ≡ self.old.puts.items ++ puts_by place.now.position place.now.station after }
+        ensures puts { self.new.puts.items ≡ self.old.puts.items ++ puts_by candidate.now.position candidate.now.station after }
         ensures load { self.new.load ≡ self.old.load }
     {
         if let Some(issued) = after {
             self.puts.push(Put {
-                position: place.position,
-                station: place.station,
+                position: candidate.position,
+                station: candidate.station,
                 issued,
             });
         }
@@ -95,8 +95,8 @@ impl<'a> Seen<'a> {
     ghost use Rattle.issue.specs.Puts.{ArePuts};
     ghost use Rattle.issue.specs.State.{HasTurn, IssueInvariant, around_of, window_of};
 
-    // The place of the entry that waits at a station, where what it wants is there.
-    fn place_at(&self, station: u32) -> Place<'_>
+    // The entry that waits at a station, where what it wants is there, as a candidate.
+    fn candidate_at(&self, station: u32) -> Candidate<'_>
         requires stands { IssueInvariant self.now }
         requires within { station < length self.now.stations.now.held }
         requires able { option_map is_able (slice_get self.now.stations.now.held station) ≡ Some true }
@@ -104,7 +104,7 @@ impl<'a> Seen<'a> {
         ensures station { result.station ≡ station }
     {
         match self.rob.find(self.stations.serial(station)) {
-            Some(found) => Place {
+            Some(found) => Candidate {
                 position: found.position,
                 station,
                 entry: found.entry,
@@ -115,41 +115,53 @@ impl<'a> Seen<'a> {
 
     // An entry that is no store has its turn. What it comes to is made before it takes its port. A load that a store was
     // found to keep asks that store first.
-    fn decide_whole(&self, place: &Place, ports: &mut Ports, decided: &mut Decided, row: &mut Row)
-        requires turn { HasTurn self.now place.now }
-        requires whole { is_store place.now.entry.now.item.kind ≡ false }
-        requires left { LeftFor self.now place.now ports.old }
+    fn decide_whole(
+        &self,
+        candidate: &Candidate,
+        ports: &mut Ports,
+        decided: &mut Decided,
+        row: &mut Row,
+    )
+        requires turn { HasTurn self.now candidate.now }
+        requires whole { is_store candidate.now.entry.now.item.kind ≡ false }
+        requires left { LeftFor self.now candidate.now ports.old }
         requires few { length decided.old.puts.items + left_in_all ports.old ≤ most_begun }
         requires room { HasRoom (events_left ports.old) row.old }
-        ensures { HadTurn self.now place.now ports.old decided.old row.old ports.new decided.new row.new }
+        ensures { HadTurn self.now candidate.now ports.old decided.old row.old ports.new decided.new row.new }
     {
-        if self.is_still_kept(place) {
+        if self.is_still_kept(candidate) {
             return;
         }
-        if !self.may_ask(place, ports) {
+        if !self.may_ask(candidate, ports) {
             return;
         }
-        let computed = self.compute(place);
-        if !self.has_besides(place, &computed.effect, &mut decided.kept) {
+        let computed = self.compute(candidate);
+        if !self.has_besides(candidate, &computed.effect, &mut decided.kept) {
             return;
         }
-        let after = self.begin(place, &computed, &mut decided.load, ports, row);
-        let _ = ports.grant(place.entry.item.kind);
-        decided.note(place, after);
+        let after = self.begin(candidate, &computed, &mut decided.load, ports, row);
+        let _ = ports.grant(candidate.entry.item.kind);
+        decided.note(candidate, after);
     }
 
     // An entry has its turn.
-    fn decide_entry(&self, place: &Place, ports: &mut Ports, decided: &mut Decided, row: &mut Row)
-        requires turn { HasTurn self.now place.now }
-        requires left { LeftFor self.now place.now ports.old }
+    fn decide_entry(
+        &self,
+        candidate: &Candidate,
+        ports: &mut Ports,
+        decided: &mut Decided,
+        row: &mut Row,
+    )
+        requires turn { HasTurn self.now candidate.now }
+        requires left { LeftFor self.now candidate.now ports.old }
         requires few { length decided.old.puts.items + left_in_all ports.old ≤ most_begun }
         requires room { HasRoom (events_left ports.old) row.old }
-        ensures { HadTurn self.now place.now ports.old decided.old row.old ports.new decided.new row.new }
+        ensures { HadTurn self.now candidate.now ports.old decided.old row.old ports.new decided.new row.new }
     {
-        if place.entry.is_store() {
-            self.decide_store(place, ports, decided, row);
+        if candidate.entry.is_store() {
+            self.decide_store(candidate, ports, decided, row);
         } else {
-            self.decide_whole(place, ports, decided, row);
+            self.decide_whole(candidate, ports, decided, row);
         }
     }
 
@@ -174,8 +186,8 @@ impl<'a> Seen<'a> {
                 continue;
             }
             able = self.stations.without(able, station);
-            let place = self.place_at(station);
-            self.decide_entry(&place, ports, decided, row);
+            let candidate = self.candidate_at(station);
+            self.decide_entry(&candidate, ports, decided, row);
             if able == 0 {
                 return;
             }

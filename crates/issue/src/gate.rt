@@ -1,5 +1,5 @@
 //! Which entries may issue, and which are granted a port (`docs/machine.md`, "Issue").
-use crate::seen::{Place, Seen};
+use crate::seen::{Candidate, Seen};
 use lsq::{Kept, LoadRequest, Pending};
 use rob_ring::{Sources, sources_at};
 use rv_effect::Effect;
@@ -23,72 +23,72 @@ impl<'a> Seen<'a> {
     ghost use Rattle.issue.specs.Turns.{effect_here};
 
     /// What stands of the entry's sources at its position: their youngest roots, and the serials of their writers.
-    pub(crate) fn sources_of(&self, place: &Place) -> Sources
-        requires turn { HasTurn self.now place.now }
-        ensures { slice_get self.now.sources.now.items place.now.position ≡ Some result }
+    pub(crate) fn sources_of(&self, candidate: &Candidate) -> Sources
+        requires turn { HasTurn self.now candidate.now }
+        ensures { slice_get self.now.sources.now.items candidate.now.position ≡ Some result }
     {
-        *sources_at(self.sources, place.position)
+        *sources_at(self.sources, candidate.position)
     }
 
     // What a load asks for from its address on.
     #[inline(always)]
-    fn request_at(&self, place: &Place, addr: u32) -> LoadRequest
-        requires { addr ≡ address_of self.now.regs.now (before_of self.now place.now) place.now.entry.now }
+    fn request_at(&self, candidate: &Candidate, addr: u32) -> LoadRequest
+        requires { addr ≡ address_of self.now.regs.now (before_of self.now candidate.now) candidate.now.entry.now }
         ensures addr { result.addr ≡ addr }
-        ensures size { bytes_in result.width ≡ byte_count place.now.entry.now }
-        ensures fault { result.fault ≡ load_fault self.now.ram.now addr (byte_count place.now.entry.now) }
+        ensures size { bytes_in result.width ≡ byte_count candidate.now.entry.now }
+        ensures fault { result.fault ≡ load_fault self.now.ram.now addr (byte_count candidate.now.entry.now) }
         ensures bytes { bytes_requested result
-            ≡ bytes_of (around_of self.now) (before_of self.now place.now) place.now.entry.now }
+            ≡ bytes_of (around_of self.now) (before_of self.now candidate.now) candidate.now.entry.now }
     {
         LoadRequest {
             addr,
-            width: place.entry.width(),
-            fault: self.ram.load_fault(addr, place.entry.bytes()),
+            width: candidate.entry.width(),
+            fault: self.ram.load_fault(addr, candidate.entry.bytes()),
         }
     }
 
     /// What a load asks for, by what its instruction makes of its operands.
     #[inline(always)]
-    pub(crate) fn load_request(&self, place: &Place, made: &Effect) -> LoadRequest
-        requires effect { seen made.now ≡ effect_here self.now place.now }
+    pub(crate) fn load_request(&self, candidate: &Candidate, made: &Effect) -> LoadRequest
+        requires effect { seen made.now ≡ effect_here self.now candidate.now }
         ensures addr { result.addr ≡ made.now.addr }
-        ensures size { bytes_in result.width ≡ byte_count place.now.entry.now }
-        ensures fault { result.fault ≡ load_fault self.now.ram.now made.now.addr (byte_count place.now.entry.now) }
+        ensures size { bytes_in result.width ≡ byte_count candidate.now.entry.now }
+        ensures fault { result.fault ≡ load_fault self.now.ram.now made.now.addr (byte_count candidate.now.entry.now) }
         ensures bytes { bytes_requested result
-            ≡ bytes_of (around_of self.now) (before_of self.now place.now) place.now.entry.now }
+            ≡ bytes_of (around_of self.now) (before_of self.now candidate.now) candidate.now.entry.now }
     {
-        self.request_at(place, made.addr)
+        self.request_at(candidate, made.addr)
     }
 
     // Whether the older stores, where they don't keep a load whatever its address, let it go that has this effect: in
     // version 1 they do; in version 2 they do where each has both its parts, or by its bytes, where each without data
     // has an untainted address and covers none of them.
     // The load and the oldest store that covers some so, if there is one, are put into `kept`.
-    fn goes(&self, place: &Place, made: &Effect, kept: &mut Option<Kept>) -> bool
-        requires turn { HasTurn self.now place.now }
-        requires open { stores_keep self.now place.now ≡ false }
-        requires effect { seen made.now ≡ effect_here self.now place.now }
-        ensures { result ≡ here goes_behind self.now place.now }
+    fn goes(&self, candidate: &Candidate, made: &Effect, kept: &mut Option<Kept>) -> bool
+        requires turn { HasTurn self.now candidate.now }
+        requires open { stores_keep self.now candidate.now ≡ false }
+        requires effect { seen made.now ≡ effect_here self.now candidate.now }
+        ensures { result ≡ here goes_behind self.now candidate.now }
     {
         if self.desc.stores_in_one() {
             return true;
         }
-        if self.lsq.all_older_known(place.entry.serial) {
+        if self.lsq.all_older_known(candidate.entry.serial) {
             return true;
         }
-        let request = self.load_request(place, made);
-        if self.awaits_data(place, &request, kept) {
+        let request = self.load_request(candidate, made);
+        if self.awaits_data(candidate, &request, kept) {
             return false;
         }
-        self.is_let(self.passes(place), &self.pending(place, &request))
+        self.is_let(self.passes(candidate), &self.pending(candidate, &request))
     }
 
     // Whether a load passes stores of unknown address: there are bits of dependence, and its own isn't set.
-    fn passes(&self, place: &Place) -> bool
-        requires turn { HasTurn self.now place.now }
-        ensures { result ≡ passes_here self.now place.now }
+    fn passes(&self, candidate: &Candidate) -> bool
+        requires turn { HasTurn self.now candidate.now }
+        ensures { result ≡ passes_here self.now candidate.now }
     {
-        self.desc.loads_pass() && !self.dependence.waits(place.entry.item.pc)
+        self.desc.loads_pass() && !self.dependence.waits(candidate.entry.item.pc)
     }
 
     // Whether a load is let go that passes stores or not, and waits for this.
@@ -99,12 +99,17 @@ impl<'a> Seen<'a> {
     }
 
     // Whether a load waits for the data of an older store, by what it asks for. If so the two are put into `kept`.
-    fn awaits_data(&self, place: &Place, request: &LoadRequest, kept: &mut Option<Kept>) -> bool
+    fn awaits_data(
+        &self,
+        candidate: &Candidate,
+        request: &LoadRequest,
+        kept: &mut Option<Kept>,
+    ) -> bool
         requires bytes { bytes_requested request.now
-            ≡ bytes_of (around_of self.now) (before_of self.now place.now) place.now.entry.now }
-        ensures { result ≡ (pending_here self.now place.now).overlap }
+            ≡ bytes_of (around_of self.now) (before_of self.now candidate.now) candidate.now.entry.now }
+        ensures { result ≡ (pending_here self.now candidate.now).overlap }
     {
-        let load = place.entry.serial;
+        let load = candidate.entry.serial;
         match self.lsq.keeper(load, request) {
             Some(store) => {
                 *kept = Some(Kept { load, store });
@@ -117,26 +122,26 @@ impl<'a> Seen<'a> {
     /// Whether the store that was last found to keep such a load keeps this one. It is a guess that spares a walk over
     /// the stores: where it isn't right the answer says nothing. In version 1 no load is kept for its bytes.
     #[inline(always)]
-    pub(crate) fn is_still_kept(&self, place: &Place) -> bool
-        requires turn { HasTurn self.now place.now }
-        ensures { result ≡ true → besides self.now place.now ≡ false }
+    pub(crate) fn is_still_kept(&self, candidate: &Candidate) -> bool
+        requires turn { HasTurn self.now candidate.now }
+        ensures { result ≡ true → besides self.now candidate.now ≡ false }
     {
         if self.desc.stores_in_one() {
             return false;
         }
-        match place.entry.item.kind {
-            Kind::Load => self.keeper_keeps(place),
+        match candidate.entry.item.kind {
+            Kind::Load => self.keeper_keeps(candidate),
             _ => false,
         }
     }
 
     // Whether the store that kept a load of this one's group last is in flight, and keeps it for want of its data.
     #[inline(always)]
-    fn keeper_keeps(&self, place: &Place) -> bool
-        requires turn { HasTurn self.now place.now }
-        ensures { result ≡ true → (pending_here self.now place.now).overlap ≡ true }
+    fn keeper_keeps(&self, candidate: &Candidate) -> bool
+        requires turn { HasTurn self.now candidate.now }
+        ensures { result ≡ true → (pending_here self.now candidate.now).overlap ≡ true }
     {
-        let Some(keeper) = self.keepers.keeper(place.entry.serial) else {
+        let Some(keeper) = self.keepers.keeper(candidate.entry.serial) else {
             return false;
         };
         let Some(store) = self.lsq.store(keeper) else {
@@ -145,39 +150,39 @@ impl<'a> Seen<'a> {
         if store.stored.is_some() {
             return false;
         }
-        let request = self.request_at(place, self.address(place));
-        store.keeps(place.entry.serial, &request)
+        let request = self.request_at(candidate, self.address(candidate));
+        store.keeps(candidate.entry.serial, &request)
     }
 
     // What a load waits for in the older stores, by what it asks for.
-    fn pending(&self, place: &Place, request: &LoadRequest) -> Pending
+    fn pending(&self, candidate: &Candidate, request: &LoadRequest) -> Pending
         requires bytes { bytes_requested request.now
-            ≡ bytes_of (around_of self.now) (before_of self.now place.now) place.now.entry.now }
-        ensures { result ≡ pending_here self.now place.now }
+            ≡ bytes_of (around_of self.now) (before_of self.now candidate.now) candidate.now.entry.now }
+        ensures { result ≡ pending_here self.now candidate.now }
     {
-        self.lsq.pending(place.entry.serial, request)
+        self.lsq.pending(candidate.entry.serial, request)
     }
 
     // Whether the older stores keep a load whatever its address: in version 1 where one lacks a part; in version 2
     // where one lacks its address, unless the load passes stores.
-    fn stores_keep(&self, place: &Place) -> bool
-        requires turn { HasTurn self.now place.now }
-        ensures { result ≡ stores_keep self.now place.now }
+    fn stores_keep(&self, candidate: &Candidate) -> bool
+        requires turn { HasTurn self.now candidate.now }
+        ensures { result ≡ stores_keep self.now candidate.now }
     {
         if self.desc.stores_in_one() {
-            return !self.lsq.all_older_known(place.entry.serial);
+            return !self.lsq.all_older_known(candidate.entry.serial);
         }
-        !self.passes(place) && self.lsq.awaits_address(place.entry.serial)
+        !self.passes(candidate) && self.lsq.awaits_address(candidate.entry.serial)
     }
 
     // Whether the entry is kept whatever its operands are: a load by the older stores, a division by a divider that
     // isn't free.
-    fn is_kept(&self, place: &Place) -> bool
-        requires turn { HasTurn self.now place.now }
-        ensures { result ≡ is_kept self.now place.now }
+    fn is_kept(&self, candidate: &Candidate) -> bool
+        requires turn { HasTurn self.now candidate.now }
+        ensures { result ≡ is_kept self.now candidate.now }
     {
-        match place.entry.item.kind {
-            Kind::Load => self.stores_keep(place),
+        match candidate.entry.item.kind {
+            Kind::Load => self.stores_keep(candidate),
             Kind::Div => !self.is_free(),
             _ => false,
         }
@@ -193,34 +198,39 @@ impl<'a> Seen<'a> {
     /// Whether an entry with this effect, which isn't kept whatever its operands are, has what it asks for besides
     /// untainted ones: a load older stores that let it go. A load that lacks a store's data is put into `kept` with the
     /// store.
-    pub(crate) fn has_besides(&self, place: &Place, made: &Effect, kept: &mut Option<Kept>) -> bool
-        requires turn { HasTurn self.now place.now }
-        requires open { is_kept self.now place.now ≡ false }
-        requires effect { seen made.now ≡ effect_here self.now place.now }
-        ensures { result ≡ besides self.now place.now }
+    pub(crate) fn has_besides(
+        &self,
+        candidate: &Candidate,
+        made: &Effect,
+        kept: &mut Option<Kept>,
+    ) -> bool
+        requires turn { HasTurn self.now candidate.now }
+        requires open { is_kept self.now candidate.now ≡ false }
+        requires effect { seen made.now ≡ effect_here self.now candidate.now }
+        ensures { result ≡ besides self.now candidate.now }
     {
-        match place.entry.item.kind {
-            Kind::Load => self.goes(place, made, kept),
+        match candidate.entry.item.kind {
+            Kind::Load => self.goes(candidate, made, kept),
             _ => true,
         }
     }
 
     /// Whether the entry, which is no store, may ask for its port: one is left, no tainted operand holds it back, and
     /// nothing keeps it whatever its operands are. It is served then where it has what it asks for besides.
-    pub(crate) fn may_ask(&self, place: &Place, ports: &Ports) -> bool
-        requires turn { HasTurn self.now place.now }
-        requires whole { is_store place.now.entry.now.item.kind ≡ false }
-        requires left { LeftFor self.now place.now ports.now }
-        ensures served { is_served self.now place.now ≡ (result && besides self.now place.now) }
-        ensures open { result ≡ true → is_kept self.now place.now ≡ false }
+    pub(crate) fn may_ask(&self, candidate: &Candidate, ports: &Ports) -> bool
+        requires turn { HasTurn self.now candidate.now }
+        requires whole { is_store candidate.now.entry.now.item.kind ≡ false }
+        requires left { LeftFor self.now candidate.now ports.now }
+        ensures served { is_served self.now candidate.now ≡ (result && besides self.now candidate.now) }
+        ensures open { result ≡ true → is_kept self.now candidate.now ≡ false }
     {
-        let kind = place.entry.item.kind;
+        let kind = candidate.entry.item.kind;
         if !ports.has(kind) {
             return false;
         }
-        if !may_transmit(kind, self.sources_of(place).roots, self.point) {
+        if !may_transmit(kind, self.sources_of(candidate).roots, self.point) {
             return false;
         }
-        !self.is_kept(place)
+        !self.is_kept(candidate)
     }
 }

@@ -5,7 +5,7 @@ ghost use Rattle.window_model.specs.Access.{look_events};
 ghost use Rattle.window_model.specs.inner.Row.{HasRoom, with_events};
 
 use crate::begin::{begun, outcome};
-use crate::seen::{Place, Seen};
+use crate::seen::{Candidate, Seen};
 use lsq::{LoadRequest, Merged};
 use rob_ring::Issued;
 use rv_alu::extend;
@@ -59,34 +59,34 @@ impl<'a> Seen<'a> {
     }
 
     // What a load without fault finds by what it asks for.
-    fn load_sound(&self, place: &Place, request: &LoadRequest) -> Loaded
-        requires turn { HasTurn self.now place.now }
-        requires size { bytes_in request.now.width ≡ byte_count place.now.entry.now }
-        requires lets { stores_let self.now.desc.now.stt_model (passes_here self.now place.now)
-            (range request.now.addr (byte_count place.now.entry.now)) (before_of self.now place.now) ≡ true }
-        requires sound { load_fault self.now.ram.now request.now.addr (byte_count place.now.entry.now) ≡ None }
-        ensures access { result.access ≡ here (access_from request.now.addr) self.now place.now }
-        ensures value { result.value ≡ here (value_from request.now.addr) self.now place.now }
+    fn load_sound(&self, candidate: &Candidate, request: &LoadRequest) -> Loaded
+        requires turn { HasTurn self.now candidate.now }
+        requires size { bytes_in request.now.width ≡ byte_count candidate.now.entry.now }
+        requires lets { stores_let self.now.desc.now.stt_model (passes_here self.now candidate.now)
+            (range request.now.addr (byte_count candidate.now.entry.now)) (before_of self.now candidate.now) ≡ true }
+        requires sound { load_fault self.now.ram.now request.now.addr (byte_count candidate.now.entry.now) ≡ None }
+        ensures access { result.access ≡ here (access_from request.now.addr) self.now candidate.now }
+        ensures value { result.value ≡ here (value_from request.now.addr) self.now candidate.now }
     {
-        let merged = self.lsq.merge(place.entry.serial, request, self.ram);
+        let merged = self.lsq.merge(candidate.entry.serial, request, self.ram);
         let forwarded = self.is_forwarded(&merged);
         Loaded {
-            access: self.find(forwarded, request.addr, place.entry.bytes()),
-            value: extend(place.entry.op(), merged.value),
+            access: self.find(forwarded, request.addr, candidate.entry.bytes()),
+            value: extend(candidate.entry.op(), merged.value),
         }
     }
 
     /// What a load, behind stores that let it go, finds by what its instruction makes of its operands.
-    pub(crate) fn load(&self, place: &Place, made: &Effect) -> Loaded
-        requires turn { HasTurn self.now place.now }
-        requires goes { here goes_behind self.now place.now ≡ true }
-        requires effect { seen made.now ≡ effect_here self.now place.now }
-        ensures access { result.access ≡ here access_of self.now place.now }
-        ensures begun { loads self.now place.now made.now result ≡ here (begin_as kind.Load) self.now place.now }
+    pub(crate) fn load(&self, candidate: &Candidate, made: &Effect) -> Loaded
+        requires turn { HasTurn self.now candidate.now }
+        requires goes { here goes_behind self.now candidate.now ≡ true }
+        requires effect { seen made.now ≡ effect_here self.now candidate.now }
+        ensures access { result.access ≡ here access_of self.now candidate.now }
+        ensures begun { loads self.now candidate.now made.now result ≡ here (begin_as kind.Load) self.now candidate.now }
     {
-        let request = self.load_request(place, made);
+        let request = self.load_request(candidate, made);
         match request.fault {
-            None => self.load_sound(place, &request),
+            None => self.load_sound(candidate, &request),
             Some(cause) => Loaded {
                 access: Access::Faults(cause),
                 value: 0,
@@ -120,26 +120,31 @@ impl<'a> Seen<'a> {
     /// A load by what it found. One that finds too few miss registers stays as it is.
     pub(crate) fn begin_load(
         &self,
-        place: &Place,
+        candidate: &Candidate,
         made: &Effect,
         found: &Loaded,
         row: &mut Row,
     ) -> Option<Issued>
         requires room { HasRoom 3 row.old }
-        ensures { Comes (loads self.now place.now made.now found.now) result row.old row.new }
+        ensures { Comes (loads self.now candidate.now made.now found.now) result row.old row.new }
     {
         let soon = self.cycle as u64 + 1;
-        let serial = place.entry.serial;
+        let serial = candidate.entry.serial;
         match found.access {
             Access::Faults(cause) => {
                 row.push(Event::LdFault(serial));
-                Some(begun(self.cycle, place.entry, soon, outcome(made, 0, Some(cause))))
+                Some(begun(
+                    self.cycle,
+                    candidate.entry,
+                    soon,
+                    outcome(made, 0, Some(cause)),
+                ))
             }
             Access::Forwards => {
                 row.push(Event::LdForward(serial));
                 Some(begun(
                     self.cycle,
-                    place.entry,
+                    candidate.entry,
                     soon,
                     outcome(made, found.value, None),
                 ))
@@ -147,7 +152,7 @@ impl<'a> Seen<'a> {
             Access::Looks(lines, ahead) => {
                 tell_lines(serial, &lines, ahead, row);
                 let value = outcome(made, found.value, None);
-                Some(begun(self.cycle, place.entry, self.due_by(&lines), value))
+                Some(begun(self.cycle, candidate.entry, self.due_by(&lines), value))
             }
             Access::Waits => None,
         }

@@ -9,7 +9,7 @@ ghost use Rattle.window_model.specs.Serials.{Rise};
 ghost use Rattle.refinement.specs.Writers.{in_flight};
 ghost use Rattle.issue.specs.Operands.{value_by};
 
-use crate::seen::{Place, Seen};
+use crate::seen::{Candidate, Seen};
 use rob_ring::RobRing;
 use rv_effect::{Effect, effect};
 use rv_types::{REGISTERS, Reg, reads_of};
@@ -80,13 +80,13 @@ impl<'a> Seen<'a> {
 
     // The values of the entry's sources.
     #[inline(always)]
-    fn operands(&self, place: &Place) -> Operands
-        requires turn { HasTurn self.now place.now }
-        ensures first { result.first ≡ first_of self.now place.now }
-        ensures second { result.second ≡ second_of self.now place.now }
+    fn operands(&self, candidate: &Candidate) -> Operands
+        requires turn { HasTurn self.now candidate.now }
+        ensures first { result.first ≡ first_of self.now candidate.now }
+        ensures second { result.second ≡ second_of self.now candidate.now }
     {
-        let [first, second] = reads_of(&place.entry.item.instr);
-        let writers = self.sources_of(place).writers;
+        let [first, second] = reads_of(&candidate.entry.item.instr);
+        let writers = self.sources_of(candidate).writers;
         Operands {
             first: source_value(self.rob, self.regs, first, writers[0]),
             second: source_value(self.rob, self.regs, second, writers[1]),
@@ -95,38 +95,38 @@ impl<'a> Seen<'a> {
 
     // The value of the entry's first source.
     #[inline(always)]
-    fn first(&self, place: &Place) -> u32
-        requires turn { HasTurn self.now place.now }
-        ensures { result ≡ first_of self.now place.now }
+    fn first(&self, candidate: &Candidate) -> u32
+        requires turn { HasTurn self.now candidate.now }
+        ensures { result ≡ first_of self.now candidate.now }
     {
-        let [first, _] = reads_of(&place.entry.item.instr);
+        let [first, _] = reads_of(&candidate.entry.item.instr);
         source_value(
             self.rob,
             self.regs,
             first,
-            self.sources_of(place).writers[0],
+            self.sources_of(candidate).writers[0],
         )
     }
 
     /// The address of a load or store, which its base alone decides.
     #[inline(always)]
-    pub(crate) fn address(&self, place: &Place) -> u32
-        requires turn { HasTurn self.now place.now }
-        ensures { result ≡ address_of self.now.regs.now (before_of self.now place.now) place.now.entry.now }
+    pub(crate) fn address(&self, candidate: &Candidate) -> u32
+        requires turn { HasTurn self.now candidate.now }
+        ensures { result ≡ address_of self.now.regs.now (before_of self.now candidate.now) candidate.now.entry.now }
     {
-        let item = &place.entry.item;
-        effect(item.pc, &item.instr, self.first(place), 0).addr
+        let item = &candidate.entry.item;
+        effect(item.pc, &item.instr, self.first(candidate), 0).addr
     }
 
     /// What the entry's instruction makes of the values of its sources.
     #[inline(always)]
-    pub(crate) fn compute(&self, place: &Place) -> Computed
-        requires turn { HasTurn self.now place.now }
-        ensures first { result.first ≡ first_of self.now place.now }
-        ensures effect { seen result.effect ≡ effect_here self.now place.now }
+    pub(crate) fn compute(&self, candidate: &Candidate) -> Computed
+        requires turn { HasTurn self.now candidate.now }
+        ensures first { result.first ≡ first_of self.now candidate.now }
+        ensures effect { seen result.effect ≡ effect_here self.now candidate.now }
     {
-        let operands = self.operands(place);
-        let item = &place.entry.item;
+        let operands = self.operands(candidate);
+        let item = &candidate.entry.item;
         Computed {
             first: operands.first,
             effect: effect(item.pc, &item.instr, operands.first, operands.second),

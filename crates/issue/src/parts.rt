@@ -5,7 +5,7 @@ ghost use Rattle.rob_ring.specs.Issued.{issued_of};
 ghost use Rattle.issue.specs.Ports.{has_issued};
 
 use crate::decide::Decided;
-use crate::seen::{Place, Seen};
+use crate::seen::{Candidate, Seen};
 use rob_ring::Issued;
 use rv_effect::Effect;
 use stations::Part;
@@ -90,44 +90,44 @@ impl<'a> Seen<'a> {
 
     // Whether a part of the store may issue: it hasn't issued, and its source is there; in version 1 both sources are,
     // since the store has its turn.
-    fn may_part(&self, place: &Place, part: Part) -> bool
-        requires turn { HasTurn self.now place.now }
-        requires store { is_store place.now.entry.now.item.kind ≡ true }
-        ensures { result ≡ may_here (part_port part) self.now place.now }
+    fn may_part(&self, candidate: &Candidate, part: Part) -> bool
+        requires turn { HasTurn self.now candidate.now }
+        requires store { is_store candidate.now.entry.now.item.kind ≡ true }
+        ensures { result ≡ may_here (part_port part) self.now candidate.now }
     {
-        if has_issued(place.entry, part) {
+        if has_issued(candidate.entry, part) {
             return false;
         }
         if self.desc.stores_in_one() {
             return true;
         }
-        self.stations.ready_part(place.station, part)
+        self.stations.ready_part(candidate.station, part)
     }
 
     // Whether the address part is granted its port, which it takes where it may issue.
-    fn grant_address(&self, place: &Place, ports: &mut Ports) -> bool
-        requires turn { HasTurn self.now place.now }
-        requires store { is_store place.now.entry.now.item.kind ≡ true }
-        requires left { LeftFor self.now place.now ports.old }
-        ensures granted { result ≡ granted_at AddressPort self.now place.now }
-        ensures asked { ports.new ≡ if_asked (may_here AddressPort self.now place.now) AddressPort ports.old }
+    fn grant_address(&self, candidate: &Candidate, ports: &mut Ports) -> bool
+        requires turn { HasTurn self.now candidate.now }
+        requires store { is_store candidate.now.entry.now.item.kind ≡ true }
+        requires left { LeftFor self.now candidate.now ports.old }
+        ensures granted { result ≡ granted_at AddressPort self.now candidate.now }
+        ensures asked { ports.new ≡ if_asked (may_here AddressPort self.now candidate.now) AddressPort ports.old }
     {
-        if !self.may_part(place, Part::Address) {
+        if !self.may_part(candidate, Part::Address) {
             return false;
         }
-        ports.grant(place.entry.item.kind)
+        ports.grant(candidate.entry.item.kind)
     }
 
     // Whether the data part is granted its port, once the address part has asked for its own.
-    fn grant_data(&self, place: &Place, ports: &mut Ports) -> bool
-        requires turn { HasTurn self.now place.now }
-        requires store { is_store place.now.entry.now.item.kind ≡ true }
+    fn grant_data(&self, candidate: &Candidate, ports: &mut Ports) -> bool
+        requires turn { HasTurn self.now candidate.now }
+        requires store { is_store candidate.now.entry.now.item.kind ≡ true }
         requires left { (may : Bool) × (first : Ports)
-            × LeftFor self.now place.now first × (ports.old ≡ if_asked may AddressPort first) }
-        ensures granted { result ≡ granted_at DataPort self.now place.now }
-        ensures asked { ports.new ≡ if_asked (may_here DataPort self.now place.now) DataPort ports.old }
+            × LeftFor self.now candidate.now first × (ports.old ≡ if_asked may AddressPort first) }
+        ensures granted { result ≡ granted_at DataPort self.now candidate.now }
+        ensures asked { ports.new ≡ if_asked (may_here DataPort self.now candidate.now) DataPort ports.old }
     {
-        if !self.may_part(place, Part::Data) {
+        if !self.may_part(candidate, Part::Data) {
             return false;
         }
         ports.grant_data()
@@ -167,18 +167,24 @@ impl<'a> Seen<'a> {
     }
 
     // What has issued of the entry once those of its parts have that are granted their ports, the address first.
-    fn after_parts(&self, place: &Place, address: bool, stored: bool, row: &mut Row) -> Issued
-        requires turn { HasTurn self.now place.now }
+    fn after_parts(
+        &self,
+        candidate: &Candidate,
+        address: bool,
+        stored: bool,
+        row: &mut Row,
+    ) -> Issued
+        requires turn { HasTurn self.now candidate.now }
         requires room { HasRoom (one_if address + one_if stored) row.old }
-        ensures { Goes (parts_by address stored self.now place.now) result row.old row.new }
+        ensures { Goes (parts_by address stored self.now candidate.now) result row.old row.new }
     {
-        let made = self.compute(place).effect;
-        let mut issued = issued_of(place.entry);
+        let made = self.compute(candidate).effect;
+        let mut issued = issued_of(candidate.entry);
         if address {
-            self.issue_address(place.entry, &mut issued, &made, row);
+            self.issue_address(candidate.entry, &mut issued, &made, row);
         }
         if stored {
-            self.issue_data(place.entry, &mut issued, &made, row);
+            self.issue_data(candidate.entry, &mut issued, &made, row);
         }
         issued
     }
@@ -186,23 +192,23 @@ impl<'a> Seen<'a> {
     /// A store has its turn: each of its parts takes its port where it may issue, and issues where it is granted one.
     pub(crate) fn decide_store(
         &self,
-        place: &Place,
+        candidate: &Candidate,
         ports: &mut Ports,
         decided: &mut Decided,
         row: &mut Row,
     )
-        requires turn { HasTurn self.now place.now }
-        requires store { is_store place.now.entry.now.item.kind ≡ true }
-        requires left { LeftFor self.now place.now ports.old }
+        requires turn { HasTurn self.now candidate.now }
+        requires store { is_store candidate.now.entry.now.item.kind ≡ true }
+        requires left { LeftFor self.now candidate.now ports.old }
         requires few { length decided.old.puts.items + left_in_all ports.old ≤ most_begun }
         requires room { HasRoom (events_left ports.old) row.old }
-        ensures { HadTurn self.now place.now ports.old decided.old row.old ports.new decided.new row.new }
+        ensures { HadTurn self.now candidate.now ports.old decided.old row.old ports.new decided.new row.new }
     {
-        let address = self.grant_address(place, ports);
-        let stored = self.grant_data(place, ports);
+        let address = self.grant_address(candidate, ports);
+        let stored = self.grant_data(candidate, ports);
         if address || stored {
-            let after = self.after_parts(place, address, stored, row);
-            decided.note(place, Some(after));
+            let after = self.after_parts(candidate, address, stored, row);
+            decided.note(candidate, Some(after));
         }
     }
 }

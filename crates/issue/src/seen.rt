@@ -1,4 +1,4 @@
-//! What the phase looks at, and an entry in its place.
+//! What the phase looks at, and an entry that may issue.
 use byte_ram::Ram;
 use cache_tags::Tags;
 use circular_buffer::HeapCircularBuffer;
@@ -50,9 +50,9 @@ pub(crate) struct Seen<'a> {
     pub(crate) cycle: u32,
 }
 
-/// An entry that has its turn, in its place: it waits, and what it wants is there.
+/// An entry that has its turn to issue: it waits, and what it wants is there.
 #[derive(Clone, Copy)]
-pub(crate) struct Place<'a> {
+pub(crate) struct Candidate<'a> {
     /// The position of the entry, counted from the oldest one.
     pub(crate) position: u32,
     /// The position of the entry's station, counted from the first one.

@@ -31,7 +31,7 @@ use Rattle.secret_marks.specs.declared.WordMarks.{WordMarks}
 use Rattle.secret_marks.specs.Words.{any_byte}
 use Rattle.secret_marks.specs.Marks.{Marks, any_marked, first_marks}
 use Rattle.secret_marks.specs.Shows.{decides_as, operand_shows}
-use Rattle.shown_marks.specs.declared.seen.Place.{Place}
+use Rattle.shown_marks.specs.declared.seen.Candidate.{Candidate}
 use Rattle.shown_marks.specs.declared.seen.Seen.{Seen}
 use Rattle.shown_marks.specs.State.{HasTurn, ShowsInvariant, before_of, flight_of, window_of}
 
@@ -73,7 +73,7 @@ module _ (d : Desc) (before : List Entry) (e : Entry) where
 pub moved : (s : Seen) (stands : ShowsInvariant s) → MovedBy s.desc.now (flight_of stands.rest s)
 moved s stands = record { advanced = stands.advanced; model = stands.model; holds = refl }
 
-module _ (s : Seen) (p : Place) (t : HasTurn s p) where
+module _ (s : Seen) (p : Candidate) (t : HasTurn s p) where
   abbrev d : Desc
   d = s.desc.now
 

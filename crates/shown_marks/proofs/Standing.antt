@@ -14,7 +14,7 @@ use Rattle.secret_marks.specs.declared.Shown.{Shown}
 use Rattle.secret_marks.specs.Shows.{operand_shows}
 use Rattle.secret_marks.specs.Shown.{operands_shown, shown_by}
 use Rattle.entry_marks.specs.Beside.{marks_before}
-use Rattle.shown_marks.specs.declared.seen.Place.{Place}
+use Rattle.shown_marks.specs.declared.seen.Candidate.{Candidate}
 use Rattle.shown_marks.specs.declared.seen.Seen.{Seen}
 use Rattle.shown_marks.specs.State.{HasTurn, ShowsInvariant, before_of, each_marks, flight_of, marks_before_of, marks_in, window_of}
 use Rattle.shown_marks.proofs.Deciding.{moved, silent, unable_silent, unwaiting_silent}
@@ -80,7 +80,7 @@ module _ (s : Seen) (stands : ShowsInvariant s) where
 
   -- ---- at a station that is able
 
-  module _ (k : ℕ) (p : Place) (turn : HasTurn s p) (at : p.station ≡ k) where
+  module _ (k : ℕ) (p : Candidate) (turn : HasTurn s p) (at : p.station ≡ k) where
     abbrev shows : Bool
     shows = operand_shows s.desc.now (marks_in s) (before_of s p) (marks_before_of s p) p.entry.now
 

@@ -16,7 +16,7 @@ use Rattle.secret_marks.specs.declared.EntryMarks.{EntryMarks}
 use Rattle.secret_marks.specs.Marks.{Marks}
 use Rattle.entry_marks.specs.Beside.{marks_before}
 use Rattle.entry_marks.specs.Walk.{with_window}
-use Rattle.shown_marks.specs.declared.seen.Place.{Place}
+use Rattle.shown_marks.specs.declared.seen.Candidate.{Candidate}
 use Rattle.shown_marks.specs.declared.seen.Seen.{Seen}
 
 -- the window that the walk looks at, oldest entry first
@@ -56,15 +56,15 @@ pub record ShowsInvariant (s : Seen) : Type 0 where
 -- ---- an entry in its place
 
 -- the entries older than the one in its place, youngest first
-abbrev pub before_of : Seen → Place → List Entry
+abbrev pub before_of : Seen → Candidate → List Entry
 before_of s p = before_at (window_of s) p.position
 
 -- the marks of the entries older than this one, youngest first
-abbrev pub marks_before_of : Seen → Place → List EntryMarks
+abbrev pub marks_before_of : Seen → Candidate → List EntryMarks
 marks_before_of s p = marks_before (each_marks s) p.position
 
 -- the entry of a place has its turn: it stands at its position, it waits at its station, and what it wants is there
-pub record HasTurn (s : Seen) (p : Place) : Type 0 where
+pub record HasTurn (s : Seen) (p : Candidate) : Type 0 where
   pub stands : ShowsInvariant s
   pub at : slice_get (window_of s) p.position ≡ Some p.entry.now
   pub waits : is_waiting p.entry.now.state ≡ true

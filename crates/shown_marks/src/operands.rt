@@ -4,7 +4,7 @@ ghost use Rattle.visibility.specs.Point.{HasAdvanced};
 ghost use Rattle.secret_marks.specs.Shown.{operands_shown};
 ghost use Rattle.entry_marks.specs.Walk.{marks_of};
 
-use crate::seen::{Place, Seen};
+use crate::seen::{Candidate, Seen};
 use core_parts::Parts;
 use entry_marks::{Marks, Walk, shown_by};
 use rename_taint::RenameTaint;
@@ -17,8 +17,8 @@ impl<'a> Seen<'a> {
     ghost use Rattle.secret_marks.specs.Shown.{operands_shown};
     ghost use Rattle.shown_marks.specs.State.{HasTurn, ShowsInvariant, each_marks, marks_in, window_of};
 
-    // The place of the entry that waits at a station, where what it wants is there.
-    fn place_at(&self, station: u32) -> Place<'_>
+    // The entry that waits at a station, where what it wants is there, as a candidate.
+    fn candidate_at(&self, station: u32) -> Candidate<'_>
         requires stands { ShowsInvariant self.now }
         requires within { station < length self.now.stations.now.held }
         requires able { option_map is_able (slice_get self.now.stations.now.held station) ≡ Some true }
@@ -26,7 +26,7 @@ impl<'a> Seen<'a> {
         ensures station { result.station ≡ station }
     {
         match self.walk.rob.find(self.stations.serial(station)) {
-            Some(found) => Place {
+            Some(found) => Candidate {
                 position: found.position,
                 station,
                 entry: found.entry,
@@ -50,9 +50,9 @@ impl<'a> Seen<'a> {
                 continue;
             }
             able = self.stations.without(able, station);
-            let place = self.place_at(station);
-            if self.operand_shows(&place) {
-                return Some(shown_by(place.entry));
+            let candidate = self.candidate_at(station);
+            if self.operand_shows(&candidate) {
+                return Some(shown_by(candidate.entry));
             }
         }
         None

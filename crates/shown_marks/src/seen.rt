@@ -1,4 +1,4 @@
-//! What is looked at, and an entry in its place.
+//! What is looked at, and an entry that may issue.
 use entry_marks::Walk;
 use machine_desc::Desc;
 use stations::Stations;
@@ -18,9 +18,9 @@ pub(crate) struct Seen<'a> {
     pub(crate) desc: &'a Desc,
 }
 
-/// An entry that waits in its place, where what it wants is there.
+/// An entry that may issue: it waits, and what it wants is there.
 #[derive(Clone, Copy)]
-pub(crate) struct Place<'a> {
+pub(crate) struct Candidate<'a> {
     /// The position of the entry, counted from the oldest.
     pub(crate) position: u32,
     /// The position of the entry's station.

@@ -40,16 +40,16 @@ loop-station-preserved-then-not-is_among c =
 
 -- ---- one that has its turn
 
-pub place_at-place-requires-clause-able : goal.place_at-place-requires-clause-able
-place_at-place-requires-clause-able c = c.is_among.ensures ∙ ap Some c.if-not-is_among.false
+pub candidate_at-candidate-requires-clause-able : goal.candidate_at-candidate-requires-clause-able
+candidate_at-candidate-requires-clause-able c = c.is_among.ensures ∙ ap Some c.if-not-is_among.false
 
 pub decide_entry-requires-clause-left : goal.decide_entry-requires-clause-left
 decide_entry-requires-clause-left c =
-    left_here c.args.self.now _ _ _ _ _ c.requires.stands c.loop-station.station c.place_at-place.result c.place_at-place.ensures.turn c.place_at-place.ensures.station c.loop-station.invariant.walks
+    left_here c.args.self.now _ _ _ _ _ c.requires.stands c.loop-station.station c.candidate_at-candidate.result c.candidate_at-candidate.ensures.turn c.candidate_at-candidate.ensures.station c.loop-station.invariant.walks
 
 pub loop-station-preserved : goal.loop-station-preserved
 loop-station-preserved c = record {
-  walks = walks_on c.args.self.now _ _ _ _ _ c.requires.stands c.loop-station.station c.place_at-place.result _ _ _ c.place_at-place.ensures.turn c.place_at-place.ensures.station c.decide_entry.ensures c.loop-station.invariant.walks;
+  walks = walks_on c.args.self.now _ _ _ _ _ c.requires.stands c.loop-station.station c.candidate_at-candidate.result _ _ _ c.candidate_at-candidate.ensures.turn c.candidate_at-candidate.ensures.station c.decide_entry.ensures c.loop-station.invariant.walks;
   able = c.without-able.ensures.later;
 }
 
@@ -64,7 +64,7 @@ out c =
     let in_range = c.loop-station-test.true in
     let stands = c.requires.stands in
     let none = subst (λ able. PlacesAble held (k + 1) able) c.if-able-eq0.true c.without-able.ensures.later in
-    let on = walks_on s _ _ _ _ _ stands k c.place_at-place.result _ _ _ c.place_at-place.ensures.turn c.place_at-place.ensures.station c.decide_entry.ensures c.loop-station.invariant.walks in
+    let on = walks_on s _ _ _ _ _ stands k c.candidate_at-candidate.result _ _ _ c.candidate_at-candidate.ensures.turn c.candidate_at-candidate.ensures.station c.decide_entry.ensures c.loop-station.invariant.walks in
     walks_out s _ _ _ _ _ stands (length held) refl
     (walks_past s _ _ _ _ _ stands (k + 1) (length held) (omega (arith, len, in_range)) (omega arith) (λ j low high. unable_by held (k + 1) j none low high) on)
 

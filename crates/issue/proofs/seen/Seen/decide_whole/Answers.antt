@@ -7,7 +7,7 @@ use Rattle.window_model.specs.Order.{is_store}
 use Rattle.window_model.specs.Row.{Row}
 use Rattle.lsq.specs.declared.keepers.Kept.{Kept}
 use Rattle.issue.specs.declared.decide.Decided.{Decided}
-use Rattle.issue.specs.declared.seen.Place.{Place}
+use Rattle.issue.specs.declared.seen.Candidate.{Candidate}
 use Rattle.issue.specs.declared.seen.Seen.{Seen}
 use Rattle.issue.specs.Decisions.{HadTurn}
 use Rattle.issue.specs.Ports.{LeftFor, besides, is_served}
@@ -23,7 +23,7 @@ use Rattle.issue.proofs.Turning.{few_events, turn_is}
 use Rattle.issue.proofs.seen.Seen.decide_whole.Goals as goal
 
 -- an entry that isn't served leaves all as it is, whichever store is noted as one that keeps it
-unserved : (s : Seen) (p : Place) (ports : Ports) (decided : Decided) (row : Row) (kept : Option Kept) → is_store p.entry.now.item.kind ≡ false → LeftFor s p ports → is_served s p ≡ false →
+unserved : (s : Seen) (p : Candidate) (ports : Ports) (decided : Decided) (row : Row) (kept : Option Kept) → is_store p.entry.now.item.kind ≡ false → LeftFor s p ports → is_served s p ≡ false →
     HadTurn s p ports decided row ports (record decided { kept = kept }) row
 unserved s p ports decided row kept whole left refused =
     let d = s.desc.now in
@@ -45,7 +45,7 @@ unserved s p ports decided row kept whole left refused =
     }
 
 -- an entry that lacks what it asks for besides isn't served
-unserved_without : (s : Seen) (p : Place) → is_store p.entry.now.item.kind ≡ false → besides s p ≡ false → is_served s p ≡ false
+unserved_without : (s : Seen) (p : Candidate) → is_store p.entry.now.item.kind ≡ false → besides s p ≡ false → is_served s p ≡ false
 unserved_without s p whole lacks =
     let d = s.desc.now in
     let now = around_of s in
@@ -57,18 +57,18 @@ unserved_without s p whole lacks =
 pub returns-then-is_still_kept : goal.returns-then-is_still_kept
 returns-then-is_still_kept c =
     let s = c.args.self.now in
-    let p = c.args.place.now in
+    let p = c.args.candidate.now in
     unserved s p _ _ _ _ c.requires.whole c.requires.left (unserved_without s p c.requires.whole (c.is_still_kept.ensures c.if-is_still_kept.true))
 
 pub returns-then-not-may_ask : goal.returns-then-not-may_ask
 returns-then-not-may_ask c =
     let s = c.args.self.now in
-    let p = c.args.place.now in
+    let p = c.args.candidate.now in
     unserved s p _ _ _ _ c.requires.whole c.requires.left (c.may_ask.ensures.served ∙ ap (λ b. b && besides s p) c.if-not-may_ask.true)
 
 pub returns-then-not-has_besides : goal.returns-then-not-has_besides
 returns-then-not-has_besides c =
-    unserved c.args.self.now c.args.place.now _ _ _ _ c.requires.whole c.requires.left
+    unserved c.args.self.now c.args.candidate.now _ _ _ _ c.requires.whole c.requires.left
     (c.may_ask.ensures.served ∙ ap₂ (λ a b. a && b) c.if-not-may_ask.false (sym c.has_besides.ensures ∙ c.if-not-has_besides.true))
 
 -- it is served where it may ask for its port and has what it asks for besides
@@ -78,25 +78,25 @@ granted_where served ask besides has s a b h = s ∙ ap₂ (λ a b. a && b) a (s
 pub begin-after-requires-clause-goes : goal.begin-after-requires-clause-goes
 begin-after-requires-clause-goes c =
     let s = c.args.self.now in
-    let p = c.args.place.now in
+    let p = c.args.candidate.now in
     granted_goes s.desc.now (around_of s) (before_of s p) p.entry.now c.requires.whole (granted_where _ _ _ _ c.may_ask.ensures.served c.if-not-may_ask.false c.has_besides.ensures c.if-not-has_besides.false)
 
 pub begin-after-requires-clause-room : goal.begin-after-requires-clause-room
 begin-after-requires-clause-room c =
-    let many = events_served _ _ _ c.args.place.now.entry.now _ c.requires.whole c.requires.left (granted_where _ _ _ _ c.may_ask.ensures.served c.if-not-may_ask.false c.has_besides.ensures c.if-not-has_besides.false) in
+    let many = events_served _ _ _ c.args.candidate.now.entry.now _ c.requires.whole c.requires.left (granted_where _ _ _ _ c.may_ask.ensures.served c.if-not-may_ask.false c.has_besides.ensures c.if-not-has_besides.false) in
     let room = c.requires.room in
     omega (arith, many, room)
 
 pub note-requires : goal.note-requires
 note-requires c =
-    let some = some_left _ _ _ c.args.place.now.entry.now _ c.requires.whole c.requires.left (granted_where _ _ _ _ c.may_ask.ensures.served c.if-not-may_ask.false c.has_besides.ensures c.if-not-has_besides.false) in
+    let some = some_left _ _ _ c.args.candidate.now.entry.now _ c.requires.whole c.requires.left (granted_where _ _ _ _ c.may_ask.ensures.served c.if-not-may_ask.false c.has_besides.ensures c.if-not-has_besides.false) in
     let few = c.requires.few in
     omega (arith, some, few)
 
 pub returns : goal.returns
 returns c =
     let s = c.args.self.now in
-    let p = c.args.place.now in
+    let p = c.args.candidate.now in
     let d = s.desc.now in
     let now = around_of s in
     let before = before_of s p in

@@ -6,4 +6,4 @@ use Rattle.issue.proofs.seen.Seen.has_besides.Goals as goal
 pub returns-in-Load : goal.returns-in-Load
 returns-in-Load c =
     let s = c.args.self.now in
-    c.goes.ensures ∙ ap (λ k. asks_besides k s.desc.now (around_of s) (before_of s c.args.place.now) c.args.place.now.entry.now) (sym c.in-Load.is)
+    c.goes.ensures ∙ ap (λ k. asks_besides k s.desc.now (around_of s) (before_of s c.args.candidate.now) c.args.candidate.now.entry.now) (sym c.in-Load.is)

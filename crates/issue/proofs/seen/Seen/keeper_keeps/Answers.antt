@@ -8,6 +8,6 @@ use Rattle.issue.proofs.seen.Seen.keeper_keeps.Goals as goal
 pub returns : goal.returns
 returns c k =
     let s = c.args.self.now in
-    let p = c.args.place.now in
+    let p = c.args.candidate.now in
     subst (λ bytes. list_any (lacks_data_for bytes) (older_here s p) ≡ true) c.request_at-request.ensures.bytes
     (lacks_where_kept p.entry.now.serial _ _ s.lsq.now.stores _ (sym c.in-Some-store.ensures) (sym c.keeps.ensures ∙ k))

@@ -10,5 +10,5 @@ load_sound-requires-clause-lets c =
     let s = c.args.self.now in
     let t = c.requires.turn in
     let addr = c.load_request-request.ensures.addr in
-    let sound = ap (λ a. load_fault s.ram.now a (byte_count c.args.place.now.entry.now)) addr ∙ sym c.load_request-request.ensures.fault ∙ c.in-None.is in
+    let sound = ap (λ a. load_fault s.ram.now a (byte_count c.args.candidate.now.entry.now)) addr ∙ sym c.load_request-request.ensures.fault ∙ c.in-None.is in
     lets_sound s _ _ t.stands t.at c.load_request-request.result.addr (addr ∙ ap (λ (f : Effect). f.addr) c.requires.effect) sound c.requires.goes

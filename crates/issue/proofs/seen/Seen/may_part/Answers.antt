@@ -11,24 +11,24 @@ use Rattle.issue.proofs.seen.Seen.may_part.Goals as goal
 pub returns-then-has_issued : goal.returns-then-has_issued
 returns-then-has_issued c =
     let s = c.args.self.now in
-    let e = c.args.place.now.entry.now in
-    let before = before_of s c.args.place.now in
+    let e = c.args.candidate.now.entry.now in
+    let before = before_of s c.args.candidate.now in
     sym (part_asks s.desc.now (around_of s) before e (part_port c.args.part) c.requires.store ∙ part_gone c.args.part s.desc.now before e (sym c.has_issued.ensures ∙ c.if-has_issued.true))
 
 pub returns-then-stores_in_one : goal.returns-then-stores_in_one
 returns-then-stores_in_one c =
     let s = c.args.self.now in
     let t = c.requires.turn in
-    let e = c.args.place.now.entry.now in
-    let before = before_of s c.args.place.now in
-    let all = first_ready s.desc.now before e (own_of c.args.part (sources e)) (in_step s c.args.place.now.position e t.stands t.at) (sym c.stores_in_one.ensures ∙ c.if-stores_in_one.true) c.requires.store t.waits t.able in
+    let e = c.args.candidate.now.entry.now in
+    let before = before_of s c.args.candidate.now in
+    let all = first_ready s.desc.now before e (own_of c.args.part (sources e)) (in_step s c.args.candidate.now.position e t.stands t.at) (sym c.stores_in_one.ensures ∙ c.if-stores_in_one.true) c.requires.store t.waits t.able in
     sym (part_asks s.desc.now (around_of s) before e (part_port c.args.part) c.requires.store ∙ part_may_by c.args.part s.desc.now before e true (sym c.has_issued.ensures ∙ c.if-has_issued.false) all)
 
 pub ready_part-requires : goal.ready_part-requires
 ready_part-requires c =
     let s = c.args.self.now in
     let t = c.requires.turn in
-    let within = station_within (flight_of t.stands.next t.stands.writes s) c.args.place.now.position c.args.place.now.entry.now t.stands.refines t.at t.waits in
+    let within = station_within (flight_of t.stands.next t.stands.writes s) c.args.candidate.now.position c.args.candidate.now.entry.now t.stands.refines t.at t.waits in
     let is = t.station in
     omega (arith, within, is)
 
@@ -36,10 +36,10 @@ pub returns : goal.returns
 returns c =
     let s = c.args.self.now in
     let t = c.requires.turn in
-    let e = c.args.place.now.entry.now in
-    let before = before_of s c.args.place.now in
+    let e = c.args.candidate.now.entry.now in
+    let before = before_of s c.args.candidate.now in
     let own = own_of c.args.part (sources e) in
-    let ready = part_is s c.args.place.now.position e t.stands t.at c.args.part c.args.place.now.station c.ready_part.result t.waits t.station c.ready_part.ensures in
+    let ready = part_is s c.args.candidate.now.position e t.stands t.at c.args.part c.args.candidate.now.station c.ready_part.result t.waits t.station c.ready_part.ensures in
     sym (part_asks s.desc.now (around_of s) before e (part_port c.args.part) c.requires.store
     ∙ part_may_by c.args.part s.desc.now before e c.ready_part.result (sym c.has_issued.ensures ∙ c.if-has_issued.false)
     (second_ready s.desc.now before e own (sym c.stores_in_one.ensures ∙ c.if-stores_in_one.false) ∙ sym ready))

@@ -5,20 +5,20 @@ use Rattle.shown_marks.proofs.Deciding.{address_alone, address_issued, address_w
 use Rattle.shown_marks.proofs.seen.Seen.address_may.Goals as goal
 
 pub returns-then-is_some : goal.returns-then-is_some
-returns-then-is_some c = address_issued c.args.self.now c.args.place.now c.requires.turn (sym c.is_some.ensures ∙ c.if-is_some.true)
+returns-then-is_some c = address_issued c.args.self.now c.args.candidate.now c.requires.turn (sym c.is_some.ensures ∙ c.if-is_some.true)
 
 pub returns-then-stores_in_one : goal.returns-then-stores_in_one
 returns-then-stores_in_one c =
-    address_with_data c.args.self.now c.args.place.now c.requires.turn (sym c.is_some.ensures ∙ c.if-is_some.false) (sym c.stores_in_one.ensures ∙ c.if-stores_in_one.true) c.requires.store
+    address_with_data c.args.self.now c.args.candidate.now c.requires.turn (sym c.is_some.ensures ∙ c.if-is_some.false) (sym c.stores_in_one.ensures ∙ c.if-stores_in_one.true) c.requires.store
 
 pub ready_part-requires : goal.ready_part-requires
 ready_part-requires c =
     let s = c.args.self.now in
     let t = c.requires.turn in
-    let within = station_within (flight_of t.stands.rest s) c.args.place.now.position c.args.place.now.entry.now t.stands.refines t.at t.waits in
+    let within = station_within (flight_of t.stands.rest s) c.args.candidate.now.position c.args.candidate.now.entry.now t.stands.refines t.at t.waits in
     let is = t.station in
     omega (arith, within, is)
 
 pub returns : goal.returns
 returns c =
-    address_alone c.args.self.now c.args.place.now c.requires.turn c.ready_part.result (sym c.is_some.ensures ∙ c.if-is_some.false) (sym c.stores_in_one.ensures ∙ c.if-stores_in_one.false) c.ready_part.ensures
+    address_alone c.args.self.now c.args.candidate.now c.requires.turn c.ready_part.result (sym c.is_some.ensures ∙ c.if-is_some.false) (sym c.stores_in_one.ensures ∙ c.if-stores_in_one.false) c.ready_part.ensures

@@ -9,7 +9,7 @@ use Rattle.shown_marks.proofs.seen.Seen.operand_shows.Goals as goal
 pub returns-then-not-decides : goal.returns-then-not-decides
 returns-then-not-decides c =
     let s = c.args.self.now in
-    let p = c.args.place.now in
+    let p = c.args.candidate.now in
     sym (silent s.desc.now (before_of s p) p.entry.now (marks_in s) (marks_before_of s p) (sym c.decides.ensures ∙ c.if-not-decides.true))
 
 pub first_source-requires-clause-stands : goal.first_source-requires-clause-stands
@@ -20,7 +20,7 @@ first_source-requires-clause-stands c =
 pub returns : goal.returns
 returns c =
     let s = c.args.self.now in
-    let p = c.args.place.now in
+    let p = c.args.candidate.now in
     c.any_byte.ensures ∙ ap any_byte c.first_source.ensures
     ∙ base_marked s.walk.regs.now (before_of s p) (marks_before_of s p) (sources p.entry.now)
     ∙ ap (λ b. b && any_marked s.walk.regs.now (before_of s p) (marks_before_of s p) (base_of (sources p.entry.now))) (sym (sym c.decides.ensures ∙ c.if-not-decides.false))

@@ -42,17 +42,17 @@ loop-station-preserved-then-not-is_among c =
 
 -- ---- a station that is able
 
-pub place_at-place-requires-clause-able : goal.place_at-place-requires-clause-able
-place_at-place-requires-clause-able c = c.is_among.ensures ∙ ap Some c.if-not-is_among.false
+pub candidate_at-candidate-requires-clause-able : goal.candidate_at-candidate-requires-clause-able
+candidate_at-candidate-requires-clause-able c = c.is_among.ensures ∙ ap Some c.if-not-is_among.false
 
 pub returns-then-operand_shows : goal.returns-then-operand_shows
 returns-then-operand_shows c =
-    reached_shows c.args.self.now c.requires.stands c.loop-station.station c.place_at-place.result c.place_at-place.ensures.turn c.place_at-place.ensures.station
+    reached_shows c.args.self.now c.requires.stands c.loop-station.station c.candidate_at-candidate.result c.candidate_at-candidate.ensures.turn c.candidate_at-candidate.ensures.station
     c.shown_by.result (sym c.operand_shows.ensures ∙ c.if-operand_shows.true) c.shown_by.ensures c.loop-station.invariant.reached
 
 pub loop-station-preserved : goal.loop-station-preserved
 loop-station-preserved c = record {
-  reached = reached_next c.args.self.now c.requires.stands c.loop-station.station c.place_at-place.result c.place_at-place.ensures.turn c.place_at-place.ensures.station
+  reached = reached_next c.args.self.now c.requires.stands c.loop-station.station c.candidate_at-candidate.result c.candidate_at-candidate.ensures.turn c.candidate_at-candidate.ensures.station
       (sym c.operand_shows.ensures ∙ c.if-operand_shows.false) c.loop-station.invariant.reached;
   able = c.without-able.ensures.later;
 }

@@ -6,5 +6,5 @@ use Rattle.shown_marks.proofs.seen.Seen.sources_of.Goals as goal
 pub sources_at-requires : goal.sources_at-requires
 sources_at-requires c =
     let t = c.requires.turn in
-    subst (λ n. c.args.place.now.position < n) (sym (counts_sources _ t.stands.refines))
+    subst (λ n. c.args.candidate.now.position < n) (sym (counts_sources _ t.stands.refines))
     (slice_get_within _ _ _ t.at)

@@ -4,7 +4,7 @@ use Rattle.window_model.proofs.Booleans.{some_of}
 use Rattle.issue.proofs.Waiting.{in_window, stands_at}
 use Rattle.shown_marks.specs.State.{flight_of}
 use Rattle.shown_marks.proofs.Standing.{able_is}
-use Rattle.shown_marks.proofs.seen.Seen.place_at.Goals as goal
+use Rattle.shown_marks.proofs.seen.Seen.candidate_at.Goals as goal
 
 pub unreachable-requires : goal.unreachable-requires
 unreachable-requires c =

@@ -4,7 +4,7 @@ use Rattle.window_model.proofs.Booleans.{some_of}
 use Rattle.issue.specs.State.{flight_of}
 use Rattle.issue.proofs.Testing.{able_is}
 use Rattle.issue.proofs.Waiting.{in_window, stands_at}
-use Rattle.issue.proofs.seen.Seen.place_at.Goals as goal
+use Rattle.issue.proofs.seen.Seen.candidate_at.Goals as goal
 
 pub unreachable-requires : goal.unreachable-requires
 unreachable-requires c =
