@@ -134,7 +134,8 @@ impl<'a> Seen<'a> {
         requires effect { seen computed.now.effect ≡ effect_here self.now candidate.now }
         requires first { computed.now.first ≡ first_of self.now candidate.now }
         requires whole { is_store candidate.now.entry.now.item.kind ≡ false }
-        requires goes { is_load candidate.now.entry.now.item.kind ≡ true → here goes_behind self.now candidate.now ≡ true }
+        requires goes { is_load candidate.now.entry.now.item.kind ≡ true
+            → here goes_behind self.now candidate.now ≡ true }
         requires room { HasRoom (most_events_of candidate.now.entry.now.item.kind) row.old }
         ensures comes { Comes (here begin_entry self.now candidate.now) result row.old row.new }
         ensures load { load.new ≡ load_by (is_load candidate.now.entry.now.item.kind) self.now candidate.now load.old }

@@ -69,7 +69,8 @@ impl Decided {
     /// Notes what has then issued of the entry, if it changes.
     pub(crate) fn note(&mut self, candidate: &Candidate, after: Option<Issued>)
         requires few { length self.old.puts.items < most_begun }
-        ensures puts { self.new.puts.items ≡ self.old.puts.items ++ puts_by candidate.now.position candidate.now.station after }
+        ensures puts { self.new.puts.items
+            ≡ self.old.puts.items ++ puts_by candidate.now.position candidate.now.station after }
         ensures load { self.new.load ≡ self.old.load }
     {
         if let Some(issued) = after {
@@ -113,8 +114,8 @@ impl<'a> Seen<'a> {
         }
     }
 
-    // An entry that is no store has its turn. What it comes to is made before it takes its port. A load that a store was
-    // found to keep asks that store first.
+    // An entry that is no store has its turn. What it comes to is made before it takes its port. A load that a store
+    // was found to keep asks that store first.
     fn decide_whole(
         &self,
         candidate: &Candidate,

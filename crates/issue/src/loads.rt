@@ -82,7 +82,8 @@ impl<'a> Seen<'a> {
         requires goes { here goes_behind self.now candidate.now ≡ true }
         requires effect { seen made.now ≡ effect_here self.now candidate.now }
         ensures access { result.access ≡ here access_of self.now candidate.now }
-        ensures begun { loads self.now candidate.now made.now result ≡ here (begin_as kind.Load) self.now candidate.now }
+        ensures begun { loads self.now candidate.now made.now result
+            ≡ here (begin_as kind.Load) self.now candidate.now }
     {
         let request = self.load_request(candidate, made);
         match request.fault {

@@ -27,7 +27,8 @@ impl<'a> Seen<'a> {
     fn address_may(&self, candidate: &Candidate) -> bool
         requires turn { HasTurn self.now candidate.now }
         requires store { is_store candidate.now.entry.now.item.kind ≡ true }
-        ensures { result ≡ part_may AddressPort self.now.desc.now (before_of self.now candidate.now) candidate.now.entry.now }
+        ensures { result
+            ≡ part_may AddressPort self.now.desc.now (before_of self.now candidate.now) candidate.now.entry.now }
     {
         if candidate.entry.addr_due.is_some() {
             return false;
