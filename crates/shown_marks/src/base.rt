@@ -42,8 +42,8 @@ impl<'a> Seen<'a> {
     // Whether the first operand tells an address or the time of a division.
     fn decides(&self, candidate: &Candidate) -> bool
         requires turn { HasTurn self.now candidate.now }
-        ensures { result ≡ decides_as candidate.now.entry.now.item.kind self.now.desc.now (before_of self.now candidate.now)
-            candidate.now.entry.now }
+        ensures { result ≡ decides_as candidate.now.entry.now.item.kind self.now.desc.now
+            (before_of self.now candidate.now) candidate.now.entry.now }
     {
         match candidate.entry.item.kind {
             Kind::Load | Kind::Div => may_transmit(
