@@ -11,7 +11,7 @@ use Rattle.window_model.specs.Row.{Row}
 use Rattle.window_model.specs.inner.Row.{with_events}
 use Rattle.window_model.specs.State.{Machine}
 use Rattle.window_model.specs.Around.{Around, around}
-use Rattle.window_model.specs.Order.{Candidate, before_at, each_from, first_from, is_waiting}
+use Rattle.window_model.specs.Order.{Place, before_at, each_from, first_from, is_waiting}
 use Rattle.window_model.specs.Ports.{Port, DivPort, LoadPort, may_at}
 use Rattle.window_model.specs.Issue.{issue, issue_entry, taken_for, waits}
 use Rattle.window_model.proofs.Booleans.{neither}
@@ -88,7 +88,7 @@ module _ (d : Desc) (x : Machine) (h : Along (AsksNone d (around x)) [] x.window
       (sym (ap (map (λ b. b.entry)) (each_waits d (around x) [] x.window h) ∙ same_entries x.window))
       (sym (ap (option_map _) (none_first d (around x) LoadPort [] x.window h)))
       refl refl refl
-      (sym (ap (λ o. divider_left (option_map (λ (p : Candidate). taken_for (around x) p.before p.entry) o) x.divider) (none_first d (around x) DivPort [] x.window h)))
+      (sym (ap (λ o. divider_left (option_map (λ (p : Place). taken_for (around x) p.before p.entry) o) x.divider) (none_first d (around x) DivPort [] x.window h)))
 
 -- ---- of parts with no station that is able
 

@@ -7,7 +7,7 @@ use Rattle.window_model.specs.declared.Entry.{Entry}
 use Rattle.window_model.specs.declared.Miss.{Miss}
 use Rattle.window_model.specs.State.{Machine}
 use Rattle.window_model.specs.Around.{around}
-use Rattle.window_model.specs.Order.{Candidate, first}
+use Rattle.window_model.specs.Order.{Place, first}
 use Rattle.window_model.specs.declared.lookup.Access.{Access}
 use Rattle.window_model.specs.Ports.{DivPort, LoadPort, may_at}
 use Rattle.window_model.specs.Issue.{access_of, after_load, divider_after, issue, taken_for}
@@ -17,19 +17,19 @@ use Rattle.issue.specs.Decisions.{division_of, load_of, turns}
 use Rattle.issue.specs.Shared.{cache_left, divider_left, misses_left, requested, second_left}
 
 -- what the access of the load in this place comes to, and the divider with the division in it
-abbrev loaded : Desc → Machine → Option Candidate → Option Access
+abbrev loaded : Desc → Machine → Option Place → Option Access
 loaded d x o = option_map (λ p. access_of d (around x) p.before p.entry) o
 
-abbrev divided : Machine → Option Candidate → Option Divider
+abbrev divided : Machine → Option Place → Option Divider
 divided x o = option_map (λ p. taken_for (around x) p.before p.entry) o
 
 -- the load that is tried leaves both levels of its cache, and its registers
-load_is : (d : Desc) (x : Machine) (o : Option Candidate) →
+load_is : (d : Desc) (x : Machine) (o : Option Place) →
     after_load d o x ≡ record x { cache = cache_left d (loaded d x o) x.cache; second = second_left d (loaded d x o) x.second; misses = misses_left d x.cycle (loaded d x o) x.misses }
 load_is d x None = refl
 load_is d x (Some p) = refl
 
-divider_is : (x : Machine) (o : Option Candidate) → divider_after x o ≡ divider_left (divided x o) x.divider
+divider_is : (x : Machine) (o : Option Place) → divider_after x o ≡ divider_left (divided x o) x.divider
 divider_is x None = refl
 divider_is x (Some p) = refl
 
@@ -62,7 +62,7 @@ module _ (d : Desc) (x : Machine) (fits : length x.misses ≤ d.cache_mshrs) whe
       by_load d (around x) (λ a. length x.misses + length (requested (Some a)) ≤ d.cache_mshrs) (omega (arith, fits)) (λ a n some room. room_ahead d (around x) a n room)
       (λ a n some full. omega (arith, fits)) (λ c. omega (arith, fits))
 
-  room_by : (o : Option Candidate) → length x.misses + length (requested (loaded d x o)) ≤ d.cache_mshrs
+  room_by : (o : Option Place) → length x.misses + length (requested (loaded d x o)) ≤ d.cache_mshrs
   room_by None = omega (arith, fits)
   room_by (Some p) = access_room p.before p.entry
 

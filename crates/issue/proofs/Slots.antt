@@ -12,7 +12,7 @@ use Rattle.machine_desc.specs.declared.Desc.{Desc}
 use Rattle.window_model.specs.declared.Divider.{Divider}
 use Rattle.window_model.specs.declared.Entry.{Entry}
 use Rattle.window_model.specs.Around.{Around}
-use Rattle.window_model.specs.Order.{Candidate, before_at, first, first_from}
+use Rattle.window_model.specs.Order.{Place, before_at, first, first_from}
 use Rattle.window_model.specs.Ports.{Port, DivPort, asking, is_granted, may_at, ports}
 use Rattle.window_model.specs.Issue.{taken_for}
 use Rattle.issue.specs.Shared.{divider_left}
@@ -27,8 +27,8 @@ or_else None b = b
 or_else (Some a) b = Some a
 
 -- the value of a function at an entry in its place, by the older ones
-abbrev pub at : {A : Type 0} → (List Entry → Entry → A) → Candidate → A
-at f place = f place.before candidate.entry
+abbrev pub at : {A : Type 0} → (List Entry → Entry → A) → Place → A
+at f place = f place.before place.entry
 
 -- the value of a function at the oldest entry that has a property
 abbrev pub of_first : {A : Type 0} → (List Entry → Entry → Bool) → (List Entry → Entry → A) → List Entry → Option A
@@ -60,7 +60,7 @@ first_more p f window i e h = ap (of_first p f) (one_more window i e h) ∙ firs
 
 -- ---- nobody has asked for a port while there is no first that asks for it
 
-none_more : (t : Bool) (p : Candidate) (o : Option Candidate) (a : ℕ) → (is_none (if t then Some p else o) && nat_lt a 1) ≡ (is_none o && nat_lt (one_if t + a) 1)
+none_more : (t : Bool) (p : Place) (o : Option Place) (a : ℕ) → (is_none (if t then Some p else o) && nat_lt a 1) ≡ (is_none o && nat_lt (one_if t + a) 1)
 none_more true p o a = grind (arith, nat_tests, and-false)
 none_more false p o a = grind (arith, nat_tests)
 
@@ -69,7 +69,7 @@ none_asks : (d : Desc) (now : Around) (port : Port) (before es : List Entry) →
 none_asks d now port before [] = refl
 none_asks d now port before (e ∷ es) = none_more (may_at d now port before e) _ _ (asking d now port before) ∙ none_asks d now port (e ∷ before) es
 
-none_first : {A : Type 0} (f : List Entry → Entry → A) (o : Option Candidate) → is_none (option_map (at f) o) ≡ is_none o
+none_first : {A : Type 0} (f : List Entry → Entry → A) (o : Option Place) → is_none (option_map (at f) o) ≡ is_none o
 none_first f None = refl
 none_first f (Some p) = refl
 
