@@ -16,7 +16,7 @@ use Rattle.window_model.specs.Taint.{address_tainted, any_tainted}
 use Rattle.window_model.specs.Retire.{byte_count}
 use Rattle.lsq.specs.Pending.{lacks_address}
 use Rattle.lsq.specs.Queues.{is_known}
-use Rattle.issue.specs.declared.seen.Candidate.{Candidate}
+use Rattle.issue.specs.declared.candidate.Candidate.{Candidate}
 use Rattle.issue.specs.declared.seen.Seen.{Seen}
 use Rattle.issue.specs.Pending.{is_kept, kept_as, older_here, passes_here, pending_here, stores_keep}
 use Rattle.issue.specs.Ports.{besides}

@@ -16,7 +16,7 @@ use Rattle.unit_ports.specs.Laws.{LeftAfter, if_asked}
 use Rattle.unit_ports.specs.Ports.{Ports, left_at}
 use Rattle.unit_ports.proofs.Granting.{granted_is, left_by_store}
 use Rattle.issue.specs.declared.decide.Decided.{Decided}
-use Rattle.issue.specs.declared.seen.Candidate.{Candidate}
+use Rattle.issue.specs.declared.candidate.Candidate.{Candidate}
 use Rattle.issue.specs.declared.seen.Seen.{Seen}
 use Rattle.issue.specs.Decisions.{HadTurn}
 use Rattle.issue.specs.Ports.{LeftBehind, LeftFor, OnlyPorts, events_left, granted_at, left_in_all, may_here}

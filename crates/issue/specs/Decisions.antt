@@ -13,7 +13,7 @@ use Rattle.issue.specs.declared.decide.Decided.{Decided}
 use Rattle.issue.specs.declared.seen.Seen.{Seen}
 use Rattle.issue.specs.Puts.{placed}
 use Rattle.issue.specs.Shared.{divider_left}
-use Rattle.issue.specs.declared.seen.Candidate.{Candidate}
+use Rattle.issue.specs.declared.candidate.Candidate.{Candidate}
 use Rattle.issue.specs.Ports.{LeftBehind, OnlyPorts, events_left, granted_at, left_in_all}
 use Rattle.issue.specs.State.{around_of, here, window_of}
 use Rattle.issue.specs.Turns.{divider_by, load_by, puts_of}

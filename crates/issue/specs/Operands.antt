@@ -5,7 +5,7 @@ use Rattle.window_model.specs.declared.Entry.{Entry}
 use Rattle.window_model.specs.MayIssue.{first_operand, second_operand}
 use Rattle.window_model.specs.Order.{from_writer, sources}
 use Rattle.refinement.specs.Writers.{in_flight}
-use Rattle.issue.specs.declared.seen.Candidate.{Candidate}
+use Rattle.issue.specs.declared.candidate.Candidate.{Candidate}
 use Rattle.issue.specs.declared.seen.Seen.{Seen}
 use Rattle.issue.specs.State.{before_of}
 

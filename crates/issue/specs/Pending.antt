@@ -11,7 +11,7 @@ use Rattle.lsq.specs.declared.pending.Pending.{Pending}
 use Rattle.lsq.specs.Pending.{awaited, lacks_address}
 use Rattle.lsq.specs.Queues.{is_known, older}
 use Rattle.lsq.specs.declared.store.Store.{Store}
-use Rattle.issue.specs.declared.seen.Candidate.{Candidate}
+use Rattle.issue.specs.declared.candidate.Candidate.{Candidate}
 use Rattle.issue.specs.declared.seen.Seen.{Seen}
 use Rattle.issue.specs.State.{around_of, before_of}
 

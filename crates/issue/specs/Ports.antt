@@ -9,7 +9,7 @@ use Rattle.stations.specs.declared.wants.Part.{Part}
 use Rattle.stations.specs.declared.wants.Part.TheVariants as part
 use Rattle.unit_ports.specs.Laws.{LeftAfter}
 use Rattle.unit_ports.specs.Ports.{Ports, port_for}
-use Rattle.issue.specs.declared.seen.Candidate.{Candidate}
+use Rattle.issue.specs.declared.candidate.Candidate.{Candidate}
 use Rattle.issue.specs.declared.seen.Seen.{Seen}
 use Rattle.issue.specs.State.{around_of, before_of}
 use Rattle.issue.specs.Telling.{asks_besides}

@@ -17,7 +17,7 @@ use Rattle.refinement.specs.Refines.{Refines}
 use Rattle.refinement.specs.Stations.{station_of}
 use Rattle.refinement.specs.Telling.{has_sources}
 use Rattle.refinement.specs.Waiters.{wants_of}
-use Rattle.issue.specs.declared.seen.Candidate.{Candidate}
+use Rattle.issue.specs.declared.candidate.Candidate.{Candidate}
 use Rattle.issue.specs.declared.seen.Seen.{Seen}
 
 -- what an entry looks at besides the older ones

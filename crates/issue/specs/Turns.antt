@@ -22,7 +22,7 @@ use Rattle.rob_ring.specs.Issued.{issued_of}
 use Rattle.rob_ring.specs.declared.issued.Issued.{Issued}
 use Rattle.issue.specs.declared.decide.Put.{Put}
 use Rattle.issue.specs.declared.loads.Loaded.{Loaded}
-use Rattle.issue.specs.declared.seen.Candidate.{Candidate}
+use Rattle.issue.specs.declared.candidate.Candidate.{Candidate}
 use Rattle.issue.specs.declared.seen.Seen.{Seen}
 use Rattle.issue.specs.State.{around_of, before_of, here}
 

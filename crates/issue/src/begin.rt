@@ -5,9 +5,10 @@ ghost use Rattle.rv_effect.specs.Seen.{seen};
 ghost use Rattle.window_model.specs.Issue.{begun, fault_if, outcome};
 ghost use Rattle.rob_ring.specs.Issued.{issued_of};
 
+use crate::candidate::Candidate;
 use crate::loads::Loaded;
 use crate::operands::Computed;
-use crate::seen::{Candidate, Seen};
+use crate::seen::Seen;
 use rob_ring::Issued;
 use rv_alu::div_time;
 use rv_effect::Effect;

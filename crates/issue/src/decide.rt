@@ -1,6 +1,7 @@
 //! What the phase decides as it goes over the entries that wait, oldest first (`docs/machine.md`, "Issue"). Every test
 //! is made on the state before the phase.
-use crate::seen::{Candidate, Seen};
+use crate::candidate::{Candidate, candidate_at};
+use crate::seen::Seen;
 use arrayvec::ArrayVec;
 use lsq::Kept;
 use rob_ring::Issued;
@@ -104,14 +105,7 @@ impl<'a> Seen<'a> {
         ensures turn { HasTurn self.now result }
         ensures station { result.station ≡ station }
     {
-        match self.rob.find(self.stations.serial(station)) {
-            Some(found) => Candidate {
-                position: found.position,
-                station,
-                entry: found.entry,
-            },
-            None => unreachable!(),
-        }
+        candidate_at(self.rob, self.stations, station)
     }
 
     // An entry that is no store has its turn. What it comes to is made before it takes its port. A load that a store

@@ -1,5 +1,6 @@
 //! Which entries may issue, and which are granted a port (`docs/machine.md`, "Issue").
-use crate::seen::{Candidate, Seen};
+use crate::candidate::Candidate;
+use crate::seen::Seen;
 use lsq::{Kept, LoadRequest, Pending};
 use rob_ring::{Sources, sources_at};
 use rv_effect::Effect;

@@ -10,6 +10,7 @@ ghost use Rattle.issue.specs.Telling.{TellsIssue};
 
 mod access;
 mod begin;
+mod candidate;
 mod decide;
 mod gate;
 mod loads;
@@ -20,6 +21,7 @@ mod placing;
 mod seen;
 mod shared;
 
+pub use candidate::{Candidate, candidate_at};
 pub use phase::issue;
 
 /// What taint lets go by an entry's roots, with what Issue asks besides, is what lets it issue, where the parts refine

@@ -5,7 +5,8 @@ ghost use Rattle.window_model.specs.Access.{look_events};
 ghost use Rattle.window_model.specs.inner.Row.{HasRoom, with_events};
 
 use crate::begin::{begun, outcome};
-use crate::seen::{Candidate, Seen};
+use crate::candidate::Candidate;
+use crate::seen::Seen;
 use lsq::{LoadRequest, Merged};
 use rob_ring::Issued;
 use rv_alu::extend;

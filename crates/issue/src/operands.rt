@@ -9,7 +9,8 @@ ghost use Rattle.window_model.specs.Serials.{Rise};
 ghost use Rattle.refinement.specs.Writers.{in_flight};
 ghost use Rattle.issue.specs.Operands.{value_by};
 
-use crate::seen::{Candidate, Seen};
+use crate::candidate::Candidate;
+use crate::seen::Seen;
 use rob_ring::RobRing;
 use rv_effect::{Effect, effect};
 use rv_types::{REGISTERS, Reg, reads_of};

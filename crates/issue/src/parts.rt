@@ -4,8 +4,9 @@ ghost use Rattle.window_model.specs.Issue.{busy_until_both, so_far};
 ghost use Rattle.rob_ring.specs.Issued.{issued_of};
 ghost use Rattle.issue.specs.Ports.{has_issued};
 
+use crate::candidate::Candidate;
 use crate::decide::Decided;
-use crate::seen::{Candidate, Seen};
+use crate::seen::Seen;
 use rob_ring::Issued;
 use rv_effect::Effect;
 use stations::Part;

@@ -1,4 +1,4 @@
-//! What the phase looks at, and an entry that may issue.
+//! What the phase looks at.
 use byte_ram::Ram;
 use cache_tags::Tags;
 use circular_buffer::HeapCircularBuffer;
@@ -11,7 +11,6 @@ use rv_types::REGISTERS;
 use second_level::Second;
 use stations::Stations;
 use visibility::VisPoint;
-use window_model::Entry;
 
 /// The state before the phase, on which all its tests are made.
 #[derive(Drop)]
@@ -48,15 +47,4 @@ pub(crate) struct Seen<'a> {
     pub(crate) free_from: u64,
     /// The cycle.
     pub(crate) cycle: u32,
-}
-
-/// An entry that has its turn to issue: it waits, and what it wants is there.
-#[derive(Clone, Copy)]
-pub(crate) struct Candidate<'a> {
-    /// The position of the entry, counted from the oldest one.
-    pub(crate) position: u32,
-    /// The position of the entry's station, counted from the first one.
-    pub(crate) station: u32,
-    /// The entry.
-    pub(crate) entry: &'a Entry,
 }

@@ -31,7 +31,7 @@ use Rattle.secret_marks.specs.declared.WordMarks.{WordMarks}
 use Rattle.secret_marks.specs.Words.{any_byte}
 use Rattle.secret_marks.specs.Marks.{Marks, any_marked, first_marks}
 use Rattle.secret_marks.specs.Shows.{decides_as, operand_shows}
-use Rattle.shown_marks.specs.declared.seen.Candidate.{Candidate}
+use Rattle.issue.specs.declared.candidate.Candidate.{Candidate}
 use Rattle.shown_marks.specs.declared.seen.Seen.{Seen}
 use Rattle.shown_marks.specs.State.{HasTurn, ShowsInvariant, before_of, flight_of, window_of}
 

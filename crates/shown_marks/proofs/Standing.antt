@@ -14,7 +14,7 @@ use Rattle.secret_marks.specs.declared.Shown.{Shown}
 use Rattle.secret_marks.specs.Shows.{operand_shows}
 use Rattle.secret_marks.specs.Shown.{operands_shown, shown_by}
 use Rattle.entry_marks.specs.Beside.{marks_before}
-use Rattle.shown_marks.specs.declared.seen.Candidate.{Candidate}
+use Rattle.issue.specs.declared.candidate.Candidate.{Candidate}
 use Rattle.shown_marks.specs.declared.seen.Seen.{Seen}
 use Rattle.shown_marks.specs.State.{HasTurn, ShowsInvariant, before_of, each_marks, flight_of, marks_before_of, marks_in, window_of}
 use Rattle.shown_marks.proofs.Deciding.{moved, silent, unable_silent, unwaiting_silent}

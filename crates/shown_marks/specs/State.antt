@@ -16,7 +16,7 @@ use Rattle.secret_marks.specs.declared.EntryMarks.{EntryMarks}
 use Rattle.secret_marks.specs.Marks.{Marks}
 use Rattle.entry_marks.specs.Beside.{marks_before}
 use Rattle.entry_marks.specs.Walk.{with_window}
-use Rattle.shown_marks.specs.declared.seen.Candidate.{Candidate}
+use Rattle.issue.specs.declared.candidate.Candidate.{Candidate}
 use Rattle.shown_marks.specs.declared.seen.Seen.{Seen}
 
 -- the window that the walk looks at, oldest entry first

@@ -4,9 +4,10 @@ ghost use Rattle.visibility.specs.Point.{HasAdvanced};
 ghost use Rattle.secret_marks.specs.Shown.{operands_shown};
 ghost use Rattle.entry_marks.specs.Walk.{marks_of};
 
-use crate::seen::{Candidate, Seen};
+use crate::seen::Seen;
 use core_parts::Parts;
 use entry_marks::{Marks, Walk, shown_by};
+use issue::{Candidate, candidate_at};
 use rename_taint::RenameTaint;
 use secret_marks::Shown;
 
@@ -25,14 +26,7 @@ impl<'a> Seen<'a> {
         ensures turn { HasTurn self.now result }
         ensures station { result.station ≡ station }
     {
-        match self.walk.rob.find(self.stations.serial(station)) {
-            Some(found) => Candidate {
-                position: found.position,
-                station,
-                entry: found.entry,
-            },
-            None => unreachable!(),
-        }
+        candidate_at(self.walk.rob, self.stations, station)
     }
 
     // The oldest entry whose first operand shows. Entries that don't wait, or lack what they want, are passed.

@@ -1,30 +1,20 @@
-use Rattle.std.proofs.Common.{◌≡◌, sym, subst, ◌∙◌, true}
-use Rattle.window_model.specs.Order.{is_waiting}
-use Rattle.window_model.proofs.Booleans.{some_of}
-use Rattle.issue.proofs.Waiting.{in_window, stands_at}
+use Rattle.std.proofs.Common.{sym, ◌∙◌, true}
 use Rattle.shown_marks.specs.State.{flight_of}
 use Rattle.shown_marks.proofs.Standing.{able_is}
 use Rattle.shown_marks.proofs.seen.Seen.candidate_at.Goals as goal
 
-pub unreachable-requires : goal.unreachable-requires
-unreachable-requires c =
-    let stands = c.requires.stands in
-    let parts = flight_of stands.rest c.args.self.now in
-    in_window parts stands.refines c.args.station c.serial.result c.requires.within c.serial.ensures (c.find.ensures.lacking c.in-None.is)
+pub candidate_at-requires-clause-refines : goal.candidate_at-requires-clause-refines
+candidate_at-requires-clause-refines c = (flight_of c.requires.stands.rest c.args.self.now, c.requires.stands.refines)
 
 pub returns-clause-turn : goal.returns-clause-turn
 returns-clause-turn c =
     let stands = c.requires.stands in
-    let parts = flight_of stands.rest c.args.self.now in
-    let found = c.in-Some.found in
-    let here = c.in-Some.ensures.entry in
-    let t = stands_at parts stands.refines _ _ _ c.requires.within c.serial.ensures c.in-Some.ensures.position in
-    let e = found.entry.now in
-    let waits = subst (λ e. is_waiting e.state ≡ true) (sym (some_of e t.entry (sym here ∙ t.is))) t.waits in
+    let found = c.candidate_at.result in
+    let here = c.candidate_at.ensures in
     record {
       stands = stands;
-      at = here;
-      waits = waits;
-      able = sym (able_is c.args.self.now stands found.position c.args.station e true here waits (sym t.station) c.requires.able);
-      station = sym t.station;
+      at = here.entry;
+      waits = here.waits;
+      able = sym (able_is c.args.self.now stands found.position c.args.station found.entry.now true here.entry here.waits here.at c.requires.able);
+      station = here.station ∙ here.at;
     }
