@@ -12,7 +12,7 @@ use elf_loader::Code;
 use history_pred::History;
 use predictor::Predictor;
 use rv_effect::relative;
-use rv_types::{Cause, Instr, Kind, kind_of};
+use rv_types::{Cause, Instr, Kind};
 use window_model::Item;
 
 // Where a JAL goes, or a branch that is taken. Else the address behind.
@@ -101,7 +101,7 @@ pub(crate) fn fetched_at(predictor: &Predictor, history: &History, code: &Code, 
     ensures taken { (d : Desc) → Predicts predictor.now history.now d
         → result.taken ≡ guess result.item.kind d predictor.now.counters history.now.checkpoint pc }
 {
-    let Some(instr) = code.instr(pc) else {
+    let Some(decoded) = code.decoded(pc) else {
         return Fetched {
             item: Item {
                 pc,
@@ -113,7 +113,8 @@ pub(crate) fn fetched_at(predictor: &Predictor, history: &History, code: &Code, 
             taken: false,
         };
     };
-    let kind = kind_of(&instr);
+    let instr = decoded.instr;
+    let kind = decoded.kind;
     let taken = guess(predictor, history, pc, kind);
     Fetched {
         item: Item {

@@ -7,7 +7,7 @@ ghost use Rattle.isa_step.specs.Outcome.{outcome};
 
 use crate::state::Isa;
 use crate::stepped::Stepped;
-use rv_decode::{Decoded, Operation};
+use rv_decode::Operation;
 use rv_types::{Cause, Instr, Op, Piece};
 
 impl Isa {
@@ -93,7 +93,7 @@ impl Isa {
     {
         out.clear();
         match self.code.decoded(self.pc) {
-            Some(Decoded { instr, operation }) => self.perform(operation, instr, out),
+            Some(decoded) => self.perform(decoded.operation, decoded.instr, out),
             None => Stepped::Trap(Cause::outside_code()),
         }
     }

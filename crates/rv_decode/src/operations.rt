@@ -4,10 +4,11 @@
 //! What each stands for is said in `specs/Operations.antt`.
 ghost use Rattle.std.specs.Prelude.{◌≡◌};
 ghost use Rattle.rv_types.specs.Decode.{decode};
+ghost use Rattle.rv_types.specs.Kind.{kind_of};
 ghost use Rattle.rv_decode.specs.Operations.{instr_of};
 
 use crate::decoding::decode;
-use rv_types::{Instr, Op, Reg};
+use rv_types::{Instr, Kind, Op, Reg, kind_of};
 use std::fmt;
 
 /// An operation with its registers and its immediate, in the order of the fields of `Instr`: rd, rs1, rs2, imm.
@@ -160,12 +161,14 @@ fn operation_of(instr: Instr) -> Operation
     }
 }
 
-/// An instruction, and beside it the operation that stands for it.
+/// An instruction, and beside it the operation that stands for it, and the kind by which the pipeline treats it.
 #[derive(Clone, Copy)]
 pub struct Decoded {
     pub instr: Instr,
     pub operation: Operation,
+    pub kind: Kind,
     pub ghost one: { instr_of operation instr ≡ instr },
+    pub ghost kind_is: { kind ≡ kind_of instr },
 }
 
 impl Decoded {
@@ -177,11 +180,12 @@ impl Decoded {
         Decoded {
             instr,
             operation: operation_of(instr),
+            kind: kind_of(&instr),
         }
     }
 }
 
-// Shown as its instruction, which the operation only stands for.
+// Shown as its instruction, which operation and kind only stand for.
 impl fmt::Debug for Decoded {
     fn fmt<W: fmt::Write>(&self, f: &mut fmt::Formatter<W>) -> fmt::Result {
         self.instr.fmt(f)
