@@ -2,7 +2,7 @@
 ghost use Rattle.std.specs.Prelude.{◌≡◌, ◌%◌, None, Some, replicate, slice_get};
 ghost use Rattle.lsq.specs.Keepers.{noted};
 
-/// So many groups of loads have a guess each.
+/// How many groups of loads there are: a load's group is its serial's remainder by this number.
 pub const GROUPS: usize = 64;
 
 /// A load that is kept for want of a store's data.
@@ -10,7 +10,7 @@ pub const GROUPS: usize = 64;
 pub struct Kept {
     /// The load's number in the order of renaming.
     pub load: u64,
-    /// That of the store.
+    /// The store's number in the order of renaming.
     pub store: u64,
 }
 
