@@ -112,8 +112,8 @@ impl<'a> Seen<'a> {
     {
         let load = candidate.entry.serial;
         match self.lsq.keeper(load, request) {
-            Some(store) => {
-                *kept = Some(Kept { load, store });
+            Some(keeper) => {
+                *kept = Some(Kept { load, keeper });
                 true
             }
             None => false,
@@ -145,7 +145,7 @@ impl<'a> Seen<'a> {
         let Some(keeper) = self.keepers.keeper(candidate.entry.serial) else {
             return false;
         };
-        let Some(store) = self.lsq.store(keeper) else {
+        let Some(store) = self.lsq.store(&keeper) else {
             return false;
         };
         if store.stored.is_some() {

@@ -1,10 +1,14 @@
 -- The stores older than a serial.
-use Rattle.std.proofs.Common.{◌≡◌, ℕ, Bool, true, false, cond, not, ◌||◌, ◌&&◌, List, [], ◌∷◌, Option, Some, is_some, refl, ap, sym, ◌∙◌, arith}
-use Rattle.std.specs.Prelude.{◌==◌, nat_lt, nat_le, reverse}
-use Rattle.std.specs.List.{filter, find, list_all, list_any}
+use Rattle.std.proofs.Common.{◌≡◌, ℕ, ◌+◌, ◌<◌, Bool, true, false, cond, not, ◌||◌, ◌&&◌, List, [], ◌∷◌, length, get_or, Option, Some, None, is_some, refl, ap, sym, ◌∙◌, arith}
+use Rattle.std.specs.Prelude.{◌==◌, nat_lt, nat_le, reverse, slice_get}
+use Rattle.std.specs.List.{filter, find, list_all, list_any, position_from, position_or_len}
+use Rattle.std.specs.Option.{option_map}
 use Rattle.std.proofs.lemmas.Bool.Decides.{nat_tests}
 use Rattle.std.proofs.lemmas.List.{reverse-append}
-use Rattle.std.proofs.lemmas.List.Folds.{list_any-append}
+use Rattle.std.proofs.lemmas.Iterator.Adapters.{position_from-zero}
+use Rattle.std.proofs.lemmas.List.Folds.{find_at, list_any-append}
+use Rattle.std.proofs.lemmas.Option.{slice_get-get_or}
+use Rattle.window_model.proofs.Booleans.{some_of}
 use Rattle.window_model.proofs.Before.{all_reverse}
 use Rattle.lsq.specs.declared.store.Store.{Store}
 use Rattle.lsq.specs.Clearing.{store_of}
@@ -75,8 +79,54 @@ any_keeps : (serial : ℕ) (bytes : List ℕ) (stores : List Store) → list_any
 any_keeps serial bytes stores = any_older (lacks_data_for bytes) serial stores
 
 -- the oldest that keeps a load is found where an older one lacks data for its bytes
-pub keeper_is : (serial : ℕ) (bytes : List ℕ) (stores : List Store) (o : Option Store) → o ≡ find (keeps serial bytes) stores → is_some o ≡ list_any (lacks_data_for bytes) (older serial stores)
+keeper_is : (serial : ℕ) (bytes : List ℕ) (stores : List Store) (o : Option Store) → o ≡ find (keeps serial bytes) stores → is_some o ≡ list_any (lacks_data_for bytes) (older serial stores)
 keeper_is serial bytes stores o h = ap is_some h ∙ some_found (keeps serial bytes) stores ∙ sym (any_keeps serial bytes stores)
+
+-- the first that passes a test stands at the position that is found
+first_at : (p : Store → Bool) (stores : List Store) (i : ℕ) → Some i ≡ position_from p 0 stores → (i < length stores) × (slice_get stores i ≡ find p stores)
+first_at p stores i h = by (nat_lt first (length stores)) refl (position_from-zero p stores ∙ sym h)
+  where
+    first : ℕ
+    first = position_or_len p stores
+
+    by : (b : Bool) → nat_lt first (length stores) ≡ b → cond b (Some first) None ≡ Some i → (i < length stores) × (slice_get stores i ≡ find p stores)
+    by true t k =
+        let same : first ≡ i = some_of first i k in
+        let within : first < length stores = grind (arith, nat_tests, t) in
+        (omega (arith, same, within), ap (slice_get stores) (sym same) ∙ sym (find_at p stores))
+    by false t k = absurd (cc)
+
+none_if : (b : Bool) (n : ℕ) (s : Store) (i : Option ℕ) (o : Option Store) → None ≡ cond b (Some n) i → (None ≡ i → None ≡ o) → None ≡ cond b (Some s) o
+none_if true n s i o h rest = absurd (cc)
+none_if false n s i o h rest = rest h
+
+-- none passes a test where no position is found
+none_at : (p : Store → Bool) (stores : List Store) (n : ℕ) → None ≡ position_from p n stores → None ≡ find p stores
+none_at p [] n h = refl
+none_at p (s ∷ stores) n h = none_if (p s) n s _ _ h (none_at p stores (n + 1))
+
+-- at the position that is found stands the oldest that keeps a load
+module _ (serial : ℕ) (bytes : List ℕ) (stores : List Store) where
+  pub keeper_within : (i : ℕ) → Some i ≡ position_from (keeps serial bytes) 0 stores → i < length stores
+  keeper_within i h = (first_at (keeps serial bytes) stores i h).0
+
+  here : (i : ℕ) (s : Store) → Some i ≡ position_from (keeps serial bytes) 0 stores → s ≡ get_or stores i s → Some s ≡ find (keeps serial bytes) stores
+  here i s h is = ap (λ s. Some s) is ∙ sym (slice_get-get_or stores i s (keeper_within i h)) ∙ (first_at (keeps serial bytes) stores i h).1
+
+  pub keeper_at : (i : ℕ) (s : Store) → Some i ≡ position_from (keeps serial bytes) 0 stores → s ≡ get_or stores i s → Some s.serial ≡ option_map (λ s. s.serial) (find (keeps serial bytes) stores)
+  keeper_at i s h is = ap (option_map (λ (s : Store). s.serial)) (here i s h is)
+
+  -- an older store lacks data for the load's bytes then
+  pub awaited_at : (i : ℕ) (s : Store) → Some i ≡ position_from (keeps serial bytes) 0 stores → s ≡ get_or stores i s → true ≡ list_any (lacks_data_for bytes) (older serial stores)
+  awaited_at i s h is = keeper_is serial bytes stores (Some s) (here i s h is)
+
+  -- where no position is found none keeps the load
+  pub keeper_none : None ≡ position_from (keeps serial bytes) 0 stores → None ≡ option_map (λ s. s.serial) (find (keeps serial bytes) stores)
+  keeper_none h = ap (option_map (λ (s : Store). s.serial)) (none_at (keeps serial bytes) stores 0 h)
+
+  -- where no position is found no older store lacks data for the load's bytes
+  pub awaited_none : None ≡ position_from (keeps serial bytes) 0 stores → false ≡ list_any (lacks_data_for bytes) (older serial stores)
+  awaited_none h = keeper_is serial bytes stores None (none_at (keeps serial bytes) stores 0 h)
 
 -- a test that one passes that another test finds is passed by some
 passed_if : (p q : Store → Bool) (b : Bool) (s x : Store) (stores : List Store) → (find q stores ≡ Some x → list_any p stores ≡ true) → cond b (Some s) (find q stores) ≡ Some x → p x ≡ true → (p s || list_any p stores) ≡ true

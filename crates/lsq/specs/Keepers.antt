@@ -1,8 +1,9 @@
 -- Which store kept a load when it last asked: a guess (docs/DECISIONS.md, "The machine").
-use Rattle.std.specs.Prelude.{ℕ, ◌%◌, List, Option, None, Some, slice_set}
+use Rattle.std.specs.Prelude.{◌%◌, List, Option, None, Some, slice_set}
+use Rattle.lsq.specs.declared.keepers.Keeper.{Keeper}
 use Rattle.lsq.specs.declared.keepers.Kept.{Kept}
 
 -- the guesses, with the store that keeps a load as that of the load's group
-abbrev pub noted : Option Kept → List (Option ℕ) → List (Option ℕ)
+abbrev pub noted : Option Kept → List (Option Keeper) → List (Option Keeper)
 noted None stores = stores
-noted (Some k) stores = slice_set stores (k.load % 64) (Some k.store)
+noted (Some k) stores = slice_set stores (k.load % 64) (Some k.keeper)

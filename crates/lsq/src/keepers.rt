@@ -5,22 +5,32 @@ ghost use Rattle.lsq.specs.Keepers.{noted};
 /// How many groups of loads there are: a load's group is its serial's remainder by this number.
 pub const GROUPS: usize = 64;
 
+/// A store that keeps a load for want of its data.
+#[derive(Clone, Copy, Debug, PartialEq, Eq)]
+pub struct Keeper {
+    /// The store's number in the order of renaming.
+    pub serial: u64,
+    /// The store's number among the stores alone, modulo 2^64: its place in the queue as it was noted, and as many more
+    /// as stores had retired from the queue. It is a guess by which the store is looked for at one place first.
+    pub number: usize,
+}
+
 /// A load that is kept for want of a store's data.
 #[derive(Clone, Copy, Debug, PartialEq, Eq)]
 pub struct Kept {
     /// The load's number in the order of renaming.
     pub load: u64,
-    /// The store's number in the order of renaming.
-    pub store: u64,
+    /// The store that keeps it.
+    pub keeper: Keeper,
 }
 
-/// For each group of loads, those whose serials are the same modulo 64, the serial of the store that kept one of them
-/// last, None as long as none was kept. It is a guess by which a load that waits asks one store first: nothing rests
-/// on it, and who takes it looks whether the store still keeps the load.
+/// For each group of loads, those whose serials are the same modulo 64, the store that kept one of them last, None as
+/// long as none was kept. It is a guess by which a load that waits asks one store first: nothing rests on it, and who
+/// takes it looks whether the store still keeps the load.
 #[derive(Clone, Copy, Debug, PartialEq, Eq)]
 pub struct Keepers {
-    /// The serial for each group.
-    pub stores: [Option<u64>; GROUPS],
+    /// The store for each group.
+    pub stores: [Option<Keeper>; GROUPS],
 }
 
 impl Keepers {
@@ -33,9 +43,9 @@ impl Keepers {
         }
     }
 
-    /// The serial of the store that kept a load of this one's group last, if one did.
+    /// The store that kept a load of this one's group last, if one did.
     #[inline(always)]
-    pub fn keeper(&self, load: u64) -> Option<u64>
+    pub fn keeper(&self, load: u64) -> Option<Keeper>
         ensures { slice_get self.now.stores (load % 64) ≡ Some result }
     {
         self.stores[(load % GROUPS as u64) as usize]
@@ -46,7 +56,7 @@ impl Keepers {
         ensures { self.new.stores ≡ noted kept self.old.stores }
     {
         if let Some(kept) = kept {
-            self.stores[(kept.load % GROUPS as u64) as usize] = Some(kept.store);
+            self.stores[(kept.load % GROUPS as u64) as usize] = Some(kept.keeper);
         }
     }
 }

@@ -21,7 +21,7 @@ mod serials;
 mod store;
 
 pub use clearing::StoreInfo;
-pub use keepers::{Keepers, Kept};
+pub use keepers::{Keeper, Keepers, Kept};
 pub use load::{IssuedLoad, Load, LoadRequest};
 pub use merging::Merged;
 pub use pending::Pending;

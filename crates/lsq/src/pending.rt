@@ -1,7 +1,6 @@
 //! What a load still waits for in the stores before it (`docs/machine.md`, "Issue"): one walk over the stores.
 ghost use Rattle.std.specs.Prelude.{◌≡◌, ◌&&◌, [], nat_lt, if◌then◌else◌};
-ghost use Rattle.std.specs.List.{find, list_any};
-ghost use Rattle.std.specs.Option.{option_map};
+ghost use Rattle.std.specs.List.{list_any, position_from};
 ghost use Rattle.lsq.specs.Queues.{older};
 ghost use Rattle.lsq.specs.Merging.{reaches};
 ghost use Rattle.lsq.specs.Pending.{awaited, awaits_too, bytes_requested, keeps, lacks_address, reaches_one};
@@ -81,15 +80,11 @@ impl Store {
     }
 }
 
-/// The oldest of the stores that keep a load with this serial for want of their data.
-pub(crate) fn keeper<'a>(
-    stores: &'a [Store],
-    serial: u64,
-    request: &LoadRequest,
-) -> Option<&'a Store>
-    ensures { option_map (λ s. s.now) result ≡ find (keeps serial (bytes_requested request.now)) stores.now }
+/// The place of the oldest of the stores that keep a load with this serial for want of their data.
+pub(crate) fn keeper_place(stores: &[Store], serial: u64, request: &LoadRequest) -> Option<usize>
+    ensures { result ≡ position_from (keeps serial (bytes_requested request.now)) 0 stores.now }
 {
-    stores.iter().find(|store| store.keeps(serial, request))
+    stores.iter().position(|store| store.keeps(serial, request))
 }
 
 /// Whether of some store with a serial below this one it isn't known where it writes.

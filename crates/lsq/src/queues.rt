@@ -11,11 +11,12 @@ ghost use Rattle.lsq.specs.Merging.{all_forwarded, merged_bytes};
 ghost use Rattle.lsq.specs.Pending.{bytes_requested, keeps, lacks_address, lacks_data_for};
 
 use crate::clearing::{StoreInfo, info_of, violated_by};
+use crate::keepers::Keeper;
 use crate::load::{IssuedLoad, Load, LoadRequest};
 use crate::loads::issue_load;
 use crate::merging::{Merged, merge};
-use crate::pending::{Pending, keeper, lack_address, pending_in};
-use crate::serials::{cut_items, find_item, pop_item, rises_with};
+use crate::pending::{Pending, keeper_place, lack_address, pending_in};
+use crate::serials::{cut_items, find_near, pop_item, rises_with};
 use crate::store::{Span, Store};
 use byte_ram::Ram;
 use machine_desc::Desc;
@@ -34,6 +35,8 @@ pub struct Lsq {
     // comes: then who retires is found at the head.
     loads_rise: bool,
     stores_rise: bool,
+    // How many stores have retired from the queue, modulo 2^64: by it a store's place is guessed.
+    retired_stores: usize,
 }
 
 impl Model for Lsq {
@@ -68,6 +71,7 @@ impl Lsq {
             max_stores: desc.core_stores,
             loads_rise: true,
             stores_rise: true,
+            retired_stores: 0,
         })
     }
 
@@ -164,25 +168,31 @@ impl Lsq {
         lack_address(self.stores.as_slice(), serial)
     }
 
-    /// The serial of the store that keeps a load with this serial, by what the load asks for: the oldest store before
-    /// the load that writes bytes of it, of which it isn't known what. There is one where the load awaits data.
-    pub fn keeper(&self, serial: u64, request: &LoadRequest) -> Option<u64>
-        ensures oldest { result ≡ option_map (λ s. s.serial)
+    /// The store that keeps a load with this serial, by what the load asks for: the oldest store before the load that
+    /// writes bytes of it, of which it isn't known what. There is one where the load awaits data.
+    pub fn keeper(&self, serial: u64, request: &LoadRequest) -> Option<Keeper>
+        ensures oldest { option_map (λ k. k.serial) result ≡ option_map (λ s. s.serial)
             (find (keeps serial (bytes_requested request.now)) self.now.stores) }
         ensures awaited { is_some result
             ≡ list_any (lacks_data_for (bytes_requested request.now)) (older serial self.now.stores) }
     {
-        match keeper(self.stores.as_slice(), serial, request) {
-            Some(store) => Some(store.serial),
+        let stores = self.stores.as_slice();
+        match keeper_place(stores, serial, request) {
+            Some(place) => Some(Keeper {
+                serial: stores[place].serial,
+                number: self.retired_stores.wrapping_add(place),
+            }),
             None => None,
         }
     }
 
-    /// Lends the store with this serial, if it is in flight.
-    pub fn store(&self, serial: u64) -> Option<&Store>
-        ensures { option_map (λ s. s.now) result ≡ store_of serial self.now.stores }
+    /// Lends the store with a keeper's serial, if it is in flight: the keeper itself.
+    pub fn store(&self, keeper: &Keeper) -> Option<&Store>
+        ensures { option_map (λ s. s.now) result ≡ store_of keeper.now.serial self.now.stores }
     {
-        find_item(self.stores.as_slice(), self.stores_rise, serial)
+        let stores = self.stores.as_slice();
+        let place = keeper.number.wrapping_sub(self.retired_stores);
+        find_near(stores, self.stores_rise, keeper.serial, place)
     }
 
     /// Whether each store older than this serial has both its address and its data.
@@ -243,7 +253,10 @@ impl Lsq {
         ensures { self.new ≡ without serial self.old }
     {
         pop_item(&mut self.loads, self.loads_rise, serial);
+        let before = self.stores.len();
         pop_item(&mut self.stores, self.stores_rise, serial);
+        let left = before.wrapping_sub(self.stores.len());
+        self.retired_stores = self.retired_stores.wrapping_add(left);
     }
 }
 

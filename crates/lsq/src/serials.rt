@@ -90,13 +90,22 @@ fn find_rising<T: Queued>(items: &[T], serial: u64) -> Option<&T>
     Some(item)
 }
 
-// The item with this serial, if there is one.
-pub(crate) fn find_item<T: Queued>(items: &[T], rising: bool, serial: u64) -> Option<&T>
+// The item with this serial, if there is one. Where the items rise it is looked for at this place first.
+#[inline(always)]
+pub(crate) fn find_near<T: Queued>(
+    items: &[T],
+    rising: bool,
+    serial: u64,
+    place: usize,
+) -> Option<&T>
     requires { rising ≡ true → Rise T.serial items.now }
     ensures { option_map (λ x. x.now) result ≡ find (λ x. T.serial x == serial) items.now }
 {
-    if rising {
-        return find_rising(items, serial);
+    if !rising {
+        return items.iter().find(|item| item.serial() == serial);
     }
-    items.iter().find(|item| item.serial() == serial)
+    match items.get(place) {
+        Some(item) if item.serial() == serial => Some(item),
+        _ => find_rising(items, serial),
+    }
 }

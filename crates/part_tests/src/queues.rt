@@ -2,7 +2,7 @@
 use crate::asserting::assert_same;
 use crate::descriptions::{largest, small};
 use byte_ram::Ram;
-use lsq::{IssuedLoad, Keepers, Kept, LoadRequest, Lsq, Merged, Pending, Span, StoreInfo};
+use lsq::{IssuedLoad, Keeper, Keepers, Kept, LoadRequest, Lsq, Merged, Pending, Span, StoreInfo};
 use machine_desc::Desc;
 use rv_types::{Cause, Width};
 use std::alloc::Global;
@@ -168,12 +168,21 @@ fn a_load_waits_for_parts_of_older_stores(rt: HostRuntime) -> Result<(), Fail> {
     // The oldest store that lacks data for bytes of a load keeps it, and is found by its serial.
     let (addr, width, fault) = (BASE + 2, Width::H, None);
     let request = LoadRequest { addr, width, fault };
-    assert_same(&rt, &lsq.keeper(13, &request), &Some(5));
-    let keeps = match lsq.store(5) {
+    let Some(keeper) = lsq.keeper(13, &request) else {
+        panic!(rt; "no store keeps the load");
+    };
+    let keeps = match lsq.store(&keeper) {
         Some(store) => store.keeps(13, &request) && !store.keeps(5, &request),
         None => false,
     };
-    assert!(rt; keeps && lsq.store(6).is_none());
+    assert!(rt; keeps && keeper.serial == 5);
+    assert!(rt;
+        lsq.store(&Keeper {
+            serial: 6,
+            ..keeper
+        })
+        .is_none()
+    );
     // Up to the second store each has both its parts.
     assert!(rt; lsq.all_older_known(5) && !lsq.all_older_known(6));
     Ok(())
@@ -183,9 +192,11 @@ fn a_load_waits_for_parts_of_older_stores(rt: HostRuntime) -> Result<(), Fail> {
 fn the_store_that_kept_a_load_is_noted(rt: HostRuntime) -> Result<(), Fail> {
     let mut keepers = Keepers::none();
     assert!(rt; keepers.keeper(6).is_none());
-    keepers.note(Some(Kept { load: 70, store: 5 }));
+    let (serial, number) = (5, 2);
+    let keeper = Keeper { serial, number };
+    keepers.note(Some(Kept { load: 70, keeper }));
     keepers.note(None);
-    assert_same(&rt, &keepers.keeper(6), &Some(5));
+    assert_same(&rt, &keepers.keeper(6), &Some(keeper));
     assert!(rt; keepers.keeper(7).is_none());
     Ok(())
 }
