@@ -125,12 +125,12 @@ class Machine:
         held = self.d.defence == HOLD and writer.kind == LOAD and not self.is_visible(writer)
         return writer.state == DONE and not held
 
-    def passes(self, entry):
+    def permits(self, entry):
         """It doesn't keep what is younger from being visible."""
         return entry.settled if self.d.model == SPECTRE else entry.safe if self.d.model == FUTURISTIC else True
 
     def is_visible(self, entry):
-        return all(map(self.passes, self.window[:self.window.index(entry)]))
+        return all(map(self.permits, self.window[:self.window.index(entry)]))
 
     def hidden_roots(self):
         """For each entry whether each of its sources is tainted: by the loads from which it flows that aren't visible."""
@@ -139,7 +139,7 @@ class Machine:
             by_source = [roots[writer.serial] if writer in self.window else set() for writer in entry.writers]
             tainted[entry.serial] = [bool(source) for source in by_source]
             roots[entry.serial] = set().union(*by_source) | ({entry.serial} if entry.kind == LOAD and not visible else set())
-            visible = visible and self.passes(entry)
+            visible = visible and self.permits(entry)
         return tainted
 
     # ---- cache

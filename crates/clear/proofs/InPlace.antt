@@ -10,7 +10,7 @@ use Rattle.window_model.specs.Order.{Place}
 use Rattle.window_model.specs.Serials.{Rise, below}
 use Rattle.window_model.proofs.Clearing.{cleared_goes}
 use Rattle.window_model.proofs.Lists.{set_here}
-use Rattle.window_model.proofs.Passing.{uncleared_as}
+use Rattle.window_model.proofs.Permitting.{uncleared_as}
 use Rattle.rob_ring.specs.Ring.{Ring}
 use Rattle.lsq.specs.Clearing.{violated_by as violated_in}
 use Rattle.lsq.specs.Queues.{Queues, cleared_at}

@@ -13,7 +13,7 @@ use Rattle.window_model.specs.declared.Progress.{Progress}
 use Rattle.window_model.specs.declared.Progress.TheVariants.{Waiting, Done}
 use Rattle.window_model.specs.Around.{Around}
 use Rattle.window_model.specs.Order.{base_of, has_address, has_data, is_done, is_faulty, is_load, is_store, is_waiting, sources}
-use Rattle.window_model.specs.Taint.{passes, safe_as, settled_as, tainted, any_tainted, address_tainted}
+use Rattle.window_model.specs.Taint.{permits, safe_as, settled_as, tainted, any_tainted, address_tainted}
 use Rattle.window_model.specs.Fill.{completed, completes}
 use Rattle.window_model.specs.MayIssue.{effect_of}
 use Rattle.window_model.specs.Issue.{issue_entry, begun, busy_until_both, is_division, with_address, with_data}
@@ -22,7 +22,7 @@ use Rattle.window_model.specs.Cycle.{cycle}
 use Rattle.window_model.specs.Along.{Along}
 use Rattle.window_model.proofs.Booleans.{and_no, both, completes_waits, done_waits, waiting_done}
 use Rattle.window_model.specs.Clear.{cleared_one}
-use Rattle.window_model.proofs.Passing.{passes_begun, passes_cleared, passes_done, passes_resolved}
+use Rattle.window_model.proofs.Permitting.{permits_begun, permits_cleared, permits_done, permits_resolved}
 use Rattle.committed_state.specs.Guarded.{IsGuarded, AllGuarded}
 use Rattle.committed_state.proofs.Clears.{Clears, AllClear, clears_same, any_not, clean_then, clean_rest}
 use Rattle.window_model.proofs.EntryByEntry.{along_push, along_drops, place_on}
@@ -64,7 +64,7 @@ module _ (model : SttModel) where
   guarded_completed cycle b e h = by_due (completes cycle e) refl
     where
       by_due : (c : Bool) → completes cycle e ≡ c → let r = (if c then record e { state = Done } else e) in G b r × Clears e r
-      by_due true q = (record { load = h.load; division = h.division; fresh = λ q. absurd (cc); whole = λ w t. h.whole (completes_waits e.state cycle q) t }, record { item = refl; still = λ m. passes_done m e })
+      by_due true q = (record { load = h.load; division = h.division; fresh = λ q. absurd (cc); whole = λ w t. h.whole (completes_waits e.state cycle q) t }, record { item = refl; still = λ m. permits_done m e })
       by_due false q = (h, clears_same e)
 
   -- ---- what the phase Issue keeps
@@ -79,7 +79,7 @@ module _ (model : SttModel) where
         fresh = λ z. absurd (cc);
         whole = λ w t. absurd (cc);
       } in
-      let c : Clears e (begun cycle e due o) = record { item = refl; still = λ t p. passes_begun t e cycle due o m.waits (h.fresh m.waits) ∙ p } in
+      let c : Clears e (begun cycle e due o) = record { item = refl; still = λ t p. permits_begun t e cycle due o m.waits (h.fresh m.waits) ∙ p } in
       subst (λ r. G b r × Clears e r) (sym s) (g, c)
 
   -- a store has both its parts once it executes, and waits until then
@@ -104,7 +104,7 @@ module _ (model : SttModel) where
   part_clears : (b : List Entry) (e r : Entry) → is_store e.item.kind ≡ true → G b e → (has_address e && has_data e) ≡ false → r.item ≡ e.item → r.resolved ≡ e.resolved → r.cleared ≡ e.cleared → Clears e r
   part_clears b e r t h n item same marked = record { item = item; still = still }
     where
-      still : (m : SttModel) → passes m e ≡ true → passes m r ≡ true
+      still : (m : SttModel) → permits m e ≡ true → permits m r ≡ true
       still Spectre p = ap (λ i. settled_as i.kind r.resolved r.cleared) item ∙ ap (λ u. settled_as e.item.kind u r.cleared) same ∙ ap (settled_as e.item.kind e.resolved) marked ∙ p
       still Futuristic p = absurd (let w = h.whole (done_waits e.state (safe_done e.item.kind e t p)) t in cc)
       still Off p = refl
@@ -162,12 +162,12 @@ module _ (model : SttModel) where
 
   pub resolved_on : (older ys : List Entry) (e : Entry) → is_done e.state ≡ true → Along G [] (older ++ e ∷ ys) → Along G [] (older ++ resolved_one e ∷ ys)
   resolved_on older ys e d k =
-      let c : Clears e (resolved_one e) = record { item = refl; still = λ m. passes_resolved m e } in
+      let c : Clears e (resolved_one e) = record { item = refl; still = λ m. permits_resolved m e } in
       place_on G Clears clears_same guarded_on e (resolved_one e) c (λ b h. guarded_resolved b e d h) [] older ys k
 
   -- ---- what the phase Clear keeps
 
   pub cleared_on : (older ys : List Entry) (e : Entry) → Along G [] (older ++ e ∷ ys) → Along G [] (older ++ cleared_one e ∷ ys)
   cleared_on older ys e k =
-      let c : Clears e (cleared_one e) = record { item = refl; still = λ m. passes_cleared m e } in
+      let c : Clears e (cleared_one e) = record { item = refl; still = λ m. permits_cleared m e } in
       place_on G Clears clears_same guarded_on e (cleared_one e) c (λ b h. record { load = h.load; division = h.division; fresh = h.fresh; whole = h.whole }) [] older ys k

@@ -1,5 +1,5 @@
 -- The visibility point that has moved over a window goes on to say which entries are visible as entries begin: what
--- waits doesn't pass, and neither does what executes, unless it always does.
+-- waits doesn't permit younger ones to be visible, and neither does what executes, unless it always does.
 use Rattle.std.proofs.Common.{◌≡◌, ℕ, ◌+◌, Bool, true, false, not, ◌&&◌, List, [], ◌∷◌, Option, Some, None, refl, ap, ap₂, sym, ◌∙◌, subst}
 use Rattle.std.proofs.lemmas.List.Elements.{All-head, All-tail}
 use Rattle.std.specs.List.{All, AllZip, AllByRecursion as Each}
@@ -17,10 +17,10 @@ use Rattle.window_model.specs.MayIssue.{effect_of}
 use Rattle.window_model.specs.Issue.{Begun, busy_until_both, issue, issue_entry, with_address, with_data}
 use Rattle.window_model.specs.Order.{each_from, has_address, has_data, is_done, is_faulty, is_store, is_waiting}
 use Rattle.window_model.specs.State.{Machine}
-use Rattle.window_model.specs.Taint.{passes, safe_as, settled_as}
+use Rattle.window_model.specs.Taint.{permits, safe_as, settled_as}
 use Rattle.window_model.proofs.Booleans.{waiting_done}
 use Rattle.window_model.proofs.Issuing.{Comes, Remains, Begins, begin_comes, by_issue, gone_parts}
-use Rattle.window_model.proofs.Passing.{passes_begun}
+use Rattle.window_model.proofs.Permitting.{permits_begun}
 use Rattle.machine_facts.specs.Sized.{HasParts}
 use Rattle.visibility.specs.Point.{HasAdvanced, Point}
 use Rattle.core_parts.proofs.Advancing.{Alike, alike_advanced}
@@ -31,7 +31,7 @@ Unresolved e = is_waiting e.state ≡ true → e.resolved ≡ false
 
 comes_alike : (model : SttModel) (e r : Entry) → Comes e r → is_waiting e.state ≡ true → e.resolved ≡ false → Alike model e r
 comes_alike model e r (Remains q) w u = subst (Alike model e) (sym q) (refl, refl)
-comes_alike model e r (Begins cycle due o q) w u = subst (Alike model e) (sym q) (refl, passes_begun model e cycle due o w u)
+comes_alike model e r (Begins cycle due o q) w u = subst (Alike model e) (sym q) (refl, permits_begun model e cycle due o w u)
 
 -- ---- a store whose parts go isn't Done, before or after
 
@@ -57,7 +57,7 @@ undone_fails Store e s d = ap (λ d. d && not (is_faulty e) && e.cleared) d
 undone_fails _ e s d = absurd (cc)
 
 undone_alike : (model : SttModel) (e r : Entry) → is_store e.item.kind ≡ true → is_done e.state ≡ false → r.item ≡ e.item → r.resolved ≡ e.resolved → r.cleared ≡ e.cleared → is_done r.state ≡ false →
-    passes model r ≡ passes model e
+    permits model r ≡ permits model e
 undone_alike Spectre e r s d i u c n = ap (λ (i : Item). settled_as i.kind r.resolved r.cleared) i ∙ ap₂ (settled_as e.item.kind) u c
 undone_alike Futuristic e r s d i u c n = undone_fails r.item.kind r (ap (λ (i : Item). is_store i.kind) i ∙ s) n ∙ sym (undone_fails e.item.kind e s d)
 undone_alike Off e r s d i u c n = refl

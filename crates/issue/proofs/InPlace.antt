@@ -19,7 +19,7 @@ use Rattle.machine_desc.specs.declared.SttModel.TheVariants.{Futuristic}
 use Rattle.rob_ring.specs.Issued.{with_issued}
 use Rattle.rob_ring.specs.Ring.{Ring, is_unsafe}
 use Rattle.stations.specs.Stations.{Station, Stations}
-use Rattle.refinement.proofs.Moving.{passes_issued}
+use Rattle.refinement.proofs.Moving.{permits_issued}
 use Rattle.refinement.proofs.Noting.{refines_issued}
 use Rattle.refinement.proofs.Stations.{station_within as held_within, stations_older}
 use Rattle.refinement.specs.InFlight.{InFlight}
@@ -166,7 +166,7 @@ module _ (d : Desc) (puts : List Put) (rob : Ring) (stations : Stations) (queues
       is_unsafe (with_issued put.issued e) ≡ is_unsafe e
   as_safe k e at =
       subst (λ e. is_unsafe (with_issued put.issued e) ≡ is_unsafe e) (one_there r.entries put.position here.old e here.here at)
-      (ap not (passes_issued Futuristic here.old (with_issued put.issued here.old) here.waits (unresolved (now_refines k).1.point.unresolved) here.issues))
+      (ap not (permits_issued Futuristic here.old (with_issued put.issued here.old) here.waits (unresolved (now_refines k).1.point.unresolved) here.issues))
     where
       unresolved : All (λ e. is_waiting e.state ≡ true → e.resolved ≡ false) r.entries → here.old.resolved ≡ false
       unresolved all = all_at (λ e. is_waiting e.state ≡ true → e.resolved ≡ false) r.entries put.position here.old all here.here here.waits

@@ -8,7 +8,7 @@ use Rattle.machine_desc.specs.declared.SttModel.TheVariants.{Spectre, Futuristic
 use Rattle.window_model.specs.declared.Entry.{Entry}
 use Rattle.window_model.specs.declared.Outcome.{Outcome}
 use Rattle.window_model.specs.Order.{writes, sources, base_of, is_load, fault_of}
-use Rattle.window_model.specs.Taint.{address_tainted, any_tainted, passes, safe, safe_as, settled, tainted, visible}
+use Rattle.window_model.specs.Taint.{address_tainted, any_tainted, permits, safe, safe_as, settled, tainted, visible}
 use Rattle.window_model.proofs.Booleans.{both}
 use Rattle.window_model.proofs.Taints.{any_agree, tainted_cons, none_any}
 use Rattle.noninterference.specs.Outcomes.{SameEntry, SameOutcome, SameOutcomes}
@@ -46,7 +46,7 @@ same_rest model (e ∷ b) [] s = absurd s
 pub untainted_where_visible : (model : SttModel) (before : List Entry) (r : ℕ) → visible model before ≡ true → tainted model before r ≡ false
 untainted_where_visible model [] r h = refl
 untainted_where_visible model (e ∷ before) r h =
-    let older = (both (passes model e) (visible model before) h).1 in
+    let older = (both (permits model e) (visible model before) h).1 in
     let by = none_any (tainted model before) (sources e) (λ s. untainted_where_visible model before s older) in
     let rest = untainted_where_visible model before r older in
     tainted_cons model e before r ∙ grind (arith, by, rest, older)
@@ -75,10 +75,10 @@ same_safe model before e e2 s h =
     ap (λ k. safe_as k e) (same_kind e e2 s.but_outcome)
     ∙ safe_by e2.item.kind e e2 (ap (λ (t : Entry). t.state) s.but_outcome) (ap (λ (t : Entry). t.resolved) s.but_outcome) (ap (λ (t : Entry). t.cleared) s.but_outcome) (faults_alike e.item.kind model before e e2 s.outcomes h)
 
-same_passes : (model : SttModel) (before : List Entry) (e e2 : Entry) → SameEntry model before e e2 → visible model before ≡ true → passes model e ≡ passes model e2
-same_passes Spectre before e e2 s h = ap settled s.but_outcome
-same_passes Futuristic before e e2 s h = same_safe Futuristic before e e2 s h
-same_passes Off before e e2 s h = refl
+same_permits : (model : SttModel) (before : List Entry) (e e2 : Entry) → SameEntry model before e e2 → visible model before ≡ true → permits model e ≡ permits model e2
+same_permits Spectre before e e2 s h = ap settled s.but_outcome
+same_permits Futuristic before e e2 s h = same_safe Futuristic before e e2 s h
+same_permits Off before e e2 s h = refl
 
 and_same : (a a2 b b2 : Bool) → b ≡ b2 → (b ≡ true → a ≡ a2) → (a && b) ≡ (a2 && b2)
 and_same true true b b2 p h = p
@@ -92,7 +92,7 @@ and_same false true false b2 p h = p
 pub same_visible : (model : SttModel) (before before2 : List Entry) → SameOutcomes model before before2 → visible model before ≡ visible model before2
 same_visible model [] [] s = refl
 same_visible model (e ∷ before) (e2 ∷ before2) s =
-    and_same (passes model e) (passes model e2) (visible model before) (visible model before2) (same_visible model before before2 s.1) (same_passes model before e e2 s.0)
+    and_same (permits model e) (permits model e2) (visible model before) (visible model before2) (same_visible model before before2 s.1) (same_permits model before e e2 s.0)
 same_visible model [] (e2 ∷ before2) s = absurd s
 same_visible model (e ∷ before) [] s = absurd s
 

@@ -1,4 +1,4 @@
--- A step of the path at an entry that it passes is what the replay says.
+-- A step of the path at an entry that permits younger ones to be visible is what the replay says.
 use Rattle.std.proofs.Common.{◌≡◌, ℕ, Bool, true, false, not, ◌&&◌, [], Option, Some, None, refl, ap, sym, ◌∙◌, subst}
 use Rattle.std.specs.Prelude.{if◌then◌else◌, is_some}
 use Rattle.rv_types.specs.Decode.{decode}
@@ -19,7 +19,7 @@ use Rattle.window_model.specs.declared.Progress.{Progress}
 use Rattle.window_model.specs.declared.Progress.TheVariants.{Waiting, Busy, Done}
 use Rattle.window_model.specs.Order.{fault_of, has_address, has_data, is_control, is_done, is_faulty, sources}
 use Rattle.window_model.specs.Resolve.{next_of}
-use Rattle.window_model.specs.Taint.{passes, protects, safe_as, settled_as}
+use Rattle.window_model.specs.Taint.{permits, protects, safe_as, settled_as}
 use Rattle.window_model.specs.Rename.{at_once}
 use Rattle.window_model.specs.Committed.{Aligned}
 use Rattle.window_model.specs.Path.{path}
@@ -150,8 +150,8 @@ module _ (code : Code) (aligned : Aligned code) (s : Bank) (e : Entry) (n : ℕ)
   by_safe (Stop c) q v = absurd (let t = ap at_once q in cc)
   by_safe _ q v = plain_goes Futuristic (ap is_control q) (ap is_access q)
 
-  -- an entry that a model passes is a step of its path, where it protects
-  pub passed_steps : (model : SttModel) → protects model ≡ true → passes model e ≡ true → path model code (hart e.item.pc s) ≡ Goes (hart n (bank_after e s)) []
-  passed_steps Spectre p v = by_settled e.item.kind refl v
-  passed_steps Futuristic p v = by_safe e.item.kind refl v
-  passed_steps Off p v = absurd (cc)
+  -- under a model that protects, an entry that permits younger ones to be visible is a step of its path
+  pub permitted_steps : (model : SttModel) → protects model ≡ true → permits model e ≡ true → path model code (hart e.item.pc s) ≡ Goes (hart n (bank_after e s)) []
+  permitted_steps Spectre p v = by_settled e.item.kind refl v
+  permitted_steps Futuristic p v = by_safe e.item.kind refl v
+  permitted_steps Off p v = absurd (cc)

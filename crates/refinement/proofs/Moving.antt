@@ -9,10 +9,10 @@ use Rattle.machine_desc.specs.declared.SttModel.TheVariants.{Futuristic, Off, Sp
 use Rattle.rob_ring.specs.Ring.{below}
 use Rattle.rv_types.specs.declared.Kind.{Kind}
 use Rattle.rv_types.specs.declared.Kind.TheVariants.{Branch, Call, Jalr, Load, Stop, Store}
-use Rattle.visibility.proofs.Moving.{all_passes, by_model, can_again, moves_on}
-use Rattle.visibility.specs.Point.{NotPast, Point, first_point, moved_over, next_after, passes}
+use Rattle.visibility.proofs.Moving.{permits_unprotected, by_model, can_again, moves_on}
+use Rattle.visibility.specs.Point.{NotPast, Point, first_point, moved_over, next_after, permits}
 use Rattle.window_model.proofs.Booleans.{waiting_done}
-use Rattle.window_model.proofs.Passing.{passes_cleared, passes_done, passes_resolved}
+use Rattle.window_model.proofs.Permitting.{permits_cleared, permits_done, permits_resolved}
 use Rattle.window_model.proofs.Serials.{all_at, all_left, rise_head, rise_left, rise_tail, splits}
 use Rattle.window_model.specs.Clear.{cleared_one}
 use Rattle.window_model.specs.Order.{is_done, is_faulty, is_waiting}
@@ -24,9 +24,9 @@ use Rattle.window_model.specs.declared.Progress.TheVariants.{Done}
 use Rattle.refinement.specs.Points.{Below, PointStands}
 use Rattle.refinement.specs.Stations.{Issues}
 
--- an entry below the point passes
-abbrev Passes : Point → Entry → Type 0
-Passes p e = e.serial < p.serial → passes p.model e ≡ true
+-- an entry below the point permits younger ones to be visible
+abbrev Permits : Point → Entry → Type 0
+Permits p e = e.serial < p.serial → permits p.model e ≡ true
 
 -- an entry that waits is not resolved
 abbrev Unresolved : Entry → Type 0
@@ -35,7 +35,7 @@ Unresolved e = is_waiting e.state ≡ true → e.resolved ≡ false
 -- the first point stands for the empty window
 pub point_opens : (model : SttModel) (next : ℕ) → PointStands (first_point model) next []
 point_opens model next = record {
-  can = record { passed = All-nil (Passes (first_point model)); near = λ _. omega arith };
+  can = record { permit = All-nil (Permits (first_point model)); near = λ _. omega arith };
   past = low (protects model);
   unresolved = All-nil Unresolved;
 }
@@ -109,22 +109,22 @@ point_renames point next window e s is u =
     let after = next_push point.serial window e in
     record {
       can = record {
-        passed = All-push (Passes point) window e s.can.passed (new_passes (protects point.model) refl);
+        permit = All-push (Permits point) window e s.can.permit (new_permits (protects point.model) refl);
         near = λ g. let past = s.past g in omega (arith, past, is, after);
       };
       past = λ g. let past = s.past g in omega (arith, past);
       unresolved = All-push Unresolved window e s.unresolved (λ w. u);
     }
   where
-    new_passes : (b : Bool) → protects point.model ≡ b → Passes point e
-    new_passes true g lt = let past = s.past g in absurd (omega (arith, past, is, lt))
-    new_passes false g lt = all_passes point.model e g
+    new_permits : (b : Bool) → protects point.model ≡ b → Permits point e
+    new_permits true g lt = let past = s.past g in absurd (omega (arith, past, is, lt))
+    new_permits false g lt = permits_unprotected point.model e g
 
 -- the point stands for the window without its oldest entry
 pub point_retires : (point : Point) (next : ℕ) (window : List Entry) → PointStands point next window → PointStands point next (drop 1 window)
 point_retires point next [] s = s
 point_retires point next (e ∷ es) s = record {
-  can = record { passed = All-tail (Passes point) e es s.can.passed; near = λ g. by_rest es (s.can.near g) };
+  can = record { permit = All-tail (Permits point) e es s.can.permit; near = λ g. by_rest es (s.can.near g) };
   past = s.past;
   unresolved = All-tail Unresolved e es s.unresolved;
 }
@@ -136,19 +136,19 @@ point_retires point next (e ∷ es) s = record {
 -- ---- an entry goes on
 
 sets : (point : Point) (next : ℕ) (window : List Entry) (i : ℕ) (e e2 : Entry) → PointStands point next window → slice_get window i ≡ Some e → e2.serial ≡ e.serial →
-    (passes point.model e ≡ true → passes point.model e2 ≡ true) → Unresolved e2 → PointStands point next (slice_set window i e2)
+    (permits point.model e ≡ true → permits point.model e2 ≡ true) → Unresolved e2 → PointStands point next (slice_set window i e2)
 sets point next window i e e2 s h q p u =
     let after = next_set point.serial window i e e2 h q in
     record {
       can = record {
-        passed = All-set (Passes point) window i e2 (λ lt. p (all_at (Passes point) window i e s.can.passed h (omega (arith, q, lt)))) s.can.passed;
+        permit = All-set (Permits point) window i e2 (λ lt. p (all_at (Permits point) window i e s.can.permit h (omega (arith, q, lt)))) s.can.permit;
         near = λ g. let near = s.can.near g in omega (arith, after, near);
       };
       past = s.past;
       unresolved = All-set Unresolved window i e2 u s.unresolved;
     }
 
--- what isn't Done passes by its kind and whether it is resolved alone
+-- what isn't Done is safe by its kind and whether it is resolved alone
 undone_as : (k : Kind) (e e2 : Entry) → is_done e.state ≡ false → is_done e2.state ≡ false → e.resolved ≡ false → e2.resolved ≡ false → safe_as k e2 ≡ safe_as k e
 undone_as Load e e2 u u2 r r2 = ap (λ d. d && not (is_faulty e2)) u2 ∙ sym (ap (λ d. d && not (is_faulty e)) u)
 undone_as Store e e2 u u2 r r2 = ap (λ d. d && not (is_faulty e2) && e2.cleared) u2 ∙ sym (ap (λ d. d && not (is_faulty e) && e.cleared) u)
@@ -158,37 +158,37 @@ undone_as Call e e2 u u2 r r2 = refl
 undone_as (Stop cause) e e2 u u2 r r2 = refl
 undone_as _ e e2 u u2 r r2 = refl
 
--- an entry that waits passes, once it or a part of it has issued, as it did before
-pub passes_issued : (m : SttModel) (e e2 : Entry) → is_waiting e.state ≡ true → e.resolved ≡ false → Issues e e2 → passes m e2 ≡ passes m e
-passes_issued Spectre e e2 w u issued =
+-- an entry that waits permits younger ones to be visible, once it or a part of it has issued, as it did before
+pub permits_issued : (m : SttModel) (e e2 : Entry) → is_waiting e.state ≡ true → e.resolved ≡ false → Issues e e2 → permits m e2 ≡ permits m e
+permits_issued Spectre e e2 w u issued =
     ap₂ (λ (i : Item) r. settled_as i.kind r e2.cleared) issued.on.item issued.resolved ∙ ap (settled_as e.item.kind e.resolved) issued.cleared
-passes_issued Futuristic e e2 w u issued =
+permits_issued Futuristic e e2 w u issued =
     ap (λ (i : Item). safe_as i.kind e2) issued.on.item
     ∙ undone_as e.item.kind e e2 (waiting_done e.state w) issued.undone u (issued.resolved ∙ u)
-passes_issued Off e e2 w u issued = refl
+permits_issued Off e e2 w u issued = refl
 
 -- an entry issues, or a part of it
 pub point_issues : (point : Point) (next : ℕ) (window : List Entry) (i : ℕ) (e e2 : Entry) → PointStands point next window →
     slice_get window i ≡ Some e → is_waiting e.state ≡ true → Issues e e2 → PointStands point next (slice_set window i e2)
 point_issues point next window i e e2 s h w issued =
     let u = all_at Unresolved window i e s.unresolved h w in
-    sets point next window i e e2 s h issued.on.serial (λ p. passes_issued point.model e e2 w u issued ∙ p) (λ w. issued.resolved ∙ u)
+    sets point next window i e e2 s h issued.on.serial (λ p. permits_issued point.model e e2 w u issued ∙ p) (λ w. issued.resolved ∙ u)
 
 -- the point stands for the window once an entry is Done
 pub point_completes : (point : Point) (next : ℕ) (window : List Entry) (i : ℕ) (e : Entry) → PointStands point next window →
     slice_get window i ≡ Some e → PointStands point next (slice_set window i (record e { state = Done }))
-point_completes point next window i e s h = sets point next window i e (record e { state = Done }) s h refl (passes_done point.model e) (λ w. absurd (cc))
+point_completes point next window i e s h = sets point next window i e (record e { state = Done }) s h refl (permits_done point.model e) (λ w. absurd (cc))
 
 -- the point stands for the window once an entry is resolved
 pub point_resolves : (point : Point) (next : ℕ) (window : List Entry) (i : ℕ) (e : Entry) → PointStands point next window →
     slice_get window i ≡ Some e → is_waiting e.state ≡ false → PointStands point next (slice_set window i (record e { resolved = true }))
-point_resolves point next window i e s h w = sets point next window i e (record e { resolved = true }) s h refl (passes_resolved point.model e) (λ v. absurd (cc))
+point_resolves point next window i e s h w = sets point next window i e (record e { resolved = true }) s h refl (permits_resolved point.model e) (λ v. absurd (cc))
 
 -- the point stands for the window once an entry is cleared
 pub point_clears : (point : Point) (next : ℕ) (window : List Entry) (i : ℕ) (e : Entry) → PointStands point next window →
     slice_get window i ≡ Some e → PointStands point next (slice_set window i (cleared_one e))
 point_clears point next window i e s h =
-    sets point next window i e (cleared_one e) s h refl (passes_cleared point.model e) (all_at Unresolved window i e s.unresolved h)
+    sets point next window i e (cleared_one e) s h refl (permits_cleared point.model e) (all_at Unresolved window i e s.unresolved h)
 
 -- ---- a branch or JALR that isn't resolved, and a store that isn't cleared
 
@@ -203,8 +203,8 @@ unsettled_as Store e u = ap (λ c. is_done e.state && not (is_faulty e) && c) u 
     and_false false = refl
 unsettled_as _ e u = absurd (cc)
 
--- an entry that isn't settled doesn't pass, under each model that protects
-unsettled_fails : (m : SttModel) (e : Entry) → protects m ≡ true → settled e ≡ false → passes m e ≡ false
+-- an entry that isn't settled doesn't permit younger ones to be visible, under each model that protects
+unsettled_fails : (m : SttModel) (e : Entry) → protects m ≡ true → settled e ≡ false → permits m e ≡ false
 unsettled_fails Spectre e p u = u
 unsettled_fails Futuristic e p u = unsettled_as e.item.kind e u
 unsettled_fails Off e p u = absurd (cc)
@@ -218,7 +218,7 @@ point_stops point next window i e s h u g = by_test (nat_le point.serial e.seria
     by_test true q = grind (arith, nat_tests)
     by_test false q =
         let lt : e.serial < point.serial = grind (arith, nat_tests) in
-        let p = all_at (Passes point) window i e s.can.passed h lt in
+        let p = all_at (Permits point) window i e s.can.permit h lt in
         let f = unsettled_fails point.model e g u in
         absurd (cc)
 
@@ -230,7 +230,7 @@ point_squashes point next first window i e s r h lt le =
     let after = next_over point.serial first window i e r h lt in
     record {
       can = record {
-        passed = all_left (Passes point) (below first window) t.gone (subst (All (Passes point)) t.whole s.can.passed);
+        permit = all_left (Permits point) (below first window) t.gone (subst (All (Permits point)) t.whole s.can.permit);
         near = λ g. let l = le g in omega (arith, after, l);
       };
       past = s.past;

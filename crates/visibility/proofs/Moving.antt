@@ -13,51 +13,51 @@ use Rattle.window_model.specs.Taint.{protects, visible}
 use Rattle.window_model.proofs.Before.{all_reverse}
 use Rattle.window_model.specs.Serials.{Rise}
 use Rattle.window_model.proofs.Serials.{rise_head, rise_tail}
-use Rattle.visibility.specs.Point.{Point, passes, next_after, serial_of, stops_at, moved_over, Passed, IsPoint, CanAdvance, HasMoved, HasAdvanced, ShowsAll}
+use Rattle.visibility.specs.Point.{Point, permits, next_after, serial_of, stops_at, moved_over, AllPermit, IsPoint, CanAdvance, HasMoved, HasAdvanced, ShowsAll}
 
 -- ---- what the search finds
 
--- the oldest entry that doesn't pass
+-- the oldest entry that doesn't permit younger ones to be visible
 abbrev pub stop : SttModel → List Entry → Option Entry
-stop model es = find (λ e. not (passes model e)) es
+stop model es = find (λ e. not (permits model e)) es
 
--- what the search passes over passes, and what it finds doesn't
-on : (model : SttModel) (e f : Entry) (es : List Entry) → stop model (e ∷ es) ≡ Some f → passes model e ≡ true → stop model es ≡ Some f
+-- what the search passes over permits younger ones to be visible, and what it finds doesn't
+on : (model : SttModel) (e f : Entry) (es : List Entry) → stop model (e ∷ es) ≡ Some f → permits model e ≡ true → stop model es ≡ Some f
 on model e f es h p = let q = p in cc
 
-here : (model : SttModel) (e f : Entry) (es : List Entry) → stop model (e ∷ es) ≡ Some f → passes model e ≡ false → e ≡ f
+here : (model : SttModel) (e f : Entry) (es : List Entry) → stop model (e ∷ es) ≡ Some f → permits model e ≡ false → e ≡ f
 here model e f es h p = let q : Some e ≡ Some f = cc in cc
 
 -- what holds of all entries holds of the one that is found
 found_has : (model : SttModel) (P : Entry → Type 0) (f : Entry) (es : List Entry) → All P es → stop model es ≡ Some f → P f
 found_has model P f [] a h = absurd (cc)
-found_has model P f (e ∷ es) a h = by_test (passes model e) refl (λ Q. found_has model Q f es)
+found_has model P f (e ∷ es) a h = by_test (permits model e) refl (λ Q. found_has model Q f es)
   where
-    by_test : (b : Bool) → passes model e ≡ b → ((P : Entry → Type 0) → All P es → stop model es ≡ Some f → P f) → P f
+    by_test : (b : Bool) → permits model e ≡ b → ((P : Entry → Type 0) → All P es → stop model es ≡ Some f → P f) → P f
     by_test true q more = more P (All-tail P e es a) (on model e f es h q)
     by_test false q more = subst P (here model e f es h q) (All-head P e es a)
 
--- what is found doesn't pass
-found_fails : (model : SttModel) (f : Entry) (es : List Entry) → stop model es ≡ Some f → passes model f ≡ false
+-- what is found doesn't permit younger ones to be visible
+found_fails : (model : SttModel) (f : Entry) (es : List Entry) → stop model es ≡ Some f → permits model f ≡ false
 found_fails model f [] h = absurd (cc)
-found_fails model f (e ∷ es) h = by_test (passes model e) refl (found_fails model f es)
+found_fails model f (e ∷ es) h = by_test (permits model e) refl (found_fails model f es)
   where
-    by_test : (b : Bool) → passes model e ≡ b → (stop model es ≡ Some f → passes model f ≡ false) → passes model f ≡ false
+    by_test : (b : Bool) → permits model e ≡ b → (stop model es ≡ Some f → permits model f ≡ false) → permits model f ≡ false
     by_test true q more = more (on model e f es h q)
-    by_test false q more = subst (λ e. passes model e ≡ false) (here model e f es h q) q
+    by_test false q more = subst (λ e. permits model e ≡ false) (here model e f es h q) q
 
--- where none is found, all pass
-past : (model : SttModel) (e : Entry) (es : List Entry) → stop model (e ∷ es) ≡ None → (b : Bool) → passes model e ≡ b → (passes model e ≡ true) × (stop model es ≡ None)
+-- where none is found, all permit younger ones to be visible
+past : (model : SttModel) (e : Entry) (es : List Entry) → stop model (e ∷ es) ≡ None → (b : Bool) → permits model e ≡ b → (permits model e ≡ true) × (stop model es ≡ None)
 past model e es h true q = (q, cc)
 past model e es h false q = absurd (cc)
 
-none_stops : (model : SttModel) (es : List Entry) → stop model es ≡ None → list_all (passes model) es ≡ true
+none_stops : (model : SttModel) (es : List Entry) → stop model es ≡ None → list_all (permits model) es ≡ true
 none_stops model [] h = refl
-none_stops model (e ∷ es) h = let p = past model e es h (passes model e) refl in ap₂ (λ a b. a && b) p.0 (none_stops model es p.1)
+none_stops model (e ∷ es) h = let p = past model e es h (permits model e) refl in ap₂ (λ a b. a && b) p.0 (none_stops model es p.1)
 
-all_pass : (model : SttModel) (es : List Entry) → stop model es ≡ None → All (λ e. passes model e ≡ true) es
-all_pass model [] h = All-nil (λ e. passes model e ≡ true)
-all_pass model (e ∷ es) h = let p = past model e es h (passes model e) refl in All-cons (λ e. passes model e ≡ true) e es p.0 (all_pass model es p.1)
+all_permit : (model : SttModel) (es : List Entry) → stop model es ≡ None → All (λ e. permits model e ≡ true) es
+all_permit model [] h = All-nil (λ e. permits model e ≡ true)
+all_permit model (e ∷ es) h = let p = past model e es h (permits model e) refl in All-cons (λ e. permits model e ≡ true) e es p.0 (all_permit model es p.1)
 
 -- ---- what the point tells of each entry
 
@@ -65,25 +65,25 @@ all_pass model (e ∷ es) h = let p = past model e es h (passes model e) refl in
 abbrev pub Tells : Point → List Entry → Entry → Type 0
 Tells p before e = nat_le e.serial p.serial ≡ visible p.model before
 
--- entries above the point, behind one that doesn't pass
+-- entries above the point, behind one that doesn't permit them to be visible
 hidden : (p : Point) (before es : List Entry) → visible p.model before ≡ false → All (λ e. p.serial < e.serial) es → Along (Tells p) before es
 hidden p before [] v a = tt
 hidden p before (e ∷ es) v a =
     let l : p.serial < e.serial = All-head (λ e. p.serial < e.serial) e es a in
     let n : nat_le e.serial p.serial ≡ false = grind (arith, nat_tests) in
-    let c : visible p.model (e ∷ before) ≡ false = ap (λ b. passes p.model e && b) v ∙ and_false (passes p.model e) in
+    let c : visible p.model (e ∷ before) ≡ false = ap (λ b. permits p.model e && b) v ∙ and_false (permits p.model e) in
     (n ∙ sym v, hidden p (e ∷ before) es c (All-tail (λ e. p.serial < e.serial) e es a))
   where
     and_false : (b : Bool) → (b && false) ≡ false
     and_false true = refl
     and_false false = refl
 
--- the point stands at the first that doesn't pass
+-- the point stands at the first that doesn't permit younger ones to be visible
 stops : (p : Point) (f : Entry) (before es : List Entry) → visible p.model before ≡ true → stop p.model es ≡ Some f → f.serial ≡ p.serial → Rise es → Along (Tells p) before es
 stops p f before [] v h q r = tt
-stops p f before (e ∷ es) v h q r = by_test (passes p.model e) refl (stops p f (e ∷ before) es)
+stops p f before (e ∷ es) v h q r = by_test (permits p.model e) refl (stops p f (e ∷ before) es)
   where
-    by_test : (b : Bool) → passes p.model e ≡ b → (visible p.model (e ∷ before) ≡ true → stop p.model es ≡ Some f → f.serial ≡ p.serial → Rise es → Along (Tells p) (e ∷ before) es) → Along (Tells p) before (e ∷ es)
+    by_test : (b : Bool) → permits p.model e ≡ b → (visible p.model (e ∷ before) ≡ true → stop p.model es ≡ Some f → f.serial ≡ p.serial → Rise es → Along (Tells p) (e ∷ before) es) → Along (Tells p) before (e ∷ es)
     by_test true t more =
         let s = on p.model e f es h t in
         let l : e.serial < f.serial = found_has p.model (λ b. e.serial < b.serial) f es (rise_head e es r) s in
@@ -97,26 +97,26 @@ stops p f before (e ∷ es) v h q r = by_test (passes p.model e) refl (stops p f
         (n ∙ sym v, hidden p (e ∷ before) es c (subst (λ n. All (λ b. n < b.serial) es) m (rise_head e es r)))
 
 -- the point tells that every entry is visible where every one lets younger ones be, and it is past them
-passes_all : (p : Point) (before es : List Entry) → visible p.model before ≡ true → stop p.model es ≡ None → All (λ e. e.serial < p.serial) es → Along (Tells p) before es
-passes_all p before [] v h a = tt
-passes_all p before (e ∷ es) v h a =
-    let t = past p.model e es h (passes p.model e) refl in
+permits_all : (p : Point) (before es : List Entry) → visible p.model before ≡ true → stop p.model es ≡ None → All (λ e. e.serial < p.serial) es → Along (Tells p) before es
+permits_all p before [] v h a = tt
+permits_all p before (e ∷ es) v h a =
+    let t = past p.model e es h (permits p.model e) refl in
     let l : e.serial < p.serial = All-head (λ e. e.serial < p.serial) e es a in
     let n : nat_le e.serial p.serial ≡ true = grind (arith, nat_tests) in
     let c : visible p.model (e ∷ before) ≡ true = ap₂ (λ a b. a && b) t.0 v in
-    (n ∙ sym v, passes_all p (e ∷ before) es c t.1 (All-tail (λ e. e.serial < p.serial) e es a))
+    (n ∙ sym v, permits_all p (e ∷ before) es c t.1 (All-tail (λ e. e.serial < p.serial) e es a))
 
--- what stands before the one that doesn't pass passes
-before_stop : (p : Point) (f : Entry) (es : List Entry) → stop p.model es ≡ Some f → f.serial ≡ p.serial → Rise es → Passed p es
-before_stop p f [] h q r = All-nil (λ e. e.serial < p.serial → passes p.model e ≡ true)
-before_stop p f (e ∷ es) h q r = by_test (passes p.model e) refl (before_stop p f es)
+-- what stands before the one that doesn't permit younger ones to be visible does permit it
+before_stop : (p : Point) (f : Entry) (es : List Entry) → stop p.model es ≡ Some f → f.serial ≡ p.serial → Rise es → AllPermit p es
+before_stop p f [] h q r = All-nil (λ e. e.serial < p.serial → permits p.model e ≡ true)
+before_stop p f (e ∷ es) h q r = by_test (permits p.model e) refl (before_stop p f es)
   where
-    by_test : (b : Bool) → passes p.model e ≡ b → (stop p.model es ≡ Some f → f.serial ≡ p.serial → Rise es → Passed p es) → Passed p (e ∷ es)
-    by_test true t more = All-cons (λ e. e.serial < p.serial → passes p.model e ≡ true) e es (λ lt. t) (more (on p.model e f es h t) q (rise_tail e es r))
+    by_test : (b : Bool) → permits p.model e ≡ b → (stop p.model es ≡ Some f → f.serial ≡ p.serial → Rise es → AllPermit p es) → AllPermit p (e ∷ es)
+    by_test true t more = All-cons (λ e. e.serial < p.serial → permits p.model e ≡ true) e es (λ lt. t) (more (on p.model e f es h t) q (rise_tail e es r))
     by_test false t more =
         let m : e.serial ≡ p.serial = ap (λ (e : Entry). e.serial) (here p.model e f es h t) ∙ q in
-        All-cons (λ e. e.serial < p.serial → passes p.model e ≡ true) e es (λ lt. absurd (omega arith))
-        (All-weaker (λ b. e.serial < b.serial) (λ b. b.serial < p.serial → passes p.model b ≡ true) (λ b l lt. absurd (omega arith)) es (rise_head e es r))
+        All-cons (λ e. e.serial < p.serial → permits p.model e ≡ true) e es (λ lt. absurd (omega arith))
+        (All-weaker (λ b. e.serial < b.serial) (λ b. b.serial < p.serial → permits p.model b ≡ true) (λ b l lt. absurd (omega arith)) es (rise_head e es r))
 
 -- ---- the serial after the youngest
 
@@ -139,7 +139,7 @@ smaller p e es i s a =
 
 can_at : (p : Point) (f e : Entry) (es : List Entry) → Rise (e ∷ es) → stop p.model (e ∷ es) ≡ Some f → f.serial ≡ p.serial → CanAdvance p (e ∷ es)
 can_at p f e es r h q = record {
-  passed = before_stop p f (e ∷ es) h q r;
+  permit = before_stop p f (e ∷ es) h q r;
   near = λ _. let l = found_has p.model (λ b. b.serial < next_after p.serial (e ∷ es)) f (e ∷ es) (below_next p.serial e es r) h in omega arith;
 }
 
@@ -155,31 +155,31 @@ moved_to p f e es r h q =
 
 can_past : (p : Point) (old : ℕ) (e : Entry) (es : List Entry) → stop p.model (e ∷ es) ≡ None → next_after old (e ∷ es) ≡ p.serial → CanAdvance p (e ∷ es)
 can_past p old e es h q = record {
-  passed = All-weaker (λ b. passes p.model b ≡ true) (λ b. b.serial < p.serial → passes p.model b ≡ true) (λ b t lt. t) (e ∷ es) (all_pass p.model (e ∷ es) h);
+  permit = All-weaker (λ b. permits p.model b ≡ true) (λ b. b.serial < p.serial → permits p.model b ≡ true) (λ b t lt. t) (e ∷ es) (all_permit p.model (e ∷ es) h);
   near = λ _. omega (arith, q);
 }
 
 moved_past : (p : Point) (old : ℕ) (e : Entry) (es : List Entry) → Rise (e ∷ es) → stop p.model (e ∷ es) ≡ None → next_after old (e ∷ es) ≡ p.serial → HasMoved p (e ∷ es)
 moved_past p old e es r h q =
-    let i = passes_all p [] (e ∷ es) refl h (subst (λ n. All (λ b. b.serial < n) (e ∷ es)) q (below_next old e es r)) in
+    let i = permits_all p [] (e ∷ es) refl h (subst (λ n. All (λ b. b.serial < n) (e ∷ es)) q (below_next old e es r)) in
     record {
       each = i;
       smaller = smaller p e es i;
-      next = λ s a le. all_reverse (passes p.model) (e ∷ es) ∙ none_stops p.model (e ∷ es) h;
+      next = λ s a le. all_reverse (permits p.model) (e ∷ es) ∙ none_stops p.model (e ∷ es) h;
       again = can_past p old e es h q;
     }
 
 -- ---- under a model that doesn't protect it stays
 
 -- under a model that doesn't protect every entry lets younger ones be visible
-pub all_passes : (model : SttModel) (e : Entry) → protects model ≡ false → passes model e ≡ true
-all_passes Spectre e h = absurd (cc)
-all_passes Futuristic e h = absurd (cc)
-all_passes Off e h = refl
+pub permits_unprotected : (model : SttModel) (e : Entry) → protects model ≡ false → permits model e ≡ true
+permits_unprotected Spectre e h = absurd (cc)
+permits_unprotected Futuristic e h = absurd (cc)
+permits_unprotected Off e h = refl
 
 all_visible : (model : SttModel) (before : List Entry) → protects model ≡ false → visible model before ≡ true
 all_visible model [] h = refl
-all_visible model (e ∷ before) h = ap₂ (λ a b. a && b) (all_passes model e h) (all_visible model before h)
+all_visible model (e ∷ before) h = ap₂ (λ a b. a && b) (permits_unprotected model e h) (all_visible model before h)
 
 all_tell : (p : Point) (before es : List Entry) → protects p.model ≡ false → All (λ e. e.serial ≤ p.serial) es → Along (Tells p) before es
 all_tell p before [] h a = tt
@@ -250,7 +250,7 @@ module _ (p : Point) where
       by_model (λ q. p.serial ≤ q.serial) (e ∷ es)
       (λ g. at_stop (λ q. p.serial ≤ q.serial) e es
       (λ f h. let fails = found_fails p.model f (e ∷ es) h in
-      not_below f.serial p.serial (λ lt. let t = found_has p.model (λ b. b.serial < p.serial → passes p.model b ≡ true) f (e ∷ es) can.passed h lt in absurd (cc)))
+      not_below f.serial p.serial (λ lt. let t = found_has p.model (λ b. b.serial < p.serial → permits p.model b ≡ true) f (e ∷ es) can.permit h lt in absurd (cc)))
       (λ h. can.near g))
       (λ _. omega arith)
 

@@ -6,22 +6,22 @@ use Rattle.std.specs.Slice.Scan.{HoldsNowhere, holds_at}
 use Rattle.machine_desc.specs.declared.SttModel.{SttModel}
 use Rattle.machine_desc.specs.declared.SttModel.TheVariants.{Spectre, Futuristic, Off}
 use Rattle.window_model.specs.declared.Entry.{Entry}
-use Rattle.window_model.specs.Taint.{passes}
+use Rattle.window_model.specs.Taint.{permits}
 use Rattle.rob_ring.specs.Ring.{Next, is_open, is_unsafe}
 
 -- the next one that is open is where the point stops under the one model,
-pub stops_at_open : (model : SttModel) (es : List Entry) (from : ℕ) (o : Option ℕ) → model ≡ Spectre → Next is_open es from o → Next (λ e. not (passes model e)) es from o
-stops_at_open model es from o q h = subst (λ model. Next (λ e. not (passes model e)) es from o) (sym q) h
+pub stops_at_open : (model : SttModel) (es : List Entry) (from : ℕ) (o : Option ℕ) → model ≡ Spectre → Next is_open es from o → Next (λ e. not (permits model e)) es from o
+stops_at_open model es from o q h = subst (λ model. Next (λ e. not (permits model e)) es from o) (sym q) h
 
 -- under the other the next one that may yet squash what comes after it,
-pub stops_at_unsafe : (model : SttModel) (es : List Entry) (from : ℕ) (o : Option ℕ) → model ≡ Futuristic → Next is_unsafe es from o → Next (λ e. not (passes model e)) es from o
-stops_at_unsafe model es from o q h = subst (λ model. Next (λ e. not (passes model e)) es from o) (sym q) h
+pub stops_at_unsafe : (model : SttModel) (es : List Entry) (from : ℕ) (o : Option ℕ) → model ≡ Futuristic → Next is_unsafe es from o → Next (λ e. not (permits model e)) es from o
+stops_at_unsafe model es from o q h = subst (λ model. Next (λ e. not (permits model e)) es from o) (sym q) h
 
 -- a model that doesn't protect stops nowhere
-pub stops_nowhere : (model : SttModel) (es : List Entry) (from : ℕ) → model ≡ Off → Next (λ e. not (passes model e)) es from None
-stops_nowhere model es from q = subst (λ model. Next (λ e. not (passes model e)) es from None) (sym q) (λ k low high. none es k)
+pub stops_nowhere : (model : SttModel) (es : List Entry) (from : ℕ) → model ≡ Off → Next (λ e. not (permits model e)) es from None
+stops_nowhere model es from q = subst (λ model. Next (λ e. not (permits model e)) es from None) (sym q) (λ k low high. none es k)
   where
-    none : (es : List Entry) (k : ℕ) → holds_at (λ e. not (passes Off e)) es k ≡ false
+    none : (es : List Entry) (k : ℕ) → holds_at (λ e. not (permits Off e)) es k ≡ false
     none [] k = refl
     none (e ∷ es) zero = refl
     none (e ∷ es) (suc k) = none es k

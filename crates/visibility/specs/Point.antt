@@ -5,7 +5,7 @@ use Rattle.machine_desc.specs.declared.SttModel.{SttModel}
 use Rattle.window_model.specs.declared.Entry.{Entry}
 use Rattle.window_model.specs.Along.{Along}
 use Rattle.window_model.specs.Taint.{protects, visible}
-pub use Rattle.window_model.specs.Taint.{passes}
+pub use Rattle.window_model.specs.Taint.{permits}
 
 -- entries up to this serial are visible under this model
 pub record Point : Type 0 where
@@ -39,18 +39,18 @@ abbrev pub serial_of : Option Entry → ℕ → ℕ
 serial_of None next = next
 serial_of (Some e) next = e.serial
 
--- where the point of a model that protects goes: to the oldest entry that doesn't pass, or to the serial after the
--- youngest. An empty window leaves it
+-- where the point of a model that protects goes: to the oldest entry that doesn't permit younger ones to be visible,
+-- or to the serial after the youngest. An empty window leaves it
 abbrev pub stops_at : List Entry → Point → ℕ
-stops_at window p = serial_of (find (λ e. not (passes p.model e)) window) (next_after p.serial window)
+stops_at window p = serial_of (find (λ e. not (permits p.model e)) window) (next_after p.serial window)
 
 -- the point has moved there. That of a model that doesn't protect stays
 abbrev pub moved_over : List Entry → Point → Point
 moved_over window p = record p { serial = if protects p.model then stops_at window p else p.serial }
 
--- the entries below the point let younger ones be visible
-abbrev pub Passed : Point → List Entry → Type 0
-Passed p window = All (λ e. e.serial < p.serial → passes p.model e ≡ true) window
+-- the entries below the point permit younger ones to be visible
+abbrev pub AllPermit : Point → List Entry → Type 0
+AllPermit p window = All (λ e. e.serial < p.serial → permits p.model e ≡ true) window
 
 -- the point isn't past the serial after the youngest
 abbrev pub IsNear : Point → List Entry → Type 0
@@ -62,7 +62,7 @@ IsPoint p window = Along (λ before e. nat_le e.serial p.serial ≡ visible p.mo
 
 -- what the point is before it moves over the window
 pub record CanAdvance (p : Point) (window : List Entry) : Type 0 where
-  pub passed : Passed p window
+  pub permit : AllPermit p window
   pub near : IsNear p window
 
 -- the point once it has moved over a window that isn't empty

@@ -6,7 +6,7 @@ ghost use Rattle.window_model.specs.Serials.{Rise};
 ghost use Rattle.rob_ring.specs.Ring.{Next};
 ghost use Rattle.window_model.specs.Taint.{protects};
 ghost use Rattle.visibility.specs.Point.{
-  passes,
+  permits,
   is_hidden,
   next_after,
   first_point,
@@ -108,7 +108,7 @@ fn first_serial(model: SttModel) -> u64
 
 // The serial of the oldest entry that keeps younger ones from being visible.
 fn find_stop(model: SttModel, rob: &RobRing) -> Option<u64>
-    ensures { result ≡ option_map (λ e. e.serial) (find (λ e. not (passes model e)) rob.now.entries) }
+    ensures { result ≡ option_map (λ e. e.serial) (find (λ e. not (permits model e)) rob.now.entries) }
 {
     match next_stop(model, rob) {
         Some(i) => Some(rob.lend(i).serial),
@@ -119,7 +119,7 @@ fn find_stop(model: SttModel, rob: &RobRing) -> Option<u64>
 // The position at which the point stops: the first entry that isn't settled, or the first that may yet squash what
 // comes after it.
 fn next_stop(model: SttModel, rob: &RobRing) -> Option<u32>
-    ensures { Next (λ e. not (passes model e)) rob.now.entries 0 result }
+    ensures { Next (λ e. not (permits model e)) rob.now.entries 0 result }
 {
     match model {
         SttModel::Spectre => rob.next_open(0),

@@ -1,7 +1,7 @@
 pub mod Worked
 pub mod Before
 pub mod Taints
-pub mod Passing
+pub mod Permitting
 pub mod Booleans
 pub mod Lists
 pub mod Serials

@@ -42,15 +42,15 @@ abbrev pub protects : SttModel → Bool
 protects Off = false
 protects _ = true
 
--- the entry doesn't keep what comes after it from being visible
-abbrev pub passes : SttModel → Entry → Bool
-passes Spectre e = settled e
-passes Futuristic e = safe e
-passes Off e = true
+-- the entry permits what comes after it to be visible: it doesn't keep it from being so
+abbrev pub permits : SttModel → Entry → Bool
+permits Spectre e = settled e
+permits Futuristic e = safe e
+permits Off e = true
 
--- what stands after these entries has reached its visibility point: all of them pass
+-- what stands after these entries has reached its visibility point: all of them permit it
 abbrev pub visible : SttModel → List Entry → Bool
-visible model before = list_all (passes model) before
+visible model before = list_all (permits model) before
 
 -- the oldest j of these entries
 abbrev pub oldest : ℕ → List Entry → List Entry

@@ -3,7 +3,7 @@ what is wrong, a text of the model, what stands there then (or several of each),
 
 HELD = "held = self.d.defence == HOLD and writer.kind == LOAD and not self.is_visible(writer)"
 GIVES = "return writer.state == DONE and not held"
-VISIBLE = "return all(map(self.passes, self.window[:self.window.index(entry)]))"
+VISIBLE = "return all(map(self.permits, self.window[:self.window.index(entry)]))"
 PASSES = "return entry.settled if self.d.model == SPECTRE else entry.safe if self.d.model == FUTURISTIC else True"
 OFF = "self.d.model not in (SPECTRE, FUTURISTIC)"
 KNOWN_ADDRESS = "and entry.address_due is not None\n                and not tainted[entry.serial][0]]"
@@ -42,7 +42,7 @@ WRONG = [
      HELD.replace("not self.is_visible(writer)", "not all(e.settled for e in self.window[:self.window.index(writer)])"),
      ["off_holds_nothing", "held_under_futuristic"]),
     ("`hold` holds a load until it is itself safe", HELD,
-     HELD.replace("not self.is_visible(writer)", "not (self.is_visible(writer) and self.passes(writer))"),
+     HELD.replace("not self.is_visible(writer)", "not (self.is_visible(writer) and self.permits(writer))"),
      ["visible_fault_given"]),
     ("`hold` holds under `spectre` alone", HELD, HELD.replace("HOLD and", "HOLD and self.d.model == SPECTRE and"),
      ["held_under_futuristic"]),
@@ -60,7 +60,7 @@ WRONG = [
      HELD.replace("HOLD and", "HOLD and not self.d.history and not self.d.returns and"),
      ["mixed_settings"]),
     ("under `hold` a store that isn't cleared holds nothing", HELD,
-     HELD.replace("not self.is_visible(writer)", "not all(self.passes(e) or e.kind == STORE for e in self.window[:self.window.index(writer)])"),
+     HELD.replace("not self.is_visible(writer)", "not all(self.permits(e) or e.kind == STORE for e in self.window[:self.window.index(writer)])"),
      ["mixed_settings"]),
     ("`hold` holds bytes and halfwords alone", HELD, HELD.replace("LOAD and", "LOAD and writer.size < 4 and"),
      ["fault_held", "held_under_futuristic", "mixed_settings"]),

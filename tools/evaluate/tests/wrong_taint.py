@@ -7,7 +7,7 @@ SETTLED = "return self.resolved if self.kind in CONTROL else self.cleared"
 FLOWS = "roots[entry.serial] = set().union(*by_source) | ({entry.serial} if entry.kind == LOAD and not visible else set())"
 OWN = "if entry.kind == LOAD and not visible else set()"
 TAINTS = "tainted[entry.serial] = [bool(source) for source in by_source]"
-ORDER = "            visible = visible and self.passes(entry)\n"
+ORDER = "            visible = visible and self.permits(entry)\n"
 ABLE = "and not any(tainted[entry.serial])]\n        if not able:\n            return []\n        entry, item"
 DIVIDES = "if entry.kind == DIVISION and (any(tainted[entry.serial]) or"
 LOADS = "if entry.kind == LOAD and (tainted[entry.serial][0] or not"
@@ -92,7 +92,7 @@ WRONG = [
      ["off_clears_at_once", "fault_shadow"]),
     ("what a load reads is tainted until it is visible and Done", OWN, OWN.replace("not visible", "not (visible and entry.state == DONE)"),
      ["older_tainted_address", "mixed_settings"]),
-    ("what a load reads is tainted until it is safe itself", FLOWS, FLOWS.replace("not visible", "not (visible and self.passes(entry))"),
+    ("what a load reads is tainted until it is safe itself", FLOWS, FLOWS.replace("not visible", "not (visible and self.permits(entry))"),
      ["taint_through_division", "mixed_any_address_1"]),
     ("the 0 of a load that faults isn't tainted", OWN, OWN.replace("LOAD and", "LOAD and entry.fault is None and"),
      ["waiting_jalr_is_unsafe", "uncleared_fault_hides", "taint_through_division"]),
