@@ -1,12 +1,13 @@
 -- Where the visibility point needn't move: it says of what a phase leaves which entries are visible, as it said of the
 -- window before.
-use Rattle.std.proofs.Common.{◌≡◌, ◌++◌, List, [], length, ap, sym, subst, arith}
+use Rattle.std.proofs.Common.{◌≡◌, ◌++◌, List, [], length, ap, sym, subst, ◌∙◌, arith}
 use Rattle.std.proofs.lemmas.List.{length-append, nil_from_length}
 use Rattle.std.specs.List.{AllByRecursion as Each}
 use Rattle.machine_desc.specs.declared.Desc.{Desc}
+use Rattle.machine_desc.specs.declared.SttModel.TheVariants.{Futuristic}
 use Rattle.window_model.specs.declared.Event.{Event}
 use Rattle.window_model.specs.Clear.{clear}
-use Rattle.window_model.specs.Fill.{complete}
+use Rattle.window_model.specs.Fill.{complete, fill}
 use Rattle.window_model.specs.Rename.{rename, CallAlone}
 use Rattle.window_model.specs.Resolve.{resolve}
 use Rattle.window_model.specs.Row.{Row}
@@ -18,7 +19,7 @@ use Rattle.rob_ring.specs.Ring.{Ring}
 use Rattle.retire.specs.Gone.{gone, MayRetire}
 use Rattle.core_parts.specs.Described.{Described}
 use Rattle.core_parts.specs.Held.{Held, Whole, described}
-use Rattle.core_cycle.proofs.Advanced.{retire_advanced}
+use Rattle.core_cycle.proofs.Advanced.{complete_advanced, retire_advanced}
 
 -- ---- a phase without events leaves the window as it was
 
@@ -70,3 +71,16 @@ retire_goes_on h rob v w left m s a =
 -- a point that has moved over a machine's window has done so once the parts hold that machine
 pub described_advanced : (s s1 : Described) (x : Machine) → s1 ≡ record s { machine = x } → HasAdvanced s.point x.window → HasAdvanced s1.point s1.machine.window
 described_advanced s s1 x e a = subst (λ (s : Described). HasAdvanced s.point s.machine.window) (sym e) a
+
+module _ (s s1 s2 : Described) (filled : s1 ≡ record s { machine = (fill s.desc s.machine).machine }) (completed : s2 ≡ record s1 { machine = (complete s1.machine).machine })
+    (a : HasAdvanced s.point s.machine.window) where
+  -- after Fill and Complete a point that had moved over the window has done so under each model but Futuristic
+  pub completed_advanced : (s2.point.model ≡ Futuristic → ⊥) → HasAdvanced s2.point s2.machine.window
+  completed_advanced other =
+      described_advanced s1 s2 _ completed
+      (complete_advanced s1.point s1.machine (λ q. other (ap (λ (t : Described). t.point.model) completed ∙ q)) (described_advanced s s1 _ filled a))
+
+  -- after Fill and a Complete without events a point that had moved over the window has done so
+  pub completed_silent : (old new : Row) → new ≡ record old { events = old.events ++ (complete s1.machine).events } → length new.events ≡ length old.events → HasAdvanced s2.point s2.machine.window
+  completed_silent old new e same =
+      described_advanced s1 s2 _ completed (complete_silent s1.point s1.machine old new same (described_advanced s s1 _ filled a) e)

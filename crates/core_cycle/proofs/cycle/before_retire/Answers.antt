@@ -1,21 +1,15 @@
 use Rattle.std.proofs.Common.{ap, ◌∙◌, length}
-use Rattle.core_parts.specs.Described.{Described}
-use Rattle.core_cycle.proofs.Advanced.{complete_advanced}
-use Rattle.core_cycle.proofs.Moving.{clear_silent, complete_silent, described_advanced, resolve_silent}
+use Rattle.core_cycle.proofs.Moving.{clear_silent, completed_advanced, completed_silent, described_advanced, resolve_silent}
 use Rattle.core_cycle.proofs.Fronts.{fronts_machine, fronts_row}
 use Rattle.core_cycle.proofs.cycle.before_retire.Goals as goal
 
 pub advance_after_complete-requires-clause-undone : goal.advance_after_complete-requires-clause-undone
-advance_after_complete-requires-clause-undone g c = λ other.
-    described_advanced c.fill.new.parts c.complete.new.parts _ c.complete.ensures.machine
-    (complete_advanced c.fill.new.parts.point c.fill.new.parts.machine (λ q. other (ap (λ (s : Described). s.point.model) c.complete.ensures.machine ∙ q))
-    (described_advanced c.args.parts.now c.fill.new.parts _ c.fill.ensures.machine c.requires.advanced))
+advance_after_complete-requires-clause-undone g c = completed_advanced c.args.parts.now c.fill.new.parts c.complete.new.parts c.fill.ensures.machine c.complete.ensures.machine c.requires.advanced
 
 pub advance_after_complete-requires-clause-advanced : goal.advance_after_complete-requires-clause-advanced
 advance_after_complete-requires-clause-advanced g c = λ same.
-    described_advanced c.fill.new.parts c.complete.new.parts _ c.complete.ensures.machine
-    (complete_silent _ c.fill.new.parts.machine c.fill.new.row c.complete.new.row (same ∙ ap length c.events-filled.ensures.value)
-    (described_advanced c.args.parts.now c.fill.new.parts _ c.fill.ensures.machine c.requires.advanced) c.complete.ensures.row)
+    completed_silent c.args.parts.now c.fill.new.parts c.complete.new.parts c.fill.ensures.machine c.complete.ensures.machine c.requires.advanced
+    c.fill.new.row c.complete.new.row c.complete.ensures.row (same ∙ ap length c.events-filled.ensures.value)
 
 pub advance_after-requires : goal.advance_after-requires
 advance_after-requires g c = record {
