@@ -1,12 +1,13 @@
 use Rattle.std.proofs.Common.{◌≡◌, ap, ◌∙◌, None, length, refl, subst, sym}
 use Rattle.core_parts.specs.Described.{Described}
 use Rattle.core_cycle.proofs.Moving.{clear_silent, completed_advanced, completed_silent, described_advanced, resolve_silent}
-use Rattle.core_cycle.proofs.Fronts.{fronts_machine, fronts_row}
+use Rattle.core_cycle.proofs.Fronts.{Resolved, fronts_machine, fronts_row}
 use Rattle.secret_marks.specs.Shown.{resolved_shown}
 use Rattle.marked_core.proofs.Unexposed.{complete_unexposed}
 use Rattle.marked_core.proofs.Lengths.{complete_keeps}
 use Rattle.marked_core.proofs.Steps.{over_phase, over_point}
 use Rattle.marked_core.proofs.Watching.{front_marks, front_shows}
+use Rattle.marked_core.proofs.halves.before_retire.Given as given
 use Rattle.marked_core.proofs.halves.before_retire.Goals as goal
 
 pub advance_after_complete-requires-clause-undone : goal.advance_after_complete-requires-clause-undone
@@ -49,53 +50,31 @@ advance_after-requires-2 g c = record {
       c.advance_after.ensures.advanced c.advance_after.new.parts.desc c.clear_marked.ensures.row);
 }
 
+-- the parts as the phases before Clear leave them
+front : (g : given.Over) (c : goal.After-advance_after-2 g) → Resolved c.args.parts.now c.fill.new.parts c.complete.new.parts c.advance_after_complete.new.parts c.resolve_marked-shown.new.parts c.advance_after.new.parts
+front g c = record {
+  filled = c.fill.ensures.machine;
+  completed = c.complete.ensures.machine;
+  moved = c.advance_after_complete.ensures.others;
+  resolved = c.resolve_marked-shown.ensures.machine;
+  moved_again = c.advance_after.ensures.others;
+}
+
 pub returns-clause-machine : goal.returns-clause-machine
 returns-clause-machine g c =
-    fronts_machine c.args.parts.now c.fill.new.parts c.complete.new.parts c.advance_after_complete.new.parts c.resolve_marked-shown.new.parts c.advance_after.new.parts
-    (record {
-      filled = c.fill.ensures.machine;
-      completed = c.complete.ensures.machine;
-      moved = c.advance_after_complete.ensures.others;
-      resolved = c.resolve_marked-shown.ensures.machine;
-      moved_again = c.advance_after.ensures.others;
-    })
-    c.clear_marked.new.parts c.advance_after-2.new.parts c.clear_marked.ensures.machine c.advance_after-2.ensures.others
+    fronts_machine _ _ _ _ _ _ (front g c) c.clear_marked.new.parts c.advance_after-2.new.parts c.clear_marked.ensures.machine c.advance_after-2.ensures.others
 
 pub returns-clause-row : goal.returns-clause-row
 returns-clause-row g c =
-    fronts_row c.args.parts.now c.fill.new.parts c.complete.new.parts c.advance_after_complete.new.parts c.resolve_marked-shown.new.parts c.advance_after.new.parts
-    (record {
-      filled = c.fill.ensures.machine;
-      completed = c.complete.ensures.machine;
-      moved = c.advance_after_complete.ensures.others;
-      resolved = c.resolve_marked-shown.ensures.machine;
-      moved_again = c.advance_after.ensures.others;
-    })
-    c.args.row.now c.fill.new.row c.complete.new.row c.resolve_marked-shown.new.row c.clear_marked.new.row c.fill.ensures.row c.complete.ensures.row c.resolve_marked-shown.ensures.row c.clear_marked.ensures.row
+    fronts_row _ _ _ _ _ _ (front g c) c.args.row.now c.fill.new.row c.complete.new.row c.resolve_marked-shown.new.row c.clear_marked.new.row c.fill.ensures.row c.complete.ensures.row c.resolve_marked-shown.ensures.row c.clear_marked.ensures.row
 
 pub returns-clause-marks : goal.returns-clause-marks
 returns-clause-marks g c =
-    front_marks c.args.parts.now c.fill.new.parts c.complete.new.parts c.advance_after_complete.new.parts c.resolve_marked-shown.new.parts c.advance_after.new.parts
-    (record {
-      filled = c.fill.ensures.machine;
-      completed = c.complete.ensures.machine;
-      moved = c.advance_after_complete.ensures.others;
-      resolved = c.resolve_marked-shown.ensures.machine;
-      moved_again = c.advance_after.ensures.others;
-    })
-    _ _ c.resolve_marked-shown.ensures.marks c.clear_marked.new.parts c.clear_marked.ensures.machine _ c.clear_marked.ensures.marks
+    front_marks _ _ _ _ _ _ (front g c) _ _ c.resolve_marked-shown.ensures.marks c.clear_marked.new.parts c.clear_marked.ensures.machine _ c.clear_marked.ensures.marks
 
 pub returns-clause-shown : goal.returns-clause-shown
 returns-clause-shown g c =
-    front_shows c.args.parts.now c.fill.new.parts c.complete.new.parts c.advance_after_complete.new.parts c.resolve_marked-shown.new.parts c.advance_after.new.parts
-    (record {
-      filled = c.fill.ensures.machine;
-      completed = c.complete.ensures.machine;
-      moved = c.advance_after_complete.ensures.others;
-      resolved = c.resolve_marked-shown.ensures.machine;
-      moved_again = c.advance_after.ensures.others;
-    })
-    _ _ c.resolve_marked-shown.ensures.marks _ c.resolve_marked-shown.ensures.shown
+    front_shows _ _ _ _ _ _ (front g c) _ _ c.resolve_marked-shown.ensures.marks _ c.resolve_marked-shown.ensures.shown
 
 pub returns-clause-step : goal.returns-clause-step
 returns-clause-step g c = over_point c.clear_marked.new.parts c.advance_after-2.new.parts _ _ c.advance_after-2.ensures.others c.clear_marked.ensures.step
