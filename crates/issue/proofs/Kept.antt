@@ -97,9 +97,3 @@ may_not s p h =
     let e = p.entry.now in
     let asks = is_waiting e.state && ready s.desc.now (before_of s p) e in
     ap (λ b. asks && b) (issue_lacks s.desc.now (around_of s) (before_of s p) e e.item.kind h) ∙ and-false asks
-
--- an entry that isn't kept and is no load has what it asks for besides
-pub besides_no_load : (s : Seen) (p : Candidate) (k : Kind) → (k ≡ Load → ⊥) → kept_as k s p ≡ false → asks_besides k s.desc.now (around_of s) (before_of s p) p.entry.now ≡ true
-besides_no_load s p Load n h = absurd (n refl)
-besides_no_load s p Div n h = not_true (is_free (around_of s)) h
-besides_no_load s p _ n h = refl

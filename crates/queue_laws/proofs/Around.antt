@@ -1,9 +1,9 @@
 -- The loads and stores of a window around one of its entries.
-use Rattle.std.proofs.Common.{◌≡◌, ◌≢◌, ℕ, zero, suc, ◌<◌, true, cond, List, [], ◌∷◌, ◌++◌, Some, ap, ◌∙◌, arith, slice_get}
-use Rattle.std.specs.Prelude.{map, take, drop}
+use Rattle.std.proofs.Common.{◌≡◌, ◌≢◌, ◌<◌, true, cond, List, [], ◌∷◌, ◌++◌, ap, ◌∙◌, arith}
+use Rattle.std.specs.Prelude.{map}
 use Rattle.std.specs.List.{filter}
 use Rattle.std.proofs.lemmas.List.{map-append}
-use Rattle.std.proofs.lemmas.List.Elements.{filter-append, All-cons, All-head, All-nil, All-weaker}
+use Rattle.std.proofs.lemmas.List.Elements.{filter-append, All-cons, All-head, All-nil}
 use Rattle.window_model.specs.declared.Entry.{Entry}
 use Rattle.window_model.specs.Order.{is_store}
 use Rattle.window_model.specs.Serials.{Rise}
@@ -30,14 +30,3 @@ others_older [] e younger r = All-nil (λ d. d.serial ≢ e.serial)
 others_older (x ∷ older) e younger r =
     let lt : x.serial < e.serial = All-head (λ d. x.serial < d.serial) e younger (all_right (λ d. x.serial < d.serial) older (e ∷ younger) (rise_head x (older ++ e ∷ younger) r)) in
     All-cons (λ d. d.serial ≢ e.serial) x older (omega (arith, lt)) (others_older older e younger (rise_tail x (older ++ e ∷ younger) r))
-
--- no younger entry has the serial of an entry
-pub others_younger : (older : List Entry) (e : Entry) (younger : List Entry) → Rise (older ++ e ∷ younger) → Others e.serial younger
-others_younger [] e younger r = All-weaker (λ d. e.serial < d.serial) (λ d. d.serial ≢ e.serial) (λ d lt. omega (arith, lt)) younger (rise_head e younger r)
-others_younger (x ∷ older) e younger r = others_younger older e younger (rise_tail x (older ++ e ∷ younger) r)
-
--- a window is what is older than an entry, the entry, and what is younger
-pub split_at : (entries : List Entry) (i : ℕ) (e : Entry) → slice_get entries i ≡ Some e → entries ≡ take i entries ++ e ∷ drop (suc i) entries
-split_at [] i e h = absurd (cc)
-split_at (x ∷ entries) zero e h = let q : x ≡ e = cc in ap (λ x. x ∷ entries) q
-split_at (x ∷ entries) (suc i) e h = ap (λ es. x ∷ es) (split_at entries i e h)
