@@ -2,7 +2,6 @@ pub mod State
 pub mod Telling
 pub mod Operands
 pub mod Pending
-pub mod Accesses
 pub mod Ports
 pub mod Turns
 pub mod Puts

@@ -5,8 +5,7 @@ use window_model::{Access, Line, Lines, Request, line_of, upper_line};
 impl<'a> Seen<'a> {
     ghost use Rattle.std.specs.Prelude.{◌≡◌, ◌==◌, ◌≤◌, ◌<◌, ◌+◌, ◌^◌, IsTrue};
     ghost use Rattle.std.specs.List.{find};
-    ghost use Rattle.window_model.specs.Access.{joined, line_behind, look_up, looked_up, prefetched, prefetches, request, unless_lacking};
-    ghost use Rattle.issue.specs.Accesses.{found};
+    ghost use Rattle.window_model.specs.Access.{joined, line_behind, look_up, looked_up, prefetched, prefetches, request, unless_forwarded, unless_lacking};
     ghost use Rattle.issue.specs.State.{IssueInvariant, around_of};
 
     // A line that takes a miss register: it comes from the second level, where that has it.
@@ -102,7 +101,7 @@ impl<'a> Seen<'a> {
         requires stands { IssueInvariant self.now }
         requires some { 0 < bytes }
         requires within { addr + bytes ≤ 2 ^ 32 }
-        ensures { result ≡ found self.now.desc.now (around_of self.now) forwarded addr bytes }
+        ensures { result ≡ unless_forwarded self.now.desc.now (around_of self.now) forwarded addr bytes }
     {
         if forwarded {
             return Access::Forwards;

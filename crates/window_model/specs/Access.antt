@@ -130,13 +130,16 @@ abbrev pub unless_lacking : Desc → Around → Lines → Access
 unless_lacking d now found =
     if nat_le (length now.misses + length (requests found)) d.cache_mshrs then Looks found (prefetched d now found) else Waits
 
+-- an access of n bytes without fault: wholly forwarded, else what becomes of its lines
+abbrev pub unless_forwarded : Desc → Around → Bool → ℕ → ℕ → Access
+unless_forwarded d now forwarded a n = if forwarded then Forwards else unless_lacking d now (looked_up d now a n)
+
 -- what an access comes to: a fault where there is one, else forwarded where older stores cover all and none has a
 -- tainted address, else its lines
 abbrev pub access_at : Desc → Around → List Entry → ℕ → ℕ → Option Cause → Access
 access_at d now before a n (Some cause) = Faults cause
 access_at d now before a n None =
-    if all_covered before a n && not (any_store_hidden d.stt_model before) then Forwards
-    else unless_lacking d now (looked_up d now a n)
+    unless_forwarded d now (all_covered before a n && not (any_store_hidden d.stt_model before)) a n
 
 -- what an access of n bytes at an address comes to
 abbrev pub access : Desc → Around → List Entry → ℕ → ℕ → Access

@@ -1,8 +1,8 @@
 use Rattle.std.proofs.Common.{◌∙◌, ap, ap₂, arith}
 use Rattle.rv_types.specs.Value.{extend}
 use Rattle.visibility.specs.Point.{is_hidden}
+use Rattle.window_model.specs.Access.{unless_forwarded}
 use Rattle.window_model.proofs.Memory.{inside}
-use Rattle.issue.specs.Accesses.{found}
 use Rattle.issue.specs.Pending.{passes_here}
 use Rattle.issue.specs.State.{around_of}
 use Rattle.issue.proofs.Bytes.{forwarded_is, number_is}
@@ -24,7 +24,7 @@ returns-clause-access c =
     let t = c.requires.turn in
     let forwarded = forwarded_is s _ _ t.stands t.at (passes_here s c.args.candidate.now) c.args.request.now.addr _ _ _ c.requires.size c.requires.lets
     c.merge-merged.ensures.covered (ap (is_hidden s.point.now.serial) c.merge-merged.ensures.root) in
-    c.find.ensures ∙ ap₂ (λ b n. found s.desc.now (around_of s) b c.args.request.now.addr n) (c.is_forwarded-forwarded.ensures ∙ forwarded) c.bytes.ensures.value
+    c.find.ensures ∙ ap₂ (λ b n. unless_forwarded s.desc.now (around_of s) b c.args.request.now.addr n) (c.is_forwarded-forwarded.ensures ∙ forwarded) c.bytes.ensures.value
 
 pub returns-clause-value : goal.returns-clause-value
 returns-clause-value c =
