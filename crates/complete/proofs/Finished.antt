@@ -10,7 +10,7 @@ use Rattle.window_model.specs.Order.{is_waiting}
 use Rattle.window_model.proofs.Booleans.{some_of}
 use Rattle.window_model.proofs.Lists.{set_here}
 use Rattle.machine_facts.proofs.Parts.{IsEntry}
-use Rattle.rob_ring.specs.Ring.{IsNext, Ring, is_busy}
+use Rattle.rob_ring.specs.Ring.{IsNext, Ring, in_execution}
 use Rattle.stations.specs.Stations.{Stations}
 use Rattle.refinement.specs.Stations.{struck_if_given}
 use Rattle.refinement.specs.Telling.{hold_of}
@@ -95,8 +95,8 @@ pub told_here : (h : Held) (v : Described) (i : ℕ) (b : Bool) → Whole h → 
 told_here h v i b w s t = subst (λ (v : Described). option_map (completes v.machine.cycle) (slice_get v.machine.window i) ≡ Some b) s t
 
 -- the next entry that executes in the parts is the next one in the machine's window
-pub next_here : (h : Held) (v : Described) (from i : ℕ) → Whole h → described h ≡ v → IsNext is_busy h.rob.entries from i → IsNext is_busy v.machine.window from i
-next_here h v from i w s t = subst (λ (v : Described). IsNext is_busy v.machine.window from i) s t
+pub next_here : (h : Held) (v : Described) (from i : ℕ) → Whole h → described h ≡ v → IsNext in_execution h.rob.entries from i → IsNext in_execution v.machine.window from i
+next_here h v from i w s t = subst (λ (v : Described). IsNext in_execution v.machine.window from i) s t
 
-pub none_here : (h : Held) (v : Described) (from : ℕ) → Whole h → described h ≡ v → HoldsNowhere (holds_at is_busy h.rob.entries) from (length h.rob.entries) → HoldsNowhere (holds_at is_busy v.machine.window) from (length v.machine.window)
-none_here h v from w s t = subst (λ (v : Described). HoldsNowhere (holds_at is_busy v.machine.window) from (length v.machine.window)) s t
+pub none_here : (h : Held) (v : Described) (from : ℕ) → Whole h → described h ≡ v → HoldsNowhere (holds_at in_execution h.rob.entries) from (length h.rob.entries) → HoldsNowhere (holds_at in_execution v.machine.window) from (length v.machine.window)
+none_here h v from w s t = subst (λ (v : Described). HoldsNowhere (holds_at in_execution v.machine.window) from (length v.machine.window)) s t

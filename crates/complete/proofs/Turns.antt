@@ -11,8 +11,9 @@ use Rattle.window_model.specs.declared.Event.TheVariants as event
 use Rattle.window_model.specs.declared.Progress.{Progress}
 use Rattle.window_model.specs.declared.Progress.TheVariants.{Waiting, Busy, Done}
 use Rattle.window_model.specs.Fill.{complete, completes, completes_at, completed}
+use Rattle.window_model.specs.Order.{is_busy}
 use Rattle.window_model.specs.Row.{Row}
-use Rattle.rob_ring.specs.Ring.{IsNext, in_execution, is_busy}
+use Rattle.rob_ring.specs.Ring.{IsNext, in_execution}
 use Rattle.window_model.proofs.Booleans.{some_of}
 use Rattle.rob_ring.proofs.Gaps.{to_end, to_next}
 use Rattle.refinement.proofs.Lists.{halves}
@@ -95,7 +96,7 @@ told_of : (p : Entry → Bool) (o : Option Entry) (e : Entry) (b : Bool) → opt
 told_of p o e b h g = let k : Some b ≡ Some (p e) = sym h ∙ ap (option_map p) g in cc
 
 -- an entry that doesn't execute isn't due
-not_due : (cycle : ℕ) (s : Progress) → in_execution s ≡ false → completes_at cycle s ≡ false
+not_due : (cycle : ℕ) (s : Progress) → is_busy s ≡ false → completes_at cycle s ≡ false
 not_due cycle Waiting h = refl
 not_due cycle (Busy due) h = absurd (cc)
 not_due cycle Done h = refl
@@ -168,7 +169,7 @@ module _ (s : Described) (row : Row) (i : ℕ) (now : Described) (row_now : Row)
   completes_past due = past_by (slice_get now.machine.window i) refl due
 
   -- the phase goes on over an entry that doesn't execute, and all stays
-  past_idle : (e : Entry) → slice_get now.machine.window i ≡ Some e → is_busy e ≡ false → CompletesOn s row (i + 1) now row_now
+  past_idle : (e : Entry) → slice_get now.machine.window i ≡ Some e → in_execution e ≡ false → CompletesOn s row (i + 1) now row_now
   past_idle e at idle = completes_past (ap (option_map (completes now.machine.cycle)) at ∙ ap Some (not_due now.machine.cycle e.state idle))
 
   -- the phase leaves as many entries as there were
@@ -208,11 +209,11 @@ many_then v next i n serial m = many_by v next i n (slice_get v.machine.window i
 -- ---- from one that executes to the next
 
 module _ (s : Described) (row : Row) (now : Described) (row_now : Row) where
-  pub completes_to : (i j : ℕ) → IsNext is_busy now.machine.window i j → CompletesOn s row i now row_now → CompletesOn s row j now row_now
-  completes_to i j next c = to_next is_busy now.machine.window (λ k. CompletesOn s row k now row_now) (λ k e at idle c. past_idle s row k now row_now c e at idle) i j next c
+  pub completes_to : (i j : ℕ) → IsNext in_execution now.machine.window i j → CompletesOn s row i now row_now → CompletesOn s row j now row_now
+  completes_to i j next c = to_next in_execution now.machine.window (λ k. CompletesOn s row k now row_now) (λ k e at idle c. past_idle s row k now row_now c e at idle) i j next c
 
-  pub completes_end : (i : ℕ) → i ≤ length now.machine.window → HoldsNowhere (holds_at is_busy now.machine.window) i (length now.machine.window) → CompletesOn s row i now row_now →
+  pub completes_end : (i : ℕ) → i ≤ length now.machine.window → HoldsNowhere (holds_at in_execution now.machine.window) i (length now.machine.window) → CompletesOn s row i now row_now →
       CompletesOn s row (length now.machine.window) now row_now
-  completes_end i le none c = to_end is_busy now.machine.window (λ k. CompletesOn s row k now row_now) (λ k e at idle c. past_idle s row k now row_now c e at idle) i le none c
+  completes_end i le none c = to_end in_execution now.machine.window (λ k. CompletesOn s row k now row_now) (λ k e at idle c. past_idle s row k now row_now c e at idle) i le none c
 
 -- ---- what is due doesn't wait

@@ -15,11 +15,11 @@ use Rattle.window_model.specs.declared.Progress.{Progress}
 use Rattle.window_model.specs.declared.Progress.TheVariants.{Waiting, Busy, Done}
 use Rattle.window_model.specs.Access.{covers}
 use Rattle.window_model.specs.MayIssue.{address_of, bytes_of, effect_of, first_operand, goes_behind, lets, passes_stores, second_operand, stores_done, stores_let}
-use Rattle.window_model.specs.Order.{before_at, has_address, has_data, is_done, is_store, is_waiting, sources}
+use Rattle.window_model.specs.Order.{before_at, has_address, has_data, is_busy, is_done, is_store, is_waiting, sources}
 use Rattle.window_model.specs.Retire.{byte_count}
 use Rattle.window_model.specs.Taint.{address_tainted}
 use Rattle.machine_facts.specs.Sized.{HasParts, Together}
-use Rattle.machine_facts.specs.Timely.{WaitsOrDone, is_busy}
+use Rattle.machine_facts.specs.Timely.{WaitsOrDone}
 use Rattle.machine_facts.proofs.GoesBehind.{goes_as_let}
 use Rattle.lsq.specs.Queues.{is_known}
 use Rattle.queue_laws.specs.Window.{all_complete}

@@ -12,10 +12,10 @@ use Rattle.window_model.specs.Around.{Around}
 use Rattle.machine_desc.specs.Questions.{loads_pass}
 use Rattle.window_model.specs.Dependence.{waits_for_stores}
 use Rattle.window_model.specs.MayIssue.{bytes_of, goes_behind, lets, passes_stores, stores_done, stores_let}
-use Rattle.window_model.specs.Order.{has_address, has_data, is_done, is_store, is_waiting}
+use Rattle.window_model.specs.Order.{has_address, has_data, is_busy, is_done, is_store, is_waiting}
 use Rattle.window_model.specs.Taint.{address_tainted}
 use Rattle.machine_facts.specs.Sized.{HasParts, Together}
-use Rattle.machine_facts.specs.Timely.{WaitsOrDone, is_busy}
+use Rattle.machine_facts.specs.Timely.{WaitsOrDone}
 
 -- ---- version 1 has no bits of dependence
 

@@ -10,7 +10,7 @@ use Rattle.window_model.specs.declared.Entry.{Entry}
 use Rattle.window_model.specs.declared.Progress.{Progress}
 use Rattle.window_model.specs.declared.Progress.TheVariants.{Waiting, Busy, Done}
 use Rattle.window_model.specs.State.{Machine}
-use Rattle.window_model.specs.Order.{is_store}
+use Rattle.window_model.specs.Order.{is_busy, is_store}
 use Rattle.window_model.specs.Fill.{completes, completes_at, completed}
 use Rattle.window_model.specs.Resolve.{resolve}
 use Rattle.window_model.specs.Retire.{retire}
@@ -19,7 +19,7 @@ use Rattle.window_model.proofs.Placing.{place_keep}
 use Rattle.window_model.proofs.Walks.{retire_keep, head_drops}
 use Rattle.machine_facts.proofs.ClearPhases.{clear_settles}
 use Rattle.machine_facts.specs.Laws.{NoStoreIsBusy}
-use Rattle.machine_facts.specs.Timely.{DueSoon, IsDue, WaitsOrDone, is_busy, latency}
+use Rattle.machine_facts.specs.Timely.{DueSoon, IsDue, WaitsOrDone, latency}
 
 -- ---- Complete: a store that is busy between two cycles is due in the next one
 

@@ -12,7 +12,7 @@ use Rattle.window_model.specs.declared.Miss.{Miss}
 use Rattle.window_model.specs.declared.Progress.{Progress}
 use Rattle.window_model.specs.declared.Progress.TheVariants.{Busy}
 use Rattle.window_model.specs.State.{Machine}
-use Rattle.window_model.specs.Order.{is_done, is_faulty, is_store}
+use Rattle.window_model.specs.Order.{is_busy, is_done, is_faulty, is_store}
 use Rattle.window_model.specs.Rename.{is_stop}
 use Rattle.window_model.specs.Dependence.{needs_clearing}
 
@@ -40,11 +40,6 @@ IsSoon past cycle longest due = (past < due) × (due ≤ cycle + longest)
 abbrev pub DueSoon : ℕ → ℕ → ℕ → Progress → Type 0
 DueSoon past cycle longest (Busy due) = IsSoon past cycle longest due
 DueSoon past cycle longest _ = Unit {0}
-
--- an entry of this progress is executing
-abbrev pub is_busy : Progress → Bool
-is_busy (Busy due) = true
-is_busy _ = false
 
 -- an entry that is a store waits, or is Done
 abbrev pub WaitsOrDone : Entry → Type 0

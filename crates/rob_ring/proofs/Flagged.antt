@@ -11,9 +11,10 @@ use Rattle.circular_buffer.specs.Buffer.{Buffer, buffer}
 use Rattle.window_model.specs.declared.Entry.{Entry}
 use Rattle.window_model.specs.declared.Progress.TheVariants.{Done}
 use Rattle.window_model.specs.Clear.{cleared_one}
+use Rattle.window_model.specs.Order.{is_busy}
 use Rattle.rob_ring.specs.declared.issued.Issued.{Issued}
 use Rattle.rob_ring.specs.Issued.{as_resolved, with_issued}
-use Rattle.rob_ring.specs.Ring.{Ring, Next, in_execution, is_busy, is_open, is_unsafe}
+use Rattle.rob_ring.specs.Ring.{Ring, Next, in_execution, is_open, is_unsafe}
 use Rattle.word_bits.specs.Bits.{NextBit, one_if}
 use Rattle.rob_ring.specs.Flags.{Flagged, FlagsOf, flag_at}
 
@@ -121,19 +122,19 @@ module _ (es : List Entry) (room : ℕ) (busy open_ones unsafes : List ℕ) (m :
   pub next_seen : (p : Entry → Bool) (from : ℕ) (o : Option ℕ) → Next p es from o → Next p r.entries from o
   next_seen p from o h = subst (λ (r : Ring). Next p r.entries from o) seen h
 
-  pub set_flagged : (i : ℕ) (e : Entry) (b c d : Bool) (busy2 open2 unsafe2 : List ℕ) → i < length r.entries → b ≡ is_busy e → c ≡ is_open e → d ≡ is_unsafe e →
+  pub set_flagged : (i : ℕ) (e : Entry) (b c d : Bool) (busy2 open2 unsafe2 : List ℕ) → i < length r.entries → b ≡ in_execution e → c ≡ is_open e → d ≡ is_unsafe e →
       flag_at busy2 i ≡ one_if b → ((k : ℕ) → k ≢ i → flag_at busy2 k ≡ flag_at busy k) → flag_at open2 i ≡ one_if c → ((k : ℕ) → k ≢ i → flag_at open2 k ≡ flag_at open_ones k) →
       flag_at unsafe2 i ≡ one_if d → ((k : ℕ) → k ≢ i → flag_at unsafe2 k ≡ flag_at unsafes k) → Flagged (slice_set es i e) room busy2 open2 unsafe2
   set_flagged i e b c d busy2 open2 unsafe2 lt is_b is_c is_d h g j f u v = record {
     few = m.few;
     within = let long = length-set es i e in let w = m.within in omega (arith, long, w);
-    busy_is = put_is is_busy es busy m.busy_is i e b busy2 (within_ring i lt) is_b h g;
+    busy_is = put_is in_execution es busy m.busy_is i e b busy2 (within_ring i lt) is_b h g;
     open_is = put_is is_open es open_ones m.open_is i e c open2 (within_ring i lt) is_c j f;
     unsafe_is = put_is is_unsafe es unsafes m.unsafe_is i e d unsafe2 (within_ring i lt) is_d u v;
   }
 
   -- an entry that begins or is done isn't opened or resolved by that; whether it is safe is told
-  change_flagged : (f : Entry → Entry) (b : Bool) → ((d : Entry) → b ≡ is_busy (f d)) → ((d : Entry) → is_open (f d) ≡ is_open d) → (i : ℕ) (busy2 unsafe2 : List ℕ) (c : Bool) (es2 : List Entry) (room2 : ℕ) → i < length r.entries →
+  change_flagged : (f : Entry → Entry) (b : Bool) → ((d : Entry) → b ≡ in_execution (f d)) → ((d : Entry) → is_open (f d) ≡ is_open d) → (i : ℕ) (busy2 unsafe2 : List ℕ) (c : Bool) (es2 : List Entry) (room2 : ℕ) → i < length r.entries →
       flag_at busy2 i ≡ one_if b → ((k : ℕ) → k ≢ i → flag_at busy2 k ≡ flag_at busy k) → flag_at unsafe2 i ≡ one_if c → ((k : ℕ) → k ≢ i → flag_at unsafe2 k ≡ flag_at unsafes k) →
       ((e : Entry) → slice_get es i ≡ Some e → c ≡ is_unsafe (f e)) →
       ((e : Entry) → slice_get es i ≡ Some e → buffer es2 room2 ≡ buffer (slice_set es i (f e)) room) → Flagged es2 room2 busy2 open_ones unsafe2
@@ -148,13 +149,13 @@ module _ (es : List Entry) (room : ℕ) (busy open_ones unsafes : List ℕ) (m :
           subst (λ (b : Buffer Entry). Flagged b.items b.capacity busy2 open_ones unsafe2) (sym (wrote d at)) (record {
             few = m.few;
             within = let long = length-set es i e in let w = m.within in omega (arith, long, w);
-            busy_is = put_is is_busy es busy m.busy_is i e b busy2 (within_ring i lt) (is_b d) h g;
+            busy_is = put_is in_execution es busy m.busy_is i e b busy2 (within_ring i lt) (is_b d) h g;
             open_is = stays is_open es open_ones m.open_is i d e at (same d);
             unsafe_is = put_is is_unsafe es unsafes m.unsafe_is i e c unsafe2 (within_ring i lt) (tells d at) u v;
           })
 
   -- the bits are those of the entries once something issues of one, which is as safe as it was
-  pub issue_flagged : (o : Issued) (b : Bool) (i : ℕ) (busy2 : List ℕ) (es2 : List Entry) (room2 : ℕ) → i < length r.entries → b ≡ in_execution o.state → flag_at busy2 i ≡ one_if b → ((k : ℕ) → k ≢ i → flag_at busy2 k ≡ flag_at busy k) →
+  pub issue_flagged : (o : Issued) (b : Bool) (i : ℕ) (busy2 : List ℕ) (es2 : List Entry) (room2 : ℕ) → i < length r.entries → b ≡ is_busy o.state → flag_at busy2 i ≡ one_if b → ((k : ℕ) → k ≢ i → flag_at busy2 k ≡ flag_at busy k) →
       ((d : Entry) → slice_get r.entries i ≡ Some d → is_unsafe (with_issued o d) ≡ is_unsafe d) →
       ((d : Entry) → slice_get es i ≡ Some d → buffer es2 room2 ≡ buffer (slice_set es i (with_issued o d)) room) → Flagged es2 room2 busy2 open_ones unsafes
   issue_flagged o b i busy2 es2 room2 lt is_b h g alike wrote = elim (slice_get_cases es i).1 [
@@ -168,14 +169,14 @@ module _ (es : List Entry) (room : ℕ) (busy open_ones unsafes : List ℕ) (m :
           subst (λ (b : Buffer Entry). Flagged b.items b.capacity busy2 open_ones unsafes) (sym (wrote d at)) (record {
             few = m.few;
             within = let long = length-set es i e in let w = m.within in omega (arith, long, w);
-            busy_is = put_is is_busy es busy m.busy_is i e b busy2 (within_ring i lt) is_b h g;
+            busy_is = put_is in_execution es busy m.busy_is i e b busy2 (within_ring i lt) is_b h g;
             open_is = stays is_open es open_ones m.open_is i d e at refl;
             unsafe_is = stays is_unsafe es unsafes m.unsafe_is i d e at (alike d (ap (λ (r : Ring). slice_get r.entries i) (sym seen) ∙ at));
           })
 
   -- the bits are those of the entries once one is resolved or cleared: it executes or not as it did, and is told to be
   -- settled and safe or not
-  settle_flagged : (f : Entry → Entry) → ((d : Entry) → is_busy (f d) ≡ is_busy d) → (i : ℕ) (open2 unsafe2 : List ℕ) (b c : Bool) (es2 : List Entry) (room2 : ℕ) → i < length r.entries →
+  settle_flagged : (f : Entry → Entry) → ((d : Entry) → in_execution (f d) ≡ in_execution d) → (i : ℕ) (open2 unsafe2 : List ℕ) (b c : Bool) (es2 : List Entry) (room2 : ℕ) → i < length r.entries →
       flag_at open2 i ≡ one_if b → ((k : ℕ) → k ≢ i → flag_at open2 k ≡ flag_at open_ones k) → flag_at unsafe2 i ≡ one_if c → ((k : ℕ) → k ≢ i → flag_at unsafe2 k ≡ flag_at unsafes k) →
       ((e : Entry) → slice_get es i ≡ Some e → b ≡ is_open (f e)) → ((e : Entry) → slice_get es i ≡ Some e → c ≡ is_unsafe (f e)) →
       ((e : Entry) → slice_get es i ≡ Some e → buffer es2 room2 ≡ buffer (slice_set es i (f e)) room) → Flagged es2 room2 busy open2 unsafe2
@@ -190,7 +191,7 @@ module _ (es : List Entry) (room : ℕ) (busy open_ones unsafes : List ℕ) (m :
           subst (λ (b : Buffer Entry). Flagged b.items b.capacity busy open2 unsafe2) (sym (wrote d at)) (record {
             few = m.few;
             within = let long = length-set es i e in let w = m.within in omega (arith, long, w);
-            busy_is = stays is_busy es busy m.busy_is i d e at (same d);
+            busy_is = stays in_execution es busy m.busy_is i d e at (same d);
             open_is = put_is is_open es open_ones m.open_is i e b open2 (within_ring i lt) (opens d at) h g;
             unsafe_is = put_is is_unsafe es unsafes m.unsafe_is i e c unsafe2 (within_ring i lt) (tells d at) u v;
           })
@@ -213,7 +214,7 @@ module _ (es : List Entry) (room : ℕ) (busy open_ones unsafes : List ℕ) (m :
       ((e : Entry) → slice_get es i ≡ Some e → buffer es2 room2 ≡ buffer (slice_set es i (record e { state = Done })) room) → Flagged es2 room2 busy2 open_ones unsafe2
   finish_flagged = change_flagged (λ d. record d { state = Done }) false (λ d. refl) (λ d. refl)
 
-  pub push_flagged : (e : Entry) (b c d : Bool) (busy2 open2 unsafe2 : List ℕ) (n : ℕ) → n ≡ length r.entries → n < r.room → b ≡ is_busy e → c ≡ is_open e → d ≡ is_unsafe e →
+  pub push_flagged : (e : Entry) (b c d : Bool) (busy2 open2 unsafe2 : List ℕ) (n : ℕ) → n ≡ length r.entries → n < r.room → b ≡ in_execution e → c ≡ is_open e → d ≡ is_unsafe e →
       flag_at busy2 n ≡ one_if b → ((k : ℕ) → k ≢ n → flag_at busy2 k ≡ flag_at busy k) → flag_at open2 n ≡ one_if c → ((k : ℕ) → k ≢ n → flag_at open2 k ≡ flag_at open_ones k) →
       flag_at unsafe2 n ≡ one_if d → ((k : ℕ) → k ≢ n → flag_at unsafe2 k ≡ flag_at unsafes k) → Flagged (es ++ e ∷ []) room busy2 open2 unsafe2
   push_flagged e b c d busy2 open2 unsafe2 n is lt is_b is_c is_d h g j f u v =
@@ -223,7 +224,7 @@ module _ (es : List Entry) (room : ℕ) (busy open_ones unsafes : List ℕ) (m :
       record {
         few = m.few;
         within = let long = length-append es (e ∷ []) in omega (arith, long, lt, rooms, at);
-        busy_is = push_is is_busy es busy m.busy_is e b busy2 is_b (subst (λ n. flag_at busy2 n ≡ one_if b) at h) (λ k ne. g k (λ q. ne (q ∙ at)));
+        busy_is = push_is in_execution es busy m.busy_is e b busy2 is_b (subst (λ n. flag_at busy2 n ≡ one_if b) at h) (λ k ne. g k (λ q. ne (q ∙ at)));
         open_is = push_is is_open es open_ones m.open_is e c open2 is_c (subst (λ n. flag_at open2 n ≡ one_if c) at j) (λ k ne. f k (λ q. ne (q ∙ at)));
         unsafe_is = push_is is_unsafe es unsafes m.unsafe_is e d unsafe2 is_d (subst (λ n. flag_at unsafe2 n ≡ one_if d) at u) (λ k ne. v k (λ q. ne (q ∙ at)));
       }
@@ -233,7 +234,7 @@ module _ (es : List Entry) (room : ℕ) (busy open_ones unsafes : List ℕ) (m :
   cut_flagged n busy2 open2 unsafe2 h j u = record {
     few = m.few;
     within = let long = length-take n es in let w = m.within in omega (arith, long, w);
-    busy_is = kept_is is_busy es busy m.busy_is n busy2 h;
+    busy_is = kept_is in_execution es busy m.busy_is n busy2 h;
     open_is = kept_is is_open es open_ones m.open_is n open2 j;
     unsafe_is = kept_is is_unsafe es unsafes m.unsafe_is n unsafe2 u;
   }
@@ -243,7 +244,7 @@ module _ (es : List Entry) (room : ℕ) (busy open_ones unsafes : List ℕ) (m :
   pop_flagged busy2 open2 unsafe2 h j u = record {
     few = m.few;
     within = let long = length-drop 1 es in let w = m.within in omega (arith, long, w);
-    busy_is = dropped_is is_busy es busy m.busy_is busy2 h;
+    busy_is = dropped_is in_execution es busy m.busy_is busy2 h;
     open_is = dropped_is is_open es open_ones m.open_is open2 j;
     unsafe_is = dropped_is is_unsafe es unsafes m.unsafe_is unsafe2 u;
   }

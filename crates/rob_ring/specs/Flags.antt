@@ -4,7 +4,7 @@ use Rattle.std.specs.Prelude.{ℕ, ◌≡◌, ◌≤◌, ◌/◌, ◌%◌, Bool,
 use Rattle.std.specs.Int.{bit_at}
 use Rattle.window_model.specs.declared.Entry.{Entry}
 use Rattle.word_bits.specs.Bits.{one_if}
-use Rattle.rob_ring.specs.Ring.{is_busy, is_open, is_unsafe}
+use Rattle.rob_ring.specs.Ring.{in_execution, is_open, is_unsafe}
 
 -- the bit at a position
 abbrev pub flag_at : List ℕ → ℕ → ℕ
@@ -18,6 +18,6 @@ FlagsOf p entries words = (k : ℕ) → flag_at words k ≡ one_if (slice_index_
 pub record Flagged (entries : List Entry) (room : ℕ) (busy unsettled unsafes : List ℕ) : Type 0 where
   pub few : room ≤ 192
   pub within : length entries ≤ room
-  pub busy_is : FlagsOf is_busy entries busy
+  pub busy_is : FlagsOf in_execution entries busy
   pub open_is : FlagsOf is_open entries unsettled
   pub unsafe_is : FlagsOf is_unsafe entries unsafes

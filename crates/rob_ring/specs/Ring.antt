@@ -1,9 +1,8 @@
 -- What is seen of the reorder buffer.
-use Rattle.std.specs.Prelude.{◌≡◌, ℕ, ◌≤◌, ◌<◌, Bool, true, false, not, List, length, Option, Some, None}
+use Rattle.std.specs.Prelude.{◌≡◌, ℕ, ◌≤◌, ◌<◌, Bool, true, not, List, length, Option, Some, None}
 use Rattle.std.specs.Slice.Scan.{HoldsNowhere, holds_at}
 use Rattle.window_model.specs.declared.Entry.{Entry}
-use Rattle.window_model.specs.declared.Progress.{Progress}
-use Rattle.window_model.specs.declared.Progress.TheVariants.{Busy}
+use Rattle.window_model.specs.Order.{is_busy}
 use Rattle.window_model.specs.Taint.{safe, settled}
 pub use Rattle.window_model.specs.Serials.{below}
 
@@ -12,14 +11,9 @@ pub record Ring : Type 0 where
   pub entries : List Entry
   pub room : ℕ
 
--- the entry in this state executes
-abbrev pub in_execution : Progress → Bool
-in_execution (Busy due) = true
-in_execution _ = false
-
--- the entry executes: it is busy until some cycle
-abbrev pub is_busy : Entry → Bool
-is_busy e = in_execution e.state
+-- the entry executes
+abbrev pub in_execution : Entry → Bool
+in_execution e = is_busy e.state
 
 -- the entry isn't settled: a branch or JALR that isn't resolved, or a store that isn't cleared
 abbrev pub is_open : Entry → Bool

@@ -4,10 +4,11 @@ ghost use Rattle.std.specs.Prelude.{slice_get, slice_set, None, Some, IfOk, IfSo
 ghost use Rattle.std.specs.List.{All};
 ghost use Rattle.window_model.specs.declared.Entry.{Entry};
 ghost use Rattle.window_model.specs.declared.Progress.TheVariants.{Done};
+ghost use Rattle.window_model.specs.Order.{is_busy};
 ghost use Rattle.window_model.specs.Serials.{Rise, below};
 ghost use Rattle.window_model.specs.Clear.{cleared_one};
 ghost use Rattle.rob_ring.specs.Issued.{as_resolved, with_issued};
-ghost use Rattle.rob_ring.specs.Ring.{Next, Ring, in_execution, is_busy, is_open, is_unsafe};
+ghost use Rattle.rob_ring.specs.Ring.{Next, Ring, in_execution, is_open, is_unsafe};
 
 use crate::flags::{WORDS, add_flag, drop_flag, keep_flags, next_flag, put_flag};
 use crate::issued::Issued;
@@ -82,7 +83,7 @@ impl RobRing {
         ensures { self.new ≡ record self.old { entries = self.old.entries ++ entry ∷ [] } }
     {
         let len = self.len();
-        add_flag(&mut self.busy, len, in_execution(entry.state));
+        add_flag(&mut self.busy, len, is_busy(entry.state));
         add_flag(&mut self.unsettled, len, !entry.is_settled());
         add_flag(&mut self.unsafes, len, !entry.is_safe());
         self.counted_from = entry.serial.wrapping_sub(len as u64);
@@ -119,7 +120,7 @@ impl RobRing {
         requires { i < length self.old.entries }
         ensures { self.new ≡ record self.old { entries = slice_set self.old.entries i entry } }
     {
-        put_flag(&mut self.busy, i, in_execution(entry.state));
+        put_flag(&mut self.busy, i, is_busy(entry.state));
         put_flag(&mut self.unsettled, i, !entry.is_settled());
         put_flag(&mut self.unsafes, i, !entry.is_safe());
         put_entry(&mut self.items, i, &entry);
@@ -134,7 +135,7 @@ impl RobRing {
         ensures { (e : Entry) → slice_get self.old.entries i ≡ Some e
             → self.new ≡ record self.old { entries = slice_set self.old.entries i (with_issued issued.now e) } }
     {
-        put_flag(&mut self.busy, i, in_execution(issued.state));
+        put_flag(&mut self.busy, i, is_busy(issued.state));
         issue_entry(&mut self.items, i, issued);
     }
 
@@ -195,7 +196,7 @@ impl RobRing {
 
     /// The first position from one on whose entry executes.
     pub fn next_busy(&self, from: u32) -> Option<u32>
-        ensures next { Next is_busy self.now.entries from result }
+        ensures next { Next in_execution self.now.entries from result }
         ensures within { IfSome result (λ i. i < self.now.room) }
         ensures few { self.now.room < 2 ^ 32 }
     {
@@ -361,8 +362,8 @@ fn finish_entry(items: &mut HeapCircularBuffer<Entry>, i: u32) -> bool
 }
 
 // Whether an entry in this state executes.
-fn in_execution(state: Progress) -> bool
-    ensures { result ≡ in_execution state }
+fn is_busy(state: Progress) -> bool
+    ensures { result ≡ is_busy state }
 {
     match state {
         Progress::Busy(_) => true,

@@ -10,7 +10,7 @@ use Rattle.rv_types.specs.declared.Kind.TheVariants.{Load, Store, Branch, Jalr}
 use Rattle.window_model.specs.declared.Entry.{Entry}
 use Rattle.window_model.specs.declared.Outcome.{Outcome}
 use Rattle.window_model.specs.declared.Progress.{Progress}
-use Rattle.window_model.specs.declared.Progress.TheVariants.{Waiting, Done}
+use Rattle.window_model.specs.declared.Progress.TheVariants.{Busy, Done, Waiting}
 
 -- the entries older than position i
 abbrev pub before_at : List Entry → ℕ → List Entry
@@ -47,6 +47,11 @@ first p window = first_from p [] window
 abbrev pub is_waiting : Progress → Bool
 is_waiting Waiting = true
 is_waiting _ = false
+
+-- the entry executes: it is busy until some cycle
+abbrev pub is_busy : Progress → Bool
+is_busy (Busy due) = true
+is_busy _ = false
 
 -- the entry has been executed
 abbrev pub is_done : Progress → Bool
