@@ -55,12 +55,12 @@ module _ (s : Seen) (p : Candidate) where
   module _ (t : HasTurn s p) where
     stores_refuse : (v : Bool) → (s.desc.now.version == 1) ≡ v →
         (if v then not (list_all is_known (older_here s p)) else not (passes_here s p) && list_any lacks_address (older_here s p)) ≡ true → here goes_behind s p ≡ false
-    stores_refuse true v k = goes_not s p.position p.entry.now t.stands t.at v (not_false (list_all is_known (older_here s p)) k)
+    stores_refuse true v k = goes_not s p.position p.entry.now t.stands t.candidate.at v (not_false (list_all is_known (older_here s p)) k)
     stores_refuse false v k =
         let e = p.entry.now in
         let a = address_of s.regs.now (before_of s p) e in
-        goes_is s p.position e t.stands t.at
-        ∙ let_is s p.position e t.stands t.at (passes_here s p) (load_fault s.ram.now a (byte_count e)) a (byte_count e)
+        goes_is s p.position e t.stands t.candidate.at
+        ∙ let_is s p.position e t.stands t.candidate.at (passes_here s p) (load_fault s.ram.now a (byte_count e)) a (byte_count e)
         ∙ refused (passes_here s p) (list_any lacks_address (older_here s p)) _ _ k
 
     -- a load that meets an older store without data isn't let go, in either version
@@ -68,8 +68,8 @@ module _ (s : Seen) (p : Candidate) where
     refused_by_data k =
         let e = p.entry.now in
         let a = address_of s.regs.now (before_of s p) e in
-        goes_is s p.position e t.stands t.at
-        ∙ let_is s p.position e t.stands t.at (passes_here s p) (load_fault s.ram.now a (byte_count e)) a (byte_count e)
+        goes_is s p.position e t.stands t.candidate.at
+        ∙ let_is s p.position e t.stands t.candidate.at (passes_here s p) (load_fault s.ram.now a (byte_count e)) a (byte_count e)
         ∙ meets_none _ _ _ k
 
     lacks_besides : (k : Kind) → kept_as k s p ≡ true → asks_besides k s.desc.now (around_of s) (before_of s p) p.entry.now ≡ false

@@ -1,65 +1,79 @@
--- The walk passes stations that may not issue.
-use Rattle.std.proofs.Common.{◌≡◌, ℕ, zero, suc, ◌+◌, ◌-◌, ◌<◌, ◌≤◌, Bool, true, false, List, length, Option, Some, refl, ap, sym, subst, ◌∙◌, arith, slice_get}
+-- Stations that are able, and a walk past those that aren't.
+use Rattle.std.proofs.Common.{◌≡◌, ℕ, zero, suc, ◌+◌, ◌-◌, ◌<◌, ◌≤◌, Bool, true, false, List, length, Some, refl, ap, sym, subst, ◌∙◌, arith, slice_get}
 use Rattle.std.specs.Prelude.{if◌then◌else◌}
 use Rattle.std.specs.Option.{option_map}
 use Rattle.std.proofs.lemmas.Nat.Bits.{bit_at-zero}
 use Rattle.circular_buffer.proofs.Places.{slice_get-some}
-use Rattle.window_model.specs.declared.Divider.{Divider}
-use Rattle.window_model.specs.declared.Event.{Event}
-use Rattle.window_model.specs.declared.lookup.Access.{Access}
-use Rattle.window_model.specs.Order.{before_at}
-use Rattle.unit_ports.specs.Ports.{Ports}
+use Rattle.machine_desc.specs.declared.Desc.{Desc}
+use Rattle.window_model.specs.declared.Entry.{Entry}
+use Rattle.window_model.specs.Order.{before_at, is_waiting}
 use Rattle.stations.specs.Stations.{PlacesAble, Station, is_able}
-use Rattle.issue.specs.declared.decide.Put.{Put}
-use Rattle.issue.specs.declared.seen.Seen.{Seen}
-use Rattle.issue.specs.State.{IssueInvariant, around_of, flight_of, window_of}
-use Rattle.issue.proofs.Asking.{not_able}
-use Rattle.issue.proofs.Testing.{able_is}
-use Rattle.issue.proofs.Waiting.{Reaches, goes_on, waits_at}
-use Rattle.issue.proofs.Walking.{Walked, keeps, walked_past}
+use Rattle.refinement.specs.InFlight.{InFlight}
+use Rattle.refinement.specs.Refines.{Refines}
+use Rattle.refinement.specs.Stations.{station_of}
+use Rattle.refinement.specs.Telling.{MovedBy, has_sources}
+use Rattle.refinement.specs.Waiters.{wants_of}
+use Rattle.refinement.proofs.Ready.{tells_able}
+use Rattle.issue.specs.declared.candidate.Candidate.{Candidate}
+use Rattle.issue.specs.Candidates.{IsCandidate}
+use Rattle.issue.proofs.Waiting.{Keeps, Reaches, goes_on, waits_at}
 
-module _ (s : Seen) (ports : Ports) (puts : List Put) (load : Option Access) (start : Divider) (earlier events : List Event) (stands : IssueInvariant s) where
-  abbrev At : ℕ → Type 0
-  At k = Reaches (Walked s ports puts load start earlier events) (window_of s) k
-
-  abbrev able_at : ℕ → Option Bool
-  able_at k = option_map is_able (slice_get s.stations.now.held k)
-
-  -- the walk passes one station that isn't able
-  past_one : (k : ℕ) → k < length s.stations.now.held → able_at k ≡ Some false → At k → At (k + 1)
-  past_one k lt unable t =
-      let w = waits_at (flight_of stands.next stands.writes s) stands.refines k lt in
-      let at = w.1 in
-      let is = able_is s w.0 at.entry stands at.is k false at.waits (sym at.station) unable in
-      let none = not_able s.desc.now (around_of s) (before_at (window_of s) w.0) at.entry at.waits (sym is) in
-      goes_on _ _ (window_of s) k w.0 at.entry (keeps s ports puts load start earlier events stands) t at.is at.waits at.station
-      (walked_past s ports puts load start earlier events stands w.0 at.entry at.is none)
-
-  past_some : (n k : ℕ) → k + n ≤ length s.stations.now.held → ((j : ℕ) → k ≤ j → j < k + n → able_at j ≡ Some false) → At k → At (k + n)
-  past_some zero k le unable t = subst At (omega arith) t
-  past_some (suc n) k le unable t =
-      let here = past_one k (omega (arith, le)) (unable k (omega arith) (omega arith)) t in
-      subst At (omega arith) (past_some n (k + 1) (omega (arith, le)) (λ j low high. unable j (omega (arith, low)) (omega (arith, high))) here)
-
-  -- the walk passes all stations from one up to another, where none of them is able
-  pub skipped : (from k : ℕ) → from ≤ k → k ≤ length s.stations.now.held → ((j : ℕ) → from ≤ j → j < k → able_at j ≡ Some false) → At from → At k
-  skipped from k le within unable t =
-      let there : from + (k - from) ≡ k = omega (arith, le) in
-      subst At there (past_some (k - from) from (omega (arith, le, within)) (λ j low high. unable j low (omega (arith, high, le))) t)
-
--- where one station isn't able, none of the range that has it alone is
-pub one_unable : (held : List Station) (k : ℕ) → option_map is_able (slice_get held k) ≡ Some false → (j : ℕ) → k ≤ j → j < k + 1 → option_map is_able (slice_get held j) ≡ Some false
-one_unable held k unable j low high =
-    let same : k ≡ j = omega (arith, low, high) in
-    subst (λ j. option_map is_able (slice_get held j) ≡ Some false) same unable
-
--- where a word of flags has no bit set, no station from there on is able
-pub unable_by : (held : List Station) (from k : ℕ) → PlacesAble held from 0 → from ≤ k → k < length held → option_map is_able (slice_get held k) ≡ Some false
-unable_by held from k m low lt =
+-- where a word of flags has no bit set, the first of the stations that it tells of isn't able
+unable_by : (held : List Station) (k : ℕ) → PlacesAble held k 0 → k < length held → option_map is_able (slice_get held k) ≡ Some false
+unable_by held k none lt =
     let t = slice_get-some held k lt in
-    let marked = m k t.0 low t.1 in
+    let marked = none k t.0 (omega arith) t.1 in
     ap (option_map is_able) t.1 ∙ ap Some (unmarked (is_able t.0) _ marked (bit_at-zero t.0.place))
   where
     unmarked : (b : Bool) (bit : ℕ) → bit ≡ (if b then 1 else 0) → bit ≡ 0 → b ≡ false
     unmarked true bit h none = absurd (omega (arith, h, none))
     unmarked false bit h none = refl
+
+-- a word that tells of the stations from one on tells of those from the next on
+pub places_later : (held : List Station) (k word : ℕ) → PlacesAble held k word → PlacesAble held (k + 1) word
+places_later held k word told i s low is = told i s (omega (arith, low)) is
+
+-- what holds at a station and is kept past one that isn't able
+abbrev pub PassesUnable : List Station → (ℕ → Type 0) → Type 0
+PassesUnable held P = (k : ℕ) → k < length held → option_map is_able (slice_get held k) ≡ Some false → P k → P (k + 1)
+
+module _ (held : List Station) (P : ℕ → Type 0) (passes : PassesUnable held P) where
+  past_some : (n k : ℕ) → k + n ≡ length held → PlacesAble held k 0 → P k → P (length held)
+  past_some zero k end none t = subst P (omega (arith, end)) t
+  past_some (suc n) k end none t =
+      past_some n (k + 1) (omega (arith, end)) (places_later held k 0 none) (passes k (omega (arith, end)) (unable_by held k none (omega (arith, end))) t)
+
+  -- what is kept past stations that aren't able holds behind the last, where none from here on is able
+  pub past_all : (k : ℕ) → k ≤ length held → PlacesAble held k 0 → P k → P (length held)
+  past_all k le none t = past_some (length held - k) k (omega (arith, le)) none t
+
+-- ---- of parts that refine a window, where the point has just moved
+
+module _ (d : Desc) (f : InFlight) (version : f.version ≡ d.version) (refines : Refines f) (moved : MovedBy d f) where
+  -- the station of an entry tells whether what it wants is there
+  able_is : (i n : ℕ) (e : Entry) (b : Bool) → slice_get f.window i ≡ Some e → is_waiting e.state ≡ true → n ≡ station_of i f.window → option_map is_able (slice_get f.held n) ≡ Some b →
+      has_sources (wants_of d.version e) d (before_at f.window i) e ≡ b
+  able_is i n e b h w q k =
+      let told = ap (λ n. option_map is_able (slice_get f.held n)) q ∙ tells_able d f i e refines moved h w in
+      let both : Some b ≡ Some (has_sources (wants_of f.version e) d (before_at f.window i) e) = sym k ∙ told in
+      let same : has_sources (wants_of f.version e) d (before_at f.window i) e ≡ b = cc in
+      subst (λ v. has_sources (wants_of v e) d (before_at f.window i) e ≡ b) version same
+
+  -- the entry that waits at a station that is able is a candidate
+  pub is_candidate : (p : Candidate) (station : ℕ) → slice_get f.window p.position ≡ Some p.entry.now → is_waiting p.entry.now.state ≡ true → p.station ≡ station → station ≡ station_of p.position f.window →
+      option_map is_able (slice_get f.held station) ≡ Some true → IsCandidate d f.window p
+  is_candidate p station h w q at k = record {
+    at = h;
+    waits = w;
+    able = able_is p.position station p.entry.now true h w at k;
+    station = q ∙ at;
+  }
+
+  -- a walk goes past a station that isn't able, where it goes past an entry that lacks what it wants
+  pub passes_unable : (P : ℕ → Type 0) → Keeps P f.window →
+      ((i : ℕ) (e : Entry) → slice_get f.window i ≡ Some e → is_waiting e.state ≡ true → has_sources (wants_of d.version e) d (before_at f.window i) e ≡ false → P i → P (i + 1)) →
+      PassesUnable f.held (Reaches P f.window)
+  passes_unable P keeps past k lt unable t =
+      let w = waits_at f refines k lt in
+      let at = w.1 in
+      goes_on P P f.window k w.0 at.entry keeps t at.is at.waits at.station (past w.0 at.entry at.is at.waits (able_is w.0 k at.entry false at.is at.waits (sym at.station) unable))

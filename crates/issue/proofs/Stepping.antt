@@ -1,24 +1,26 @@
 -- From station to station: what holds as the walk goes on, past one that may not issue, by one that has its turn, and
 -- at the end.
-use Rattle.std.proofs.Common.{◌≡◌, ℕ, ◌+◌, ◌<◌, ◌≤◌, ◌++◌, false, length, Some, ap, sym, ◌∙◌, arith, slice_get}
+use Rattle.std.proofs.Common.{◌≡◌, ℕ, ◌+◌, ◌≤◌, ◌++◌, length, refl, ap, sym, ◌∙◌, arith}
 use Rattle.std.specs.List.{flat_map}
-use Rattle.std.specs.Option.{option_map}
 use Rattle.window_model.specs.Issue.{issue_entry}
+use Rattle.window_model.specs.Order.{before_at}
 use Rattle.window_model.specs.Row.{Row}
 use Rattle.window_model.specs.inner.Row.{IsLonger, most_issued, with_events}
 use Rattle.unit_ports.specs.Ports.{Ports}
-use Rattle.stations.specs.Stations.{is_able}
+use Rattle.stations.specs.Stations.{PlacesAble}
 use Rattle.issue.specs.declared.decide.Decided.{Decided}
 use Rattle.issue.specs.declared.candidate.Candidate.{Candidate}
 use Rattle.issue.specs.declared.seen.Seen.{Seen}
 use Rattle.issue.specs.Decisions.{DecidesFor, HadTurn, most_begun, turns_of}
 use Rattle.issue.specs.Ports.{LeftFor, OnlyPorts, events_left, left_in_all}
 use Rattle.issue.specs.Puts.{ArePuts}
-use Rattle.issue.specs.State.{HasTurn, IssueInvariant, here, flight_of, window_of}
+use Rattle.issue.specs.State.{HasTurn, IssueInvariant, around_of, here, flight_of, window_of}
+use Rattle.issue.proofs.Asking.{not_able}
 use Rattle.issue.proofs.Noting.{as_many_events, as_many_puts, only_both, row_is}
-use Rattle.issue.proofs.Skipping.{skipped}
+use Rattle.issue.proofs.Skipping.{PassesUnable, passes_unable, past_all}
+use Rattle.issue.proofs.Testing.{moved}
 use Rattle.issue.proofs.Waiting.{Reaches, all_wait, at_end, at_next, goes_on}
-use Rattle.issue.proofs.Walking.{Walked, decided_all, decided_more, keeps, left_on}
+use Rattle.issue.proofs.Walking.{Walked, decided_all, decided_more, keeps, left_on, walked_past}
 
 -- what the entries before a station have decided, with the ports and the row as they began
 pub record Walks (s : Seen) (first ports : Ports) (decided : Decided) (start row : Row) (k : ℕ) : Type 0 where
@@ -37,11 +39,11 @@ pub record WalksAll (s : Seen) (first ports : Ports) (decided : Decided) (start 
   pub few : IsLonger most_issued start last
 
 module _ (s : Seen) (first ports : Ports) (decided : Decided) (start row : Row) (stands : IssueInvariant s) where
-  -- the walk goes past the stations of entries that may not issue
-  pub walks_past : (from k : ℕ) → from ≤ k → k ≤ length s.stations.now.held → ((j : ℕ) → from ≤ j → j < k → option_map is_able (slice_get s.stations.now.held j) ≡ Some false) →
-      Walks s first ports decided start row from → Walks s first ports decided start row k
-  walks_past from k le within unable t = record {
-    walked = skipped s ports _ _ _ _ _ stands from k le within unable t.walked;
+  -- the walk goes past a station that isn't able
+  pub walks_past : PassesUnable s.stations.now.held (Walks s first ports decided start row)
+  walks_past k lt unable t = record {
+    walked = passes_unable s.desc.now (flight_of stands.next stands.writes s) refl stands.refines (moved s stands) _ (keeps s ports _ _ _ _ _ stands)
+        (λ i e h w lacks. walked_past s ports _ _ _ _ _ stands i e h (not_able s.desc.now (around_of s) (before_at (window_of s) i) e w lacks)) k lt unable t.walked;
     only = t.only;
     few = t.few;
     room = t.room;
@@ -63,9 +65,13 @@ module _ (s : Seen) (first ports : Ports) (decided : Decided) (start row : Row) 
         few = omega (arith, room);
       }
 
+  -- all is decided where no station that is left is able
+  pub walks_rest : (k : ℕ) → k ≤ length s.stations.now.held → PlacesAble s.stations.now.held k 0 → Walks s first ports decided start row k → WalksAll s first ports decided start row
+  walks_rest k le none t = walks_out (length s.stations.now.held) refl (past_all s.stations.now.held _ walks_past k le none t)
+
   -- the ports that are left to the one at a station
   pub left_here : (k : ℕ) (p : Candidate) → HasTurn s p → p.station ≡ k → Walks s first ports decided start row k → LeftFor s p ports
-  left_here k p turn at t = (at_next _ (window_of s) k p.position p.entry.now (keeps s ports _ _ _ _ _ stands) t.walked turn.at turn.waits (sym turn.station ∙ at)).left
+  left_here k p turn at t = (at_next _ (window_of s) k p.position p.entry.now (keeps s ports _ _ _ _ _ stands) t.walked turn.candidate.at turn.candidate.waits (sym turn.candidate.station ∙ at)).left
 
   -- the walk goes on behind an entry that has had its turn
   pub walks_on : (k : ℕ) (p : Candidate) (new_ports : Ports) (new_decided : Decided) (new_row : Row) → HasTurn s p → p.station ≡ k → HadTurn s p ports decided row new_ports new_decided new_row →
@@ -82,9 +88,9 @@ module _ (s : Seen) (first ports : Ports) (decided : Decided) (start row : Row) 
       let few = t.few in
       let room = t.room in
       record {
-        walked = goes_on _ _ (window_of s) k i e (keeps s ports _ _ _ _ _ stands) t.walked turn.at turn.waits (sym turn.station ∙ at) (λ walked. record {
-          decided = decided_more s i e stands turn.at p.station _ _ _ _ _ _ _ _ _ _ turn.station had.puts events had.load had.divider walked.decided;
-          left = left_on s i e stands turn.at _ had.left;
+        walked = goes_on _ _ (window_of s) k i e (keeps s ports _ _ _ _ _ stands) t.walked turn.candidate.at turn.candidate.waits (sym turn.candidate.station ∙ at) (λ walked. record {
+          decided = decided_more s i e stands turn.candidate.at p.station _ _ _ _ _ _ _ _ _ _ turn.candidate.station had.puts events had.load had.divider walked.decided;
+          left = left_on s i e stands turn.candidate.at _ had.left;
         });
         only = only_both _ _ _ t.only had.only;
         few = omega (arith, puts, fewer, few);

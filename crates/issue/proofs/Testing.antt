@@ -17,7 +17,7 @@ use Rattle.window_model.proofs.Booleans.{both}
 use Rattle.window_model.specs.Order.{before_at, is_store, is_waiting, sources}
 use Rattle.window_model.specs.Ready.{all_known, ready}
 use Rattle.window_model.specs.Taint.{address_tainted, any_tainted}
-use Rattle.stations.specs.Stations.{is_able, ready_part}
+use Rattle.stations.specs.Stations.{ready_part}
 use Rattle.stations.specs.declared.wants.Part.{Part}
 use Rattle.rob_ring.specs.declared.beside.Sources.{Sources}
 use Rattle.visibility.specs.Gate.{may_transmit}
@@ -25,12 +25,11 @@ use Rattle.unit_ports.specs.Ports.{Ports, left_at, port_for, taken_at}
 use Rattle.unit_ports.specs.Laws.{LeftAfter, asked, if_asked}
 use Rattle.unit_ports.proofs.Granting.{granted_is, left_more}
 use Rattle.visibility.specs.Point.{Point}
-use Rattle.refinement.proofs.Ready.{tells_able, tells_part}
+use Rattle.refinement.proofs.Ready.{tells_part}
 use Rattle.refinement.proofs.Visible.{tells_operands}
 use Rattle.refinement.specs.InFlight.{InFlight}
 use Rattle.refinement.specs.Stations.{station_of}
-use Rattle.refinement.specs.Telling.{MovedBy, OperandsTold, has_sources, own_of}
-use Rattle.refinement.specs.Waiters.{wants_of}
+use Rattle.refinement.specs.Telling.{MovedBy, OperandsTold, own_of}
 use Rattle.issue.specs.declared.seen.Seen.{Seen}
 use Rattle.issue.specs.Ports.{OnlyPorts, events_left, left_in_all, most_events_of}
 use Rattle.issue.specs.State.{IssueInvariant, StandsAt, around_of, flight_of}
@@ -52,6 +51,10 @@ tells_issue d p i e x now s m q h k = issue_by d p.point (before_at p.window i) 
 
 -- ---- what an entry is asked for
 
+-- results are held back by the point that has moved
+pub moved : (s : Seen) (t : IssueInvariant s) → MovedBy s.desc.now (flight_of t.next t.writes s)
+moved s t = record { advanced = t.advanced; model = t.model; holds = refl }
+
 module _ (s : Seen) (i : ℕ) (e : Entry) (t : IssueInvariant s) (h : StandsAt s i e) where
   abbrev before : List Entry
   before = before_at s.rob.now.entries i
@@ -59,22 +62,10 @@ module _ (s : Seen) (i : ℕ) (e : Entry) (t : IssueInvariant s) (h : StandsAt s
   abbrev flight : InFlight
   flight = flight_of t.next t.writes s
 
-  -- what loads read is held back by the point
-  moved : MovedBy s.desc.now flight
-  moved = record { advanced = t.advanced; model = t.model; holds = refl }
-
-  -- an entry that waits has a station, which tells whether what it wants is there
-  pub able_is : (n : ℕ) (b : Bool) → is_waiting e.state ≡ true → n ≡ station_of i s.rob.now.entries → option_map is_able (slice_get s.stations.now.held n) ≡ Some b → b ≡ has_sources (wants_of s.desc.now.version e) s.desc.now before e
-  able_is n b w q k =
-      let told = tells_able s.desc.now flight i e t.refines moved h w in
-      let here : option_map is_able (slice_get s.stations.now.held (station_of i s.rob.now.entries)) ≡ Some b = subst (λ n. option_map is_able (slice_get s.stations.now.held n) ≡ Some b) q k in
-      let both : Some b ≡ Some (has_sources (wants_of s.desc.now.version e) s.desc.now before e) = sym here ∙ told in
-      cc
-
   -- a station tells whether the source that this part of its store needs is known
   pub part_is : (part : Part) (n : ℕ) (b : Bool) → is_waiting e.state ≡ true → n ≡ station_of i s.rob.now.entries → option_map (ready_part part) (slice_get s.stations.now.held n) ≡ Some b → b ≡ all_known s.desc.now before (own_of part (sources e))
   part_is part n b w q k =
-      let told = tells_part part s.desc.now flight i e t.refines moved h w in
+      let told = tells_part part s.desc.now flight i e t.refines (moved s t) h w in
       let here : option_map (ready_part part) (slice_get s.stations.now.held (station_of i s.rob.now.entries)) ≡ Some b = subst (λ n. option_map (ready_part part) (slice_get s.stations.now.held n) ≡ Some b) q k in
       let both : Some b ≡ Some (all_known s.desc.now before (own_of part (sources e))) = sym here ∙ told in
       cc

@@ -1,3 +1,4 @@
+pub mod Candidates
 pub mod State
 pub mod Telling
 pub mod Operands

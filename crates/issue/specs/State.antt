@@ -1,6 +1,6 @@
 -- The state that the phase looks at, where its parts stand for a machine, and an entry in its place (docs/machine.md,
 -- "Issue"; docs/architecture.md, "How the parts refine the window").
-use Rattle.std.specs.Prelude.{◌≡◌, ℕ, ◌+◌, ◌^◌, ◌≤◌, List, true, length, slice_get, Some}
+use Rattle.std.specs.Prelude.{◌≡◌, ℕ, ◌+◌, ◌^◌, ◌≤◌, List, length, slice_get, Some}
 use Rattle.std.specs.List.{AllByRecursion as Each}
 use Rattle.machine_desc.specs.declared.Desc.{Desc}
 use Rattle.machine_facts.specs.Sized.{HasParts, Together}
@@ -8,17 +8,15 @@ use Rattle.machine_facts.specs.Timely.{WaitsOrDone}
 use Rattle.window_model.specs.declared.Entry.{Entry}
 use Rattle.window_model.specs.Around.{Around}
 use Rattle.machine_desc.specs.Questions.{loads_pass}
-use Rattle.window_model.specs.Order.{before_at, is_waiting}
+use Rattle.window_model.specs.Order.{before_at}
 use Rattle.window_model.specs.Ready.{holds}
 use Rattle.rename_taint.specs.declared.Write.{Write}
 use Rattle.visibility.specs.Point.{HasAdvanced}
 use Rattle.refinement.specs.InFlight.{InFlight}
 use Rattle.refinement.specs.Refines.{Refines}
-use Rattle.refinement.specs.Stations.{station_of}
-use Rattle.refinement.specs.Telling.{has_sources}
-use Rattle.refinement.specs.Waiters.{wants_of}
 use Rattle.issue.specs.declared.candidate.Candidate.{Candidate}
 use Rattle.issue.specs.declared.seen.Seen.{Seen}
+use Rattle.issue.specs.Candidates.{IsCandidate}
 
 -- what an entry looks at besides the older ones
 abbrev pub around_of : Seen → Around
@@ -78,10 +76,7 @@ here f s p = f s.desc.now (around_of s) (before_of s p) p.entry.now
 abbrev pub StandsAt : Seen → ℕ → Entry → Type 0
 StandsAt s i e = slice_get s.rob.now.entries i ≡ Some e
 
--- the entry stands in the window at its place, waits at its station, and what it wants is there
+-- the entry has its turn on what the phase looks at
 pub record HasTurn (s : Seen) (p : Candidate) : Type 0 where
   pub stands : IssueInvariant s
-  pub at : StandsAt s p.position p.entry.now
-  pub waits : is_waiting p.entry.now.state ≡ true
-  pub able : has_sources (wants_of s.desc.now.version p.entry.now) s.desc.now (before_of s p) p.entry.now ≡ true
-  pub station : p.station ≡ station_of p.position s.rob.now.entries
+  pub candidate : IsCandidate s.desc.now (window_of s) p

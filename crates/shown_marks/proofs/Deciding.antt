@@ -84,10 +84,10 @@ module _ (s : Seen) (p : Candidate) (t : HasTurn s p) where
   before = before_of s p
 
   told : (x : Sources) → slice_get s.walk.sources.now.items p.position ≡ Some x → OperandsTold s.point.now before e x.roots
-  told x k = tells_operands (flight_of t.stands.rest s) p.position e x t.stands.refines t.stands.advanced t.at k
+  told x k = tells_operands (flight_of t.stands.rest s) p.position e x t.stands.refines t.stands.advanced t.candidate.at k
 
   is_ready : is_store e.item.kind ≡ false → ready d before e ≡ true
-  is_ready n = whole_ready d before e n t.able
+  is_ready n = whole_ready d before e n t.candidate.able
 
   -- a load tells its address where its base is untainted
   load_decides : (x : Sources) (b : Bool) → e.item.kind ≡ Load → slice_get s.walk.sources.now.items p.position ≡ Some x →
@@ -95,7 +95,7 @@ module _ (s : Seen) (p : Candidate) (t : HasTurn s p) where
   load_decides x b is k q =
       q ∙ ap (λ k. may_transmit k s.point.now.serial x.roots) is
       ∙ ap not ((told x k).base ∙ ap (λ (model : SttModel). address_tainted model before e) t.stands.model)
-      ∙ sym (ap₂ (λ w r. w && r && not (address_tainted d.stt_model before e)) t.waits (is_ready (ap is_store is)))
+      ∙ sym (ap₂ (λ w r. w && r && not (address_tainted d.stt_model before e)) t.candidate.waits (is_ready (ap is_store is)))
       ∙ ap (λ k. decides_as k d before e) (sym is)
 
   -- a division tells its time where both operands are untainted
@@ -104,7 +104,7 @@ module _ (s : Seen) (p : Candidate) (t : HasTurn s p) where
   division_decides x b is k q =
       q ∙ ap (λ k. may_transmit k s.point.now.serial x.roots) is
       ∙ ap not ((told x k).any ∙ ap (λ (model : SttModel). any_tainted model before e) t.stands.model)
-      ∙ sym (ap₂ (λ w r. w && r && not (any_tainted d.stt_model before e)) t.waits (is_ready (ap is_store is)))
+      ∙ sym (ap₂ (λ w r. w && r && not (any_tainted d.stt_model before e)) t.candidate.waits (is_ready (ap is_store is)))
       ∙ ap (λ k. decides_as k d before e) (sym is)
 
   -- a load or division tells its address or time where what it asks of taint is so
@@ -116,7 +116,7 @@ module _ (s : Seen) (p : Candidate) (t : HasTurn s p) where
   -- ---- a store's address part
 
   in_step : InStep d e
-  in_step = step_at d (window_of s) p.position e t.stands.store_parts t.stands.together t.at
+  in_step = step_at d (window_of s) p.position e t.stands.store_parts t.stands.together t.candidate.at
 
   -- the address part of a store that has issued may not issue again
   pub address_issued : has_address e ≡ true → false ≡ part_may AddressPort d before e
@@ -124,14 +124,14 @@ module _ (s : Seen) (p : Candidate) (t : HasTurn s p) where
 
   -- the address part of a store in version 1 may issue: both sources are there, and it goes with the data part
   pub address_with_data : has_address e ≡ false → stores_in_one d ≡ true → is_store e.item.kind ≡ true → true ≡ part_may AddressPort d before e
-  address_with_data f one n = sym (part_may_by part.Address d before e true f (first_ready d before e (base_of (sources e)) in_step one n t.waits t.able))
+  address_with_data f one n = sym (part_may_by part.Address d before e true f (first_ready d before e (base_of (sources e)) in_step one n t.candidate.waits t.candidate.able))
 
   -- the address part of a store in version 2 may issue where its base is there
   pub address_alone : (b : Bool) → has_address e ≡ false → stores_in_one d ≡ false → option_map (ready_part part.Address) (slice_get s.stations.now.held p.station) ≡ Some b → b ≡ part_may AddressPort d before e
   address_alone b f apart k =
-      let known = tells_part part.Address d (flight_of t.stands.rest s) p.position e t.stands.refines (moved s t.stands) t.at t.waits in
+      let known = tells_part part.Address d (flight_of t.stands.rest s) p.position e t.stands.refines (moved s t.stands) t.candidate.at t.candidate.waits in
       let here : option_map (ready_part part.Address) (slice_get s.stations.now.held p.station) ≡ Some (all_known d before (base_of (sources e))) =
-      ap (λ n. option_map (ready_part part.Address) (slice_get s.stations.now.held n)) t.station ∙ known in
+      ap (λ n. option_map (ready_part part.Address) (slice_get s.stations.now.held n)) t.candidate.station ∙ known in
       let both : Some b ≡ Some (all_known d before (base_of (sources e))) = sym k ∙ here in
       let same : b ≡ all_known d before (base_of (sources e)) = cc in
       sym (part_may_by part.Address d before e b f (second_ready d before e (base_of (sources e)) apart ∙ sym same))

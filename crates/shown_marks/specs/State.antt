@@ -1,22 +1,20 @@
 -- What is looked at, when it stands for a machine, and an entry in its place (docs/architecture.md, "How the parts
 -- refine the window").
-use Rattle.std.specs.Prelude.{◌≡◌, true, List, length, slice_get, Some}
+use Rattle.std.specs.Prelude.{◌≡◌, List, length}
 use Rattle.std.specs.List.{AllByRecursion as Each}
 use Rattle.machine_facts.specs.Sized.{HasParts, Together}
 use Rattle.window_model.specs.declared.Entry.{Entry}
-use Rattle.window_model.specs.Order.{before_at, is_waiting}
+use Rattle.window_model.specs.Order.{before_at}
 use Rattle.window_model.specs.Ready.{holds}
 use Rattle.visibility.specs.Point.{HasAdvanced}
 use Rattle.refinement.specs.InFlight.{InFlight}
 use Rattle.refinement.specs.Refines.{Refines}
-use Rattle.refinement.specs.Waiters.{wants_of}
-use Rattle.refinement.specs.Telling.{has_sources}
-use Rattle.refinement.specs.Stations.{station_of}
 use Rattle.secret_marks.specs.declared.EntryMarks.{EntryMarks}
 use Rattle.secret_marks.specs.Marks.{Marks}
 use Rattle.entry_marks.specs.Beside.{marks_before}
 use Rattle.entry_marks.specs.Walk.{with_window}
 use Rattle.issue.specs.declared.candidate.Candidate.{Candidate}
+use Rattle.issue.specs.Candidates.{IsCandidate}
 use Rattle.shown_marks.specs.declared.seen.Seen.{Seen}
 
 -- the window that the walk looks at, oldest entry first
@@ -63,10 +61,7 @@ before_of s p = before_at (window_of s) p.position
 abbrev pub marks_before_of : Seen → Candidate → List EntryMarks
 marks_before_of s p = marks_before (each_marks s) p.position
 
--- the entry of a place has its turn: it stands at its position, it waits at its station, and what it wants is there
+-- the entry has its turn on what is looked at
 pub record HasTurn (s : Seen) (p : Candidate) : Type 0 where
   pub stands : ShowsInvariant s
-  pub at : slice_get (window_of s) p.position ≡ Some p.entry.now
-  pub waits : is_waiting p.entry.now.state ≡ true
-  pub able : has_sources (wants_of s.desc.now.version p.entry.now) s.desc.now (before_of s p) p.entry.now ≡ true
-  pub station : p.station ≡ station_of p.position (window_of s)
+  pub candidate : IsCandidate s.desc.now (window_of s) p

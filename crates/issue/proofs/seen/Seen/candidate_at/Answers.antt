@@ -1,6 +1,7 @@
-use Rattle.std.proofs.Common.{sym, ◌∙◌, true}
+use Rattle.std.proofs.Common.{refl}
 use Rattle.issue.specs.State.{flight_of}
-use Rattle.issue.proofs.Testing.{able_is}
+use Rattle.issue.proofs.Skipping.{is_candidate}
+use Rattle.issue.proofs.Testing.{moved}
 use Rattle.issue.proofs.seen.Seen.candidate_at.Goals as goal
 
 pub candidate_at-requires-clause-refines : goal.candidate_at-requires-clause-refines
@@ -10,13 +11,10 @@ candidate_at-requires-clause-refines c =
 
 pub returns-clause-turn : goal.returns-clause-turn
 returns-clause-turn c =
+    let s = c.args.self.now in
     let stands = c.requires.stands in
-    let found = c.candidate_at.result in
     let here = c.candidate_at.ensures in
     record {
       stands = stands;
-      at = here.entry;
-      waits = here.waits;
-      able = sym (able_is c.args.self.now found.position found.entry.now stands here.entry c.args.station true here.waits here.at c.requires.able);
-      station = here.station ∙ here.at;
+      candidate = is_candidate s.desc.now (flight_of stands.next stands.writes s) refl stands.refines (moved s stands) c.candidate_at.result c.args.station here.entry here.waits here.station here.at c.requires.able;
     }

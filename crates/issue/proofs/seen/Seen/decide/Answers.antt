@@ -1,7 +1,7 @@
 use Rattle.std.proofs.Common.{◌≡◌, ◌+◌, ◌≤◌, length, ap, subst, ◌∙◌, arith, refl, Some}
 use Rattle.stations.specs.Stations.{PlacesAble}
-use Rattle.issue.proofs.Skipping.{one_unable, unable_by}
-use Rattle.issue.proofs.Stepping.{WalksAll, left_here, walks_on, walks_out, walks_past}
+use Rattle.issue.proofs.Skipping.{places_later}
+use Rattle.issue.proofs.Stepping.{WalksAll, left_here, walks_on, walks_out, walks_past, walks_rest}
 use Rattle.issue.proofs.Walking.{walked_none}
 use Rattle.issue.proofs.seen.Seen.decide.Goals as goal
 
@@ -33,9 +33,8 @@ loop-station-preserved-then-not-is_among c =
     let len : c.len-station-end.result ≡ length c.args.self.now.stations.now.held = c.len-station-end.ensures.len in
     let in_range = c.loop-station-test.true in
     record {
-      walks = walks_past c.args.self.now _ _ _ _ _ c.requires.stands k (k + 1) (omega arith) (omega (arith, len, in_range))
-          (one_unable c.args.self.now.stations.now.held k (c.is_among.ensures ∙ ap Some c.if-not-is_among.true)) c.loop-station.invariant.walks;
-      able = λ i s low is. c.loop-station.invariant.able i s (omega (arith, low)) is;
+      walks = walks_past c.args.self.now _ _ _ _ _ c.requires.stands k (omega (arith, len, in_range)) (c.is_among.ensures ∙ ap Some c.if-not-is_among.true) c.loop-station.invariant.walks;
+      able = places_later _ k _ c.loop-station.invariant.able;
     }
 
 -- ---- one that has its turn
@@ -65,8 +64,7 @@ out c =
     let stands = c.requires.stands in
     let none = subst (λ able. PlacesAble held (k + 1) able) c.if-able-eq0.true c.without-able.ensures.later in
     let on = walks_on s _ _ _ _ _ stands k c.candidate_at-candidate.result _ _ _ c.candidate_at-candidate.ensures.turn c.candidate_at-candidate.ensures.station c.decide_entry.ensures c.loop-station.invariant.walks in
-    walks_out s _ _ _ _ _ stands (length held) refl
-    (walks_past s _ _ _ _ _ stands (k + 1) (length held) (omega (arith, len, in_range)) (omega arith) (λ j low high. unable_by held (k + 1) j none low high) on)
+    walks_rest s _ _ _ _ _ stands (k + 1) (omega (arith, len, in_range)) none on
 
 pub returns-then-able-eq0-clause-decides : goal.returns-then-able-eq0-clause-decides
 returns-then-able-eq0-clause-decides c = (out c).decides

@@ -12,12 +12,12 @@ use Rattle.issue.proofs.seen.Seen.goes.Goals as goal
 pub returns-then-stores_in_one : goal.returns-then-stores_in_one
 returns-then-stores_in_one c =
     let t = c.requires.turn in
-    sym (goes_known c.args.self.now _ _ t.stands t.at (all_known_in_one c.args.self.now c.args.candidate.now (sym c.stores_in_one.ensures ∙ c.if-stores_in_one.true) c.requires.open))
+    sym (goes_known c.args.self.now _ _ t.stands t.candidate.at (all_known_in_one c.args.self.now c.args.candidate.now (sym c.stores_in_one.ensures ∙ c.if-stores_in_one.true) c.requires.open))
 
 pub returns-then-all_older_known : goal.returns-then-all_older_known
 returns-then-all_older_known c =
     let t = c.requires.turn in
-    sym (goes_known c.args.self.now _ _ t.stands t.at (sym c.all_older_known.ensures ∙ c.if-all_older_known.true))
+    sym (goes_known c.args.self.now _ _ t.stands t.candidate.at (sym c.all_older_known.ensures ∙ c.if-all_older_known.true))
 
 pub returns-then-awaits_data : goal.returns-then-awaits_data
 returns-then-awaits_data c =
@@ -30,4 +30,4 @@ returns c =
     let e = c.args.candidate.now.entry.now in
     let a = address_of s.regs.now (before_of s c.args.candidate.now) e in
     c.is_let.ensures ∙ ap₂ (λ passes p. lets_by passes s.point.now.serial p) c.passes.ensures c.pending.ensures
-    ∙ sym (goes_is s _ e t.stands t.at ∙ let_is s _ e t.stands t.at (passes_here s c.args.candidate.now) (load_fault s.ram.now a (byte_count e)) a (byte_count e))
+    ∙ sym (goes_is s _ e t.stands t.candidate.at ∙ let_is s _ e t.stands t.candidate.at (passes_here s c.args.candidate.now) (load_fault s.ram.now a (byte_count e)) a (byte_count e))

@@ -11,4 +11,4 @@ load_sound-requires-clause-lets c =
     let t = c.requires.turn in
     let addr = c.load_request-request.ensures.addr in
     let sound = ap (λ a. load_fault s.ram.now a (byte_count c.args.candidate.now.entry.now)) addr ∙ sym c.load_request-request.ensures.fault ∙ c.in-None.is in
-    lets_sound s _ _ t.stands t.at c.load_request-request.result.addr (addr ∙ ap (λ (f : Effect). f.addr) c.requires.effect) sound c.requires.goes
+    lets_sound s _ _ t.stands t.candidate.at c.load_request-request.result.addr (addr ∙ ap (λ (f : Effect). f.addr) c.requires.effect) sound c.requires.goes

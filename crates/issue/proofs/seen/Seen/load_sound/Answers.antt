@@ -22,12 +22,12 @@ pub returns-clause-access : goal.returns-clause-access
 returns-clause-access c =
     let s = c.args.self.now in
     let t = c.requires.turn in
-    let forwarded = forwarded_is s _ _ t.stands t.at (passes_here s c.args.candidate.now) c.args.request.now.addr _ _ _ c.requires.size c.requires.lets
+    let forwarded = forwarded_is s _ _ t.stands t.candidate.at (passes_here s c.args.candidate.now) c.args.request.now.addr _ _ _ c.requires.size c.requires.lets
     c.merge-merged.ensures.covered (ap (is_hidden s.point.now.serial) c.merge-merged.ensures.root) in
     c.find.ensures ∙ ap₂ (λ b n. unless_forwarded s.desc.now (around_of s) b c.args.request.now.addr n) (c.is_forwarded-forwarded.ensures ∙ forwarded) c.bytes.ensures.value
 
 pub returns-clause-value : goal.returns-clause-value
 returns-clause-value c =
     let t = c.requires.turn in
-    let number = number_is c.args.self.now _ _ t.stands t.at (passes_here c.args.self.now c.args.candidate.now) c.args.request.now.addr _ c.requires.size c.requires.lets in
+    let number = number_is c.args.self.now _ _ t.stands t.candidate.at (passes_here c.args.self.now c.args.candidate.now) c.args.request.now.addr _ c.requires.size c.requires.lets in
     c.extend.ensures ∙ ap₂ extend c.op.ensures (c.merge-merged.ensures.value ∙ number)

@@ -12,7 +12,7 @@ pub returns-then-not-may_transmit-clause-served : goal.returns-then-not-may_tran
 returns-then-not-may_transmit-clause-served c =
     let t = c.requires.turn in
     served_where_left _ _ _ c.args.candidate.now.entry.now _ c.requires.whole c.requires.left (sym c.has.ensures ∙ c.if-not-has.false)
-    ∙ sym (issue_is _ _ _ t.stands t.at _ (besides c.args.self.now c.args.candidate.now) _ c.sources_of.ensures c.may_transmit.ensures refl t.waits (whole_ready _ _ _ c.requires.whole t.able))
+    ∙ sym (issue_is _ _ _ t.stands t.candidate.at _ (besides c.args.self.now c.args.candidate.now) _ c.sources_of.ensures c.may_transmit.ensures refl t.candidate.waits (whole_ready _ _ _ c.requires.whole t.candidate.able))
     ∙ ap (λ m. m && besides c.args.self.now c.args.candidate.now) c.if-not-may_transmit.true
 
 pub returns-clause-served : goal.returns-clause-served
@@ -21,6 +21,6 @@ returns-clause-served c =
     let s = c.args.self.now in
     let p = c.args.candidate.now in
     served_where_left _ _ _ p.entry.now _ c.requires.whole c.requires.left (sym c.has.ensures ∙ c.if-not-has.false)
-    ∙ sym (issue_is _ _ _ t.stands t.at _ (besides s p) _ c.sources_of.ensures c.may_transmit.ensures refl t.waits (whole_ready _ _ _ c.requires.whole t.able))
+    ∙ sym (issue_is _ _ _ t.stands t.candidate.at _ (besides s p) _ c.sources_of.ensures c.may_transmit.ensures refl t.candidate.waits (whole_ready _ _ _ c.requires.whole t.candidate.able))
     ∙ ap (λ m. m && besides s p) c.if-not-may_transmit.false
     ∙ unless_kept s p t ∙ ap (λ k. not k && besides s p) (sym c.is_kept.ensures)

@@ -21,15 +21,15 @@ returns-then-stores_in_one c =
     let t = c.requires.turn in
     let e = c.args.candidate.now.entry.now in
     let before = before_of s c.args.candidate.now in
-    let all = first_ready s.desc.now before e (own_of c.args.part (sources e)) (in_step s c.args.candidate.now.position e t.stands t.at) (sym c.stores_in_one.ensures ∙ c.if-stores_in_one.true) c.requires.store t.waits t.able in
+    let all = first_ready s.desc.now before e (own_of c.args.part (sources e)) (in_step s c.args.candidate.now.position e t.stands t.candidate.at) (sym c.stores_in_one.ensures ∙ c.if-stores_in_one.true) c.requires.store t.candidate.waits t.candidate.able in
     sym (part_asks s.desc.now (around_of s) before e (part_port c.args.part) c.requires.store ∙ part_may_by c.args.part s.desc.now before e true (sym c.has_issued.ensures ∙ c.if-has_issued.false) all)
 
 pub ready_part-requires : goal.ready_part-requires
 ready_part-requires c =
     let s = c.args.self.now in
     let t = c.requires.turn in
-    let within = station_within (flight_of t.stands.next t.stands.writes s) c.args.candidate.now.position c.args.candidate.now.entry.now t.stands.refines t.at t.waits in
-    let is = t.station in
+    let within = station_within (flight_of t.stands.next t.stands.writes s) c.args.candidate.now.position c.args.candidate.now.entry.now t.stands.refines t.candidate.at t.candidate.waits in
+    let is = t.candidate.station in
     omega (arith, within, is)
 
 pub returns : goal.returns
@@ -39,7 +39,7 @@ returns c =
     let e = c.args.candidate.now.entry.now in
     let before = before_of s c.args.candidate.now in
     let own = own_of c.args.part (sources e) in
-    let ready = part_is s c.args.candidate.now.position e t.stands t.at c.args.part c.args.candidate.now.station c.ready_part.result t.waits t.station c.ready_part.ensures in
+    let ready = part_is s c.args.candidate.now.position e t.stands t.candidate.at c.args.part c.args.candidate.now.station c.ready_part.result t.candidate.waits t.candidate.station c.ready_part.ensures in
     sym (part_asks s.desc.now (around_of s) before e (part_port c.args.part) c.requires.store
     ∙ part_may_by c.args.part s.desc.now before e c.ready_part.result (sym c.has_issued.ensures ∙ c.if-has_issued.false)
     (second_ready s.desc.now before e own (sym c.stores_in_one.ensures ∙ c.if-stores_in_one.false) ∙ sym ready))

@@ -8,4 +8,4 @@ pub sources_at-requires : goal.sources_at-requires
 sources_at-requires c =
     let t = c.requires.turn in
     let s = t.stands in
-    subst (λ n. c.args.candidate.now.position < n) (sym (counts_sources (flight_of s.next s.writes c.args.self.now) s.refines)) (slice_get_within _ _ _ t.at)
+    subst (λ n. c.args.candidate.now.position < n) (sym (counts_sources (flight_of s.next s.writes c.args.self.now) s.refines)) (slice_get_within _ _ _ t.candidate.at)

@@ -15,8 +15,8 @@ pub ready_part-requires : goal.ready_part-requires
 ready_part-requires c =
     let s = c.args.self.now in
     let t = c.requires.turn in
-    let within = station_within (flight_of t.stands.rest s) c.args.candidate.now.position c.args.candidate.now.entry.now t.stands.refines t.at t.waits in
-    let is = t.station in
+    let within = station_within (flight_of t.stands.rest s) c.args.candidate.now.position c.args.candidate.now.entry.now t.stands.refines t.candidate.at t.candidate.waits in
+    let is = t.candidate.station in
     omega (arith, within, is)
 
 pub returns : goal.returns

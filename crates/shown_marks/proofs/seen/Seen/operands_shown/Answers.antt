@@ -1,7 +1,7 @@
-use Rattle.std.proofs.Common.{◌≡◌, ◌+◌, ◌≤◌, length, ap, refl, subst, sym, ◌∙◌, arith, Some}
+use Rattle.std.proofs.Common.{◌≡◌, ◌≤◌, length, ap, subst, sym, ◌∙◌, arith, Some}
 use Rattle.stations.specs.Stations.{PlacesAble}
-use Rattle.issue.proofs.Skipping.{one_unable, unable_by}
-use Rattle.shown_marks.proofs.Standing.{reached_end, reached_first, reached_next, reached_past, reached_shows}
+use Rattle.issue.proofs.Skipping.{places_later}
+use Rattle.shown_marks.proofs.Standing.{reached_end, reached_first, reached_next, reached_past, reached_rest, reached_shows}
 use Rattle.shown_marks.proofs.seen.Seen.operands_shown.Goals as goal
 
 pub loop-station-init : goal.loop-station-init
@@ -21,8 +21,7 @@ returns-then-able-eq0 c =
     let in_range = c.loop-station-test.true in
     let stands = c.requires.stands in
     let none = subst (λ able. PlacesAble held k able) c.if-able-eq0.true c.loop-station.invariant.able in
-    reached_end s stands (length held) refl
-    (reached_past s stands k (length held) (omega (arith, len, in_range)) (omega arith) (λ j low high. unable_by held k j none low high) c.loop-station.invariant.reached)
+    reached_rest s stands k (omega (arith, len, in_range)) none c.loop-station.invariant.reached
 
 pub is_among-requires-clause-able : goal.is_among-requires-clause-able
 is_among-requires-clause-able c = c.loop-station.invariant.able
@@ -35,9 +34,8 @@ loop-station-preserved-then-not-is_among c =
     let len : c.len-station-end.result ≡ length c.args.self.now.stations.now.held = c.len-station-end.ensures.len in
     let in_range = c.loop-station-test.true in
     record {
-      reached = reached_past c.args.self.now c.requires.stands k (k + 1) (omega arith) (omega (arith, len, in_range))
-          (one_unable c.args.self.now.stations.now.held k (c.is_among.ensures ∙ ap Some c.if-not-is_among.true)) c.loop-station.invariant.reached;
-      able = λ i s low is. c.loop-station.invariant.able i s (omega (arith, low)) is;
+      reached = reached_past c.args.self.now c.requires.stands k (omega (arith, len, in_range)) (c.is_among.ensures ∙ ap Some c.if-not-is_among.true) c.loop-station.invariant.reached;
+      able = places_later _ k _ c.loop-station.invariant.able;
     }
 
 -- ---- a station that is able

@@ -7,4 +7,4 @@ pub sources_at-requires : goal.sources_at-requires
 sources_at-requires c =
     let t = c.requires.turn in
     subst (λ n. c.args.candidate.now.position < n) (sym (counts_sources _ t.stands.refines))
-    (slice_get_within _ _ _ t.at)
+    (slice_get_within _ _ _ t.candidate.at)
