@@ -20,6 +20,7 @@ impl<R: RenameTaint> Parts<R> {
 
     /// The point moves over the window: then it says which entries are visible. Under `hold` loads that are Done and
     /// that it passes give their values from then on: the stations await none of them any more.
+    #[inline(always)]
     pub fn advance(&mut self)
         ensures moved { self.new ≡ record self.old { point = moved_over self.old.machine.window self.old.point } }
         ensures advanced { HasAdvanced self.new.point self.new.machine.window }

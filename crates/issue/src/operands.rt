@@ -16,6 +16,7 @@ use rv_effect::{Effect, effect};
 use rv_types::{REGISTERS, Reg, reads_of};
 
 // The value of the entry with this serial, if it is in flight; else this one.
+#[inline(always)]
 fn value_in_flight(rob: &RobRing, serial: u64, retired: u32) -> u32
     requires rise { Rise rob.now.entries }
     ensures { result ≡ from_writer (in_flight rob.now.entries (Some serial)) retired }
@@ -27,6 +28,7 @@ fn value_in_flight(rob: &RobRing, serial: u64, retired: u32) -> u32
 }
 
 // The value of a register whose writer has this serial: the retired one where the writer isn't in flight.
+#[inline(always)]
 fn register_value(rob: &RobRing, regs: &[u32; REGISTERS], register: Reg, writer: Option<u64>) -> u32
     requires rise { Rise rob.now.entries }
     ensures { result ≡ value_by regs.now rob.now.entries (Some register.number) writer }

@@ -80,6 +80,7 @@ impl VisPoint {
     /// Moves the point on: to the oldest entry that keeps younger ones from being visible, or to the serial after the
     /// youngest where none does. The reorder buffer tells that entry, so no walk over the entries is needed. Where the
     /// model doesn't protect the point stays where it shows all.
+    #[inline(always)]
     pub fn advance(&mut self, rob: &RobRing)
         requires rise { Rise rob.now.entries }
         requires few { All (λ e. e.serial < 2 ^ 64 - 1) rob.now.entries }
