@@ -42,7 +42,6 @@ pub(crate) fn before_retire<R: RenameTaint>(parts: &mut Parts<R>, row: &mut Row)
 
 /// The phases after Retire, unless the run has ended; no store executes as they begin. The visibility point says which
 /// entries are visible as Issue asks for it, and once Rename has brought in others.
-// It is built into the cycle, which takes about a hundredth off what a cycle costs.
 #[inline(always)]
 pub(crate) fn after_retire<R: RenameTaint>(parts: &mut Parts<R>, row: &mut Row)
     requires advanced { HasAdvanced parts.old.point parts.old.machine.window }

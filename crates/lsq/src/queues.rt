@@ -150,7 +150,6 @@ impl Lsq {
     /// What a load with this serial still waits for by what it asks for: whether of some older store it isn't known
     /// where it writes; whether of one that writes bytes of the load it isn't known what; and the youngest root of the
     /// addresses of those of which it isn't known what they write.
-    // Few loads come to it, and those of version 2 alone, so it is built in nowhere.
     #[inline(never)]
     pub fn pending(&self, serial: u64, request: &LoadRequest) -> Pending
         ensures address { result.address ≡ list_any lacks_address (older serial self.now.stores) }
