@@ -1,8 +1,8 @@
 -- What callers need of images: which one a file is, and where its code may stand.
-use Rattle.std.proofs.Common.{◌≡◌, ℕ, ◌+◌, ◌-◌, ◌/◌, ◌%◌, ◌<◌, ◌≤◌, Bool, true, false, ◌&&◌, cond, nat_le, List, [], ◌∷◌, length, get_or, Option, None, Some, IsSome, Ok, Err, refl, ap, ◌∙◌, ◌⊎◌, inl, inr, arith}
+use Rattle.std.proofs.Common.{◌≡◌, ℕ, ◌+◌, ◌-◌, ◌/◌, ◌%◌, ◌<◌, ◌≤◌, Bool, true, false, ◌&&◌, cond, nat_le, List, [], ◌∷◌, get_or, Option, None, Some, IsSome, Ok, Err, refl, ap, ◌∙◌, ◌⊎◌, inl, inr, arith}
 use Rattle.std.specs.Prelude.{◌==◌}
 use Rattle.std.specs.List.{list_any}
-use Rattle.std.proofs.lemmas.Bool.{cases_lt, false≢true}
+use Rattle.std.proofs.lemmas.Bool.{false≢true}
 use Rattle.std.proofs.lemmas.Bool.Decides.{nat_tests}
 use Rattle.rv_types.specs.Memory.{Ram, zeros, bytes_at}
 use Rattle.rv_types.specs.Word.{from_le}
@@ -10,7 +10,6 @@ use Rattle.elf_loader.specs.declared.faults.ElfFault.{ElfFault}
 use Rattle.elf_loader.specs.Faults.{first_some, header_fault}
 use Rattle.elf_loader.specs.Image.{ImageText, ram_fault, ram_after, image_in, unless, image_of, code_of, has_code, loads_of}
 use Rattle.elf_loader.specs.inner.Code.{CodeText, word_at}
-use Rattle.elf_loader.proofs.Marked.{no_code_outside}
 
 -- a file without fault is its image in this memory
 pub image_without : (file : List ℕ) (base size : ℕ) (misaligned : Bool) → header_fault file ≡ None → ram_fault file (record { base = base; bytes = zeros size; misaligned = misaligned }) ≡ None
@@ -68,20 +67,8 @@ at_words file base size misaligned image e pc word h =
     let code : code_of file (ram_after file ram) pc ≡ image.code pc = ap (λ (x : ImageText). x.code pc) same in
     code_of_aligned file (ram_after file ram) pc (some_is _ word (code ∙ h))
 
-any_by : (x : Option ℕ) (whole any : Bool) → IsSome (cond (whole && any) x None) → any ≡ true
-any_by x true true h = refl
-any_by x true false h = absurd (false≢true h)
-any_by x false any h = absurd (false≢true h)
-
 -- an instruction that may be fetched stands in memory
 pub inside_by : (low high pc : ℕ) (any : Bool) → any ≡ true → ((pc < low) ⊎ (high < pc + 4) → any ≡ false) → (pc < low) ⊎ (low ≤ pc) → (high < pc + 4) ⊎ (pc + 4 ≤ high) → (low ≤ pc) × (pc + 4 ≤ high)
 inside_by low high pc any t none (inl l) b = let f = none (inl l) in absurd (cc)
 inside_by low high pc any t none (inr l) (inl u) = let f = none (inr u) in absurd (cc)
 inside_by low high pc any t none (inr l) (inr u) = (l, u)
-
-pub code_of_inside : (file : List ℕ) (ram : Ram) (pc : ℕ) → header_fault file ≡ None → ram_fault file ram ≡ None → IsSome (code_of file ram pc)
-    → (ram.base ≤ pc) × (pc + 4 ≤ ram.base + length ram.bytes)
-unfolding code_of
-code_of_inside file ram pc h r s =
-    let any = any_by (Some (from_le (bytes_at ram pc 4))) (pc % 4 == 0) (list_any (has_code pc) (loads_of file)) s in
-    inside_by ram.base (ram.base + length ram.bytes) pc (list_any (has_code pc) (loads_of file)) any (no_code_outside file ram pc h r) (cases_lt pc ram.base) (cases_lt (ram.base + length ram.bytes) (pc + 4))

@@ -1,5 +1,5 @@
 -- A store that begins four bytes or more away from a load reaches none of its bytes.
-use Rattle.std.proofs.Common.{◌≡◌, ℕ, ◌+◌, ◌-◌, ◌<◌, ◌≤◌, ◌⊎◌, inl, inr, Bool, true, false, not, ◌&&◌, ◌||◌, Option, Some, None, is_some, refl, ap, ap₂, sym, ◌∙◌, arith}
+use Rattle.std.proofs.Common.{◌≡◌, ℕ, ◌+◌, ◌-◌, ◌<◌, ◌≤◌, ◌⊎◌, inl, inr, Bool, true, false, not, ◌&&◌, Option, Some, None, is_some, refl, ap, ap₂, ◌∙◌, arith}
 use Rattle.std.specs.Prelude.{nat_le, nat_lt, slice_index, if◌then◌else◌}
 use Rattle.std.specs.Option.{option_or}
 use Rattle.std.proofs.lemmas.Bool.{cases_lt}
@@ -14,7 +14,6 @@ use Rattle.lsq.specs.declared.store.Span.{Span}
 use Rattle.lsq.specs.declared.store.Store.{Store}
 use Rattle.lsq.specs.Merging.{byte_by, byte_in_span, reaches}
 use Rattle.lsq.specs.Gathering.{is_near, passed}
-use Rattle.lsq.specs.Pending.{reaches_one}
 
 few_bytes : (w : Width) → bytes_in w ≤ 4
 few_bytes B = omega arith
@@ -50,28 +49,9 @@ far k a b h low high = by (cases_lt k.addr (a + 4))
         let s : nat_lt b (k.addr + bytes_in k.width) ≡ false = grind (arith, nat_tests) in
         third_fails (not (is_some k.fault)) (nat_le k.addr b) (nat_lt b (k.addr + bytes_in k.width)) s
 
--- nor one of a width's bytes
-pub far_one : (w : Width) (a : ℕ) (k : Span) → is_near a k ≡ false → false ≡ reaches_one w a k
-far_one B a k h = sym (far k a a h (omega arith) (omega arith))
-far_one H a k h = sym (ap₂ (λ p q. p || q) (far k a a h (omega arith) (omega arith)) (far k a (a + 1) h (omega arith) (omega arith)))
-far_one W a k h =
-    sym (ap₂ (λ p q. p || q) (ap₂ (λ p q. p || q) (ap₂ (λ p q. p || q) (far k a a h (omega arith) (omega arith)) (far k a (a + 1) h (omega arith) (omega arith)))
-    (far k a (a + 1 + 1) h (omega arith) (omega arith))) (far k a (a + 1 + 1 + 1) h (omega arith) (omega arith)))
-
 no_byte : (k : Span) (stored : Option ℕ) (b : ℕ) → reaches b k ≡ false → byte_in_span b (Some k) stored ≡ None
 no_byte k None b h = refl
 no_byte k (Some stored) b h = ap (λ t. if t then Some (slice_index (to_le (bytes_in k.width) stored) (b - k.addr)) else None) h
-
--- a store whose bytes aren't known where gives none
-pub no_span : (s : Store) (a : ℕ) (g : Gathered) → s.span ≡ None → passed a s g ≡ record g { root = later s.root g.root }
-no_span s a g e =
-    ap (λ (k : Option Span). record {
-      first = option_or (byte_in_span a k s.stored) g.first;
-      second = option_or (byte_in_span (a + 1) k s.stored) g.second;
-      third = option_or (byte_in_span (a + 1 + 1) k s.stored) g.third;
-      fourth = option_or (byte_in_span (a + 1 + 1 + 1) k s.stored) g.fourth;
-      root = later s.root g.root;
-    }) e
 
 record_of : (s : Store) (g : Gathered) (p q r t : Option ℕ) → p ≡ None → q ≡ None → r ≡ None → t ≡ None →
     record { first = option_or p g.first; second = option_or q g.second; third = option_or r g.third; fourth = option_or t g.fourth; root = later s.root g.root } ≡ record g { root = later s.root g.root }

@@ -1,6 +1,5 @@
 -- How marks move in a cycle, and what shows in it, half by half.
-use Rattle.std.proofs.Common.{◌≡◌, true, false, [], length, Option, Some, None, refl, ap, ap₂, sym, ◌∙◌}
-use Rattle.std.specs.Prelude.{is_some}
+use Rattle.std.proofs.Common.{◌≡◌, false, length, Option, Some, None, refl, ap, ap₂, sym, ◌∙◌}
 use Rattle.rv_types.specs.Isa.{Hart}
 use Rattle.rv_types.specs.Memory.{Code}
 use Rattle.rv_types.specs.declared.End.{End}
@@ -9,17 +8,14 @@ use Rattle.machine_desc.specs.declared.Desc.{Desc}
 use Rattle.window_model.specs.State.{After, Machine}
 use Rattle.window_model.specs.Clear.{clear}
 use Rattle.window_model.specs.Cycle.{begins_cycle}
-use Rattle.window_model.specs.Issue.{issue}
-use Rattle.window_model.specs.Rename.{rename}
 use Rattle.window_model.specs.Retire.{retire, unless_ended}
 use Rattle.window_model.proofs.Quiet.{after_quiet, at_retire, before_quiet}
 use Rattle.core_parts.specs.Described.{Described}
 use Rattle.core_cycle.proofs.Cycling.{Backs, Fronts, Leaves, code_left, desc_left, machine_fronted, machine_left}
 use Rattle.core_cycle.proofs.Fronts.{Resolved, clears, resolves}
-use Rattle.core_cycle.proofs.Going.{goes_on, stops}
 use Rattle.secret_marks.specs.declared.Shown.{Shown}
-use Rattle.secret_marks.specs.Marks.{Marks, after_issue_marks, after_retire_marks, cut, extended}
-use Rattle.secret_marks.specs.Shown.{head_shown, operands_shown, or_else, resolved_shown, shown_cycle}
+use Rattle.secret_marks.specs.Marks.{Marks, after_retire_marks, cut}
+use Rattle.secret_marks.specs.Shown.{head_shown, or_else, resolved_shown, shown_cycle}
 use Rattle.secret_marks.specs.Watch.{Watched, then_watches, watch_before, watch_cycle, watch_fetch, watch_issue, watch_retire}
 use Rattle.entry_marks.specs.declared.marks.Marks.{Marks as Beside}
 use Rattle.entry_marks.specs.Walk.{marks_of}
@@ -40,36 +36,6 @@ module _ (s s1 s2 s3 s4 s5 : Described) (e : Resolved s s1 s2 s3 s4 s5) (m m1 : 
   pub front_marks : (s6 : Described) → s6 ≡ record s5 { machine = (clear s5.desc s5.machine).machine } → (m2 : Marks) → m2 ≡ cut s6.machine.window m1 → m2 ≡ (to_clear s.desc s.machine m).marks
   front_marks s6 e6 m2 h =
       h ∙ ap₂ cut (ap (λ (s : Described). s.machine.window) e6 ∙ ap (λ (a : After). a.machine.window) (clears s s1 s2 s3 s4 s5 e)) resolved_marks
-
--- ---- the watched phases from Issue on
-
-module _ (s : Described) (m : Marks) where
-  abbrev ended_at : Watched
-  ended_at = record { machine = s.machine; marks = m; shows = false }
-
-  abbrev goes_from : Watched
-  goes_from = then_watches (watch_issue s.desc s.machine m) (watch_fetch s.desc (word_at s.code))
-
-  -- where the run goes on, the code shows and leaves what is watched from Issue on
-  module _ (running : s.machine.end ≡ None) where
-    pub back_shows : (t : Option Shown) → t ≡ operands_shown s.desc m [] [] s.machine.window m.window → t ≡ shown_from_issue s.desc s.machine m
-    back_shows t h = h ∙ sym (goes_on s.machine.end None (operands_shown s.desc m [] [] s.machine.window m.window) running)
-
-    pub back_marks : (s1 s2 : Described) → s1 ≡ record s { machine = (issue s.desc s.machine).machine } → s2 ≡ record s1 { machine = (rename s1.desc s1.machine).machine } → (m1 m2 : Marks) →
-        m1 ≡ after_issue_marks s1.machine m → m2 ≡ extended s2.machine.window m1 → m2 ≡ (from_issue s.desc (word_at s.code) s.machine m).marks
-    back_marks s1 s2 issued renamed m1 m2 e1 e2 =
-        let marks = e1 ∙ ap (λ (s : Described). after_issue_marks s.machine m) issued in
-        let window =
-        ap (λ (s : Described). s.machine.window) renamed
-        ∙ ap (λ (s : Described). (rename s.desc s.machine).machine.window) issued in
-        e2 ∙ ap₂ extended window marks ∙ sym (ap (λ (w : Watched). w.marks) (goes_on s.machine.end ended_at goes_from running))
-
-  -- where the run has ended, nothing moves or shows from Issue on
-  pub ended_marks : is_some s.machine.end ≡ true → m ≡ (from_issue s.desc (word_at s.code) s.machine m).marks
-  ended_marks e = sym (ap (λ (w : Watched). w.marks) (stops s.machine.end ended_at goes_from e))
-
-  pub ended_shows : is_some s.machine.end ≡ true → None ≡ shown_from_issue s.desc s.machine m
-  ended_shows e = sym (stops s.machine.end None (operands_shown s.desc m [] [] s.machine.window m.window) e)
 
 -- ---- each byte of memory has its mark
 

@@ -3,16 +3,12 @@ use Rattle.std.proofs.Common.{◌≡◌, ℕ, List, length, Some, ap, ◌∙◌,
 use Rattle.std.specs.Option.{option_map}
 use Rattle.std.proofs.lemmas.List.{length-map}
 use Rattle.std.proofs.lemmas.Option.{slice_get-map}
-use Rattle.rob_ring.specs.Beside.{each_roots, each_writers}
+use Rattle.rob_ring.specs.Beside.{each_roots}
 use Rattle.rob_ring.specs.declared.beside.Sources.{Sources}
 
 -- at the position of sources stand their roots
 pub roots_here : (xs : List Sources) (i : ℕ) (s : Sources) → slice_get xs i ≡ Some s → slice_get (each_roots xs) i ≡ Some s.roots
 roots_here xs i s h = slice_get-map (λ (s : Sources). s.roots) xs i ∙ ap (option_map (λ (s : Sources). s.roots)) h
-
--- the writers of the sources at a position are those of what stands there
-pub writers_here : (xs : List Sources) (i : ℕ) (s : Sources) → slice_get xs i ≡ Some s → slice_get (each_writers xs) i ≡ Some s.writers
-writers_here xs i s h = slice_get-map (λ (s : Sources). s.writers) xs i ∙ ap (option_map (λ (s : Sources). s.writers)) h
 
 -- there are as many pairs of roots as pairs of sources
 pub as_many_roots : (xs : List Sources) → length (each_roots xs) ≡ length xs
