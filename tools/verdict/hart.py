@@ -92,7 +92,7 @@ class Hart:
     """Registers, pc and memory of an image's run. `end` is none until the run ends, then ("exit", value) or ("trap", cause, pc).
 
     With `passing` a load or store that would trap is passed over: a load gives 0, a store writes nothing. That is the path of the
-    model `spectre` (docs/machine.md, "Paths"). `last` is the address of the instruction that the last step took; `size` how many bytes
+    models `spectre` and `off` (docs/machine.md, "Paths"). `last` is the address of the instruction that the last step took; `size` how many bytes
     from `address` on it accessed, or 0, and `fault` why it would trap where it was passed over."""
 
     def __init__(self, image, passing=False):

@@ -92,7 +92,7 @@ class Marks(unittest.TestCase):
 
 class Shadows(unittest.TestCase):
     def test_store_that_faults(self):
-        """Under futuristic a Done store is safe where it doesn't fault; under spectre stores cast no shadow."""
+        """Under futuristic a Done store is safe where it doesn't fault; under spectre no store casts a shadow where no load passes it."""
         for store, model, safe in [(sw(5, 0, 0), FUTURISTIC, False), (sw(5, 0, 2), FUTURISTIC, True), (sw(5, 0, 0), SPECTRE, True)]:
             pipeline, (item,) = renamed([store], model)
             pipeline.issue(item, Event("agu", 0))
