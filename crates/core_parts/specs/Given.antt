@@ -1,4 +1,4 @@
--- Loads whose values are given from a move of the visibility point on (docs/machine.md, "Issue").
+-- Loads whose values are given from a move of the visibility point on (docs/machine.md, "Writers and roots").
 use Rattle.std.specs.Prelude.{ℕ, Bool, ◌&&◌, nat_le, List, map, drop}
 use Rattle.std.specs.List.{filter}
 use Rattle.window_model.specs.declared.Entry.{Entry}

@@ -69,8 +69,8 @@ impl History {
         let _ = &self.counters;
     }
 
-    /// Where the counter of a branch stands that comes with this checkpoint: its word's number, with the history over
-    /// it.
+    /// Where the counter of a branch stands that comes with this checkpoint: at its address divided by 4, xor the
+    /// checkpoint's history, modulo the counters.
     pub fn index(&self, checkpoint: &Checkpoint, pc: u32) -> u32
         ensures place { result ≡ counter_place self.now checkpoint.now pc }
         ensures inside { result < self.now.counters }

@@ -61,10 +61,10 @@ impl<'a> Seen<'a> {
         self.request_at(candidate, made.addr)
     }
 
-    // Whether the older stores, where they don't keep a load whatever its address, let it go that has this effect: in
-    // version 1 they do; in version 2 they do where each has both its parts, or by its bytes, where each without data
-    // has an untainted address and covers none of them.
-    // The load and the oldest store that covers some so, if there is one, are put into `kept`.
+    // Whether the older stores let a load of this effect go, where none of them keeps it whatever its address. In version
+    // 1 they do. In version 2 they do where each has both its parts, and else where each that lacks its data has an
+    // untainted address and covers none of the load's bytes. The load, and the oldest store that lacks data for some of
+    // its bytes, are put into `kept`, if there is such a store.
     fn goes(&self, candidate: &Candidate, made: &Effect, kept: &mut Option<Kept>) -> bool
         requires turn { HasTurn self.now candidate.now }
         requires open { stores_keep self.now candidate.now ≡ false }
@@ -92,7 +92,7 @@ impl<'a> Seen<'a> {
         self.desc.loads_pass() && !self.dependence.waits(candidate.entry.item.pc)
     }
 
-    // Whether a load is let go that passes stores or not, and waits for this.
+    // Whether a load is let go, by whether it passes stores of unknown address and by what it lacks of the older ones.
     fn is_let(&self, passes: bool, pending: &Pending) -> bool
         ensures { result ≡ lets_by passes self.now.point.now.serial pending.now }
     {
@@ -196,9 +196,9 @@ impl<'a> Seen<'a> {
         self.free_from <= self.cycle as u64
     }
 
-    /// Whether an entry with this effect, which isn't kept whatever its operands are, has what it asks for besides
-    /// untainted ones: a load older stores that let it go. A load that lacks a store's data is put into `kept` with the
-    /// store.
+    /// Whether an entry with this effect, which nothing keeps whatever its operands are, has what it asks for besides
+    /// untainted operands: of a load, that older stores let it go. A load that lacks a store's data is put into `kept`
+    /// with the store.
     pub(crate) fn has_besides(
         &self,
         candidate: &Candidate,

@@ -14,6 +14,6 @@ loads_pass d = nat_lt 0 d.predictor_depend
 abbrev pub takes_any_address : Desc → Bool
 takes_any_address d = d.ram_misaligned == 1
 
--- the line behind one that a load fetches from memory is fetched with it, where a miss register is left
+-- the line behind a load's is fetched with it, where the load takes a miss register and another one is left
 abbrev pub has_prefetch : Desc → Bool
 has_prefetch d = d.cache_prefetch == 1

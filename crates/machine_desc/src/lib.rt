@@ -33,7 +33,8 @@ pub use read::read_desc;
 /// Until when what a load has read counts as a secret.
 #[derive(Clone, Copy, Debug, PartialEq, Eq)]
 pub enum SttModel {
-    /// Until each older branch and indirect jump is resolved.
+    /// Until each older branch and indirect jump is resolved and, where loads may pass stores, each older store is
+    /// cleared.
     Spectre,
     /// Until no older instruction can squash the load any more.
     Futuristic,

@@ -19,14 +19,15 @@ impl Desc {
         self.predictor_depend > 0
     }
 
-    /// Whether a load or store may have any address, and so lie in two lines (`docs/machine.md`, "Loads").
+    /// Whether a load or store may have any address, and so lie in two lines (`docs/machine.md`, "State").
     pub fn takes_any_address(&self) -> bool
         ensures { result ≡ takes_any_address self.now }
     {
         self.ram_misaligned == 1
     }
 
-    /// Whether the line behind one that a load fetches from memory is fetched with it (`docs/machine.md`, "Prefetch").
+    /// Whether the line behind a load's is fetched with it, where the load takes a miss register and another one is left
+    /// (`docs/machine.md`, "Prefetch").
     pub fn has_prefetch(&self) -> bool
         ensures { result ≡ has_prefetch self.now }
     {

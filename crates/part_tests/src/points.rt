@@ -104,14 +104,18 @@ fn the_point_stands_at_what_keeps_younger_ones_hidden(rt: HostRuntime) -> Result
     ];
     let spectre = under(alloc, "spectre")?;
     let futuristic = under(alloc, "futuristic")?;
-    for (word, settled, state, fault, by_branches, by_safety) in rows {
+    for (word, settled, state, fault, under_spectre, under_futuristic) in rows {
         let older = first(word, settled, settled);
         let load = load(state, fault);
         let told = [
             seen(alloc, &spectre, older, load)?,
             seen(alloc, &futuristic, older, load)?,
         ];
-        assert_same(&rt, &(settled, told), &(settled, [by_branches, by_safety]));
+        assert_same(
+            &rt,
+            &(settled, told),
+            &(settled, [under_spectre, under_futuristic]),
+        );
     }
     Ok(())
 }

@@ -1,5 +1,5 @@
--- What holds results back, and what an entry that waits awaits and wants (docs/machine.md, "Issue"). `before` is always
--- a list of the older entries, youngest first.
+-- What holds results back, and what an entry that waits awaits and wants (docs/machine.md, "Writers and roots" and
+-- "Issue"). `before` is always a list of the older entries, youngest first.
 use Rattle.std.specs.Prelude.{ℕ, Bool, true, false, not, ◌&&◌, ◌==◌, nat_le, List, [], ◌∷◌, map, Option, Some, None, if◌then◌else◌}
 use Rattle.std.specs.List.{cons_option}
 use Rattle.std.specs.Option.{option_map}

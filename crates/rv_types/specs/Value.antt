@@ -13,8 +13,8 @@ abbrev pub one_if : Bool → ℕ
 one_if b = if b then 1 else 0
 
 -- the result of an arithmetic operation on a and b: sums, differences and MUL modulo 2 ^ 32; shifts by the low five
--- bits of b; MULH, MULHSU and MULHU the high 32 bits of the product; division rounds towards zero, by 0 it gives the
--- largest number and as remainder the dividend, and -2 ^ 31 by -1 gives -2 ^ 31, remainder 0
+-- bits of b; MULH, MULHSU and MULHU the high 32 bits of the product; division rounds towards zero, by 0 it gives
+-- 2 ^ 32 - 1 (as a signed number -1) and as remainder the dividend, and -2 ^ 31 by -1 gives -2 ^ 31, remainder 0
 abbrev pub value : Op → ℕ → ℕ → ℕ
 value Add a b = word_add a b
 value Sub a b = word_sub a b

@@ -1,8 +1,7 @@
 //! The words of `stt_secrets D IMAGE --secret ADDRESS:BYTES .. --cycles N`, read by clap.
 //!
 //! What words ask for is said in `specs/Words.antt`, over clap's own written definition of what it takes, and what a
-//! range is in
-//! `specs/Ranges.antt`: `docs/formats.md`, "Words of stt_secrets", has both in plain words.
+//! range is in `specs/Ranges.antt`: `docs/formats.md`, "Words of stt_secrets", has both in plain words.
 #![tactic(auto)]
 
 ghost use Rattle.std.specs.Prelude.{◌≡◌, ◌≢◌, IfOk, IfErr, map, None, Some, [], false};

@@ -126,8 +126,8 @@ impl Stations {
         self.occupant(i).is_ready_part(part)
     }
 
-    /// Whether the entry at a position, or a part of it, may issue. Kept for who looks at stations from outside: Issue
-    /// asks for all of them at once.
+    /// Whether the entry at a position is able to issue: all is there that it, or a part of it, waits for. Kept for who
+    /// looks at stations from outside: Issue asks for all of them at once.
     pub fn able(&self, i: u32) -> bool
         requires { i < length self.now.held }
         ensures { option_map is_able (slice_get self.now.held i) ≡ Some result }
@@ -135,7 +135,7 @@ impl Stations {
         !has_wide_bit(self.waiting, self.ages[i as usize])
     }
 
-    /// A word with a bit set for the place of each entry that may issue, or of which a part may.
+    /// A word with a bit set for the place of each entry that is able to issue, or of which a part is.
     pub fn able_places(&self) -> u128
         ensures { PlacesAble self.now.held 0 result }
     {
@@ -162,7 +162,7 @@ impl Stations {
         with_wide_bit(able, self.place(i), false)
     }
 
-    /// Whether there is an entry that may issue, or a part of it.
+    /// Whether there is an entry that is able to issue, or a part of it.
     pub fn any_able(&self) -> bool
         ensures { result ≡ list_any is_able self.now.held }
     {

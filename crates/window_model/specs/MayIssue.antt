@@ -38,7 +38,7 @@ effect_of regs before e =
 
 -- ---- which entries may issue that are no stores
 
--- every older store has its address and value
+-- every older store is Done: both its address and what it writes are known
 abbrev pub stores_done : List Entry → Bool
 stores_done before = list_all (λ e. not (is_store e.item.kind) || is_done e.state) before
 

@@ -116,7 +116,7 @@ pub enum Way {
     Jump,
 }
 
-/// Where a load found a line, or what is prefetched is found.
+/// Where a line was found that a load asked for, or that is prefetched.
 #[derive(Clone, Copy, Debug, PartialEq, Eq)]
 pub enum Look {
     /// The cache has the line.

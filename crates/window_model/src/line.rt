@@ -1,4 +1,4 @@
-//! Lines of memory (`docs/machine.md`, "Loads").
+//! Lines of memory (`docs/machine.md`, "State").
 ghost use Rattle.std.specs.Prelude.{◌≡◌, ◌+◌, ◌^◌, ◌<◌, ◌≤◌};
 ghost use Rattle.window_model.specs.State.{line_of, lines_of, upper_line};
 
