@@ -1,5 +1,5 @@
 //! Which entry is resolved in a cycle (`docs/machine.md`, "Resolve").
-ghost use Rattle.std.specs.Prelude.{◌≡◌, ◌<◌, length, slice_get, Some};
+ghost use Rattle.std.specs.Prelude.{◌≡◌, ◌<◌, length, Some};
 ghost use Rattle.rob_ring.specs.Beside.{each_roots};
 ghost use Rattle.visibility.specs.Pick.{can_resolve, pick_from};
 

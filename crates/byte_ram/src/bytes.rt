@@ -1,5 +1,5 @@
 //! Numbers in a slice of bytes, the lowest byte first.
-ghost use Rattle.std.specs.Prelude.{◌≡◌, ◌≤◌, ◌<◌, ◌+◌, ◌++◌, ◌∷◌, ◌%◌, ◌^◌, length, take, drop, slice_index, slice_range};
+ghost use Rattle.std.specs.Prelude.{◌≡◌, ◌≤◌, ◌<◌, ◌+◌, ◌%◌, length, slice_index, slice_range};
 ghost use Rattle.rv_types.specs.Word.{from_le, to_le};
 ghost use Rattle.byte_ram.specs.Access.{pasted};
 

@@ -1,5 +1,5 @@
 //! Memory by bytes, and its accesses.
-ghost use Rattle.std.specs.Prelude.{◌≡◌, ◌<◌, ◌≤◌, ◌+◌, ◌-◌, ◌*◌, ◌%◌, ◌^◌, length, IfOk, IsTrue, IsNone, Option, ℕ, Result};
+ghost use Rattle.std.specs.Prelude.{◌≡◌, ◌<◌, ◌≤◌, ◌+◌, ◌-◌, ◌%◌, ◌^◌, length, IfOk, IsTrue, Option, Result};
 ghost use Rattle.rv_types.specs.Memory.{Ram, zeros, in_ram, access_fault, load_fault, store_fault, with_bytes};
 ghost use Rattle.byte_ram.specs.Access.{get_of, put_of, byte_of};
 

@@ -1,5 +1,5 @@
 //! One level of a cache: all its sets.
-ghost use Rattle.std.specs.Prelude.{◌≡◌, ◌<◌, ◌≤◌, ◌==◌, not, true, [], ◌∷◌, take, replicate, slice_set, slice_index_or, IfOk, vec_len};
+ghost use Rattle.std.specs.Prelude.{◌≡◌, ◌<◌, ◌≤◌, ◌==◌, not, true, [], ◌∷◌, replicate, slice_set, slice_index_or, IfOk, vec_len};
 ghost use Rattle.std.specs.List.{filter, list_any};
 ghost use Rattle.window_model.specs.Sets.{set_in, is_in, moved_up, entered};
 ghost use Rattle.cache_tags.specs.Sets.{set_at};

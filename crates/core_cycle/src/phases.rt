@@ -1,6 +1,6 @@
 //! The phase that stands over loose parts: a call of its crate on the parts that it moves. A core beside which marks
 //! walk uses it, too.
-ghost use Rattle.std.specs.Prelude.{◌≡◌, ◌<◌, ◌+◌, ◌-◌, ◌^◌, [], None};
+ghost use Rattle.std.specs.Prelude.{◌≡◌, ◌<◌, ◌+◌, ◌^◌, [], None};
 ghost use Rattle.visibility.specs.Point.{HasAdvanced};
 ghost use Rattle.window_model.specs.Retire.{retire};
 ghost use Rattle.window_model.specs.inner.Row.{HasRoom, IsLonger, most_entries, most_retired, with_events};

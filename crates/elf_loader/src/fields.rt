@@ -1,5 +1,5 @@
 //! The fields of the header and of the program headers (ELF specification, "ELF Header" and "Program Header").
-ghost use Rattle.std.specs.Prelude.{◌≡◌, ◌≤◌, ◌<◌, ◌+◌, ◌*◌, length};
+ghost use Rattle.std.specs.Prelude.{◌≡◌, ◌≤◌, ◌+◌, ◌*◌, length};
 ghost use Rattle.elf_loader.specs.Fields.{has_magic, header_of, program_header};
 
 use byte_ram::{half_at, word_at};

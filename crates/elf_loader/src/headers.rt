@@ -1,7 +1,7 @@
 //! The tests of the headers, in their order (`specs/Faults.antt`).
 ghost use Rattle.std.specs.Prelude.{◌≡◌, ◌≤◌, ◌<◌, ◌+◌, ◌*◌, length, map, None, Some, MatchResult};
 ghost use Rattle.std.specs.List.{range_with_len};
-ghost use Rattle.elf_loader.specs.Fields.{header_of, count_of};
+ghost use Rattle.elf_loader.specs.Fields.{header_of};
 ghost use Rattle.elf_loader.specs.Faults.{first_some, field_fault, table_fault, program_header_fault, header_fault};
 
 use crate::faults::ElfFault;

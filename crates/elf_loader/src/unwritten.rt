@@ -17,7 +17,7 @@ pub(crate) struct Unwritten {
 }
 
 impl Model for Unwritten {
-    ghost use Rattle.std.specs.Prelude.{List, Bool, ◌<◌, ◌^◌, vec_len};
+    ghost use Rattle.std.specs.Prelude.{List, Bool, ◌<◌, ◌^◌};
 
     ghost Value = { List Bool };
 

@@ -73,7 +73,6 @@ impl<'a> Walk<'a> {
     ghost use Rattle.secret_marks.specs.Words.{mark_at};
     ghost use Rattle.secret_marks.specs.Marks.{byte_mark};
     ghost use Rattle.secret_marks.specs.Results.{loaded_marks};
-    ghost use Rattle.window_model.specs.Order.{before_at};
     ghost use Rattle.window_model.specs.Retire.{addr_of};
     ghost use Rattle.entry_marks.specs.Walk.{entries_at, marks_at};
 

@@ -1,5 +1,5 @@
 //! The marks beside the parts of a core.
-ghost use Rattle.std.specs.Prelude.{◌≡◌, ◌+◌, length, get_or};
+ghost use Rattle.std.specs.Prelude.{◌≡◌, ◌+◌, length};
 ghost use Rattle.circular_buffer.specs.Buffer.{buffer};
 ghost use Rattle.std.specs.Prelude.{◌++◌, ◌-◌, ◌<◌, ◌≤◌, replicate, take};
 ghost use Rattle.secret_marks.specs.Marks.{new_entry};

@@ -1,10 +1,8 @@
 //! Retire moves marks: each entry that leaves hands those of its value to its register, and a store those of what it
 //! stores to memory.
-ghost use Rattle.std.specs.Prelude.{◌≡◌, ◌+◌, ◌-◌, ◌<◌, ◌≤◌, List, drop, length, slice_set};
-ghost use Rattle.std.specs.Option.{option_map};
+ghost use Rattle.std.specs.Prelude.{◌≡◌, ◌+◌, ◌-◌, ◌<◌, ◌≤◌, List, drop, length};
 ghost use Rattle.circular_buffer.specs.Buffer.{buffer};
 ghost use Rattle.rv_types.specs.Regs.{writes_of};
-ghost use Rattle.rv_types.specs.Value.{bytes_in};
 ghost use Rattle.window_model.specs.declared.Entry.{Entry};
 ghost use Rattle.secret_marks.specs.declared.EntryMarks.{EntryMarks};
 ghost use Rattle.secret_marks.specs.Marks.{leaves_as, left, with_byte_marks, with_marks};

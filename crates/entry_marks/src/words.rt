@@ -1,5 +1,5 @@
 //! What becomes of the marks of words (`docs/theorems.md`, "Secrets that are loaded").
-ghost use Rattle.std.specs.Prelude.{◌≡◌, ◌||◌};
+ghost use Rattle.std.specs.Prelude.{◌≡◌};
 ghost use Rattle.secret_marks.specs.Words.{any_byte, downward, either, every_byte, lowest_byte, mark_at, smeared, upward};
 
 use secret_marks::WordMarks;

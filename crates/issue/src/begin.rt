@@ -62,7 +62,7 @@ impl<'a> Seen<'a> {
     ghost use Rattle.window_model.specs.inner.Row.{HasRoom};
     ghost use Rattle.issue.specs.Operands.{first_of};
     ghost use Rattle.issue.specs.Ports.{most_events_of};
-    ghost use Rattle.issue.specs.State.{HasTurn, around_of, here};
+    ghost use Rattle.issue.specs.State.{HasTurn, here};
     ghost use Rattle.issue.specs.Turns.{Comes, begin_entry, divider_by, effect_here, load_by};
 
     // A division takes the divider for its time, which its first operand tells.

@@ -1,9 +1,8 @@
 //! The values of an entry's sources (`docs/machine.md`, "Writers and roots"): a writer's that is in flight, else the
 //! retired one.
-ghost use Rattle.std.specs.Prelude.{◌≡◌, Some, length, map, slice_get};
+ghost use Rattle.std.specs.Prelude.{◌≡◌, Some};
 ghost use Rattle.std.specs.Option.{option_map};
-ghost use Rattle.rv_types.specs.Regs.{reads_of, two};
-ghost use Rattle.rob_ring.specs.Ring.{below};
+ghost use Rattle.rv_types.specs.Regs.{reads_of};
 ghost use Rattle.window_model.specs.Order.{from_writer};
 ghost use Rattle.window_model.specs.Serials.{Rise};
 ghost use Rattle.refinement.specs.Writers.{in_flight};

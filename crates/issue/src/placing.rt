@@ -2,7 +2,7 @@
 //! window").
 ghost use Rattle.std.specs.Prelude.{◌≡◌, ◌<◌, length, true};
 ghost use Rattle.machine_desc.specs.Questions.{loads_pass};
-ghost use Rattle.window_model.specs.Order.{has_address, has_data, is_store, is_waiting};
+ghost use Rattle.window_model.specs.Order.{has_address, is_store};
 ghost use Rattle.window_model.specs.Retire.{byte_count};
 ghost use Rattle.refinement.specs.Noted.{noted, noted_load, with_span};
 ghost use Rattle.refinement.specs.InFlight.{InFlight};

@@ -1,6 +1,6 @@
 //! What the load of a cycle leaves of the cache, of its second level and of the miss registers (`docs/machine.md`,
 //! "Issue").
-ghost use Rattle.std.specs.Prelude.{◌≡◌, ◌<◌, ◌≤◌, ◌+◌, ◌^◌, [], ◌∷◌, ◌++◌, length, map};
+ghost use Rattle.std.specs.Prelude.{◌≡◌, ◌<◌, ◌≤◌, ◌+◌, ◌++◌, length, map};
 ghost use Rattle.std.specs.List.{fold};
 ghost use Rattle.std.specs.Option.{option_to_list};
 ghost use Rattle.window_model.specs.Access.{register};

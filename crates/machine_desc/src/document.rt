@@ -1,8 +1,8 @@
 //! What a TOML document has at a name.
-ghost use Rattle.std.specs.Prelude.{◌≡◌, pos, ◌≤ℤ◌, codes, ◌≤◌, map, option_map};
+ghost use Rattle.std.specs.Prelude.{◌≡◌, option_map};
 ghost use Rattle.toml.specs.View.{table_view, view};
 ghost use Rattle.toml.specs.Data.{get_member};
-ghost use Rattle.machine_desc.specs.Table.{some_key, some_top, section_of, name_of};
+ghost use Rattle.machine_desc.specs.Table.{some_key, some_top};
 ghost use Rattle.machine_desc.specs.Description.{unknown, version_in, value_at, has_shape, whole_in, number_in, number_or_least, model_in, model_named, defence_in, defence_named};
 
 use crate::keys::{FIRST, NEWEST, Shape, some_key, some_top};

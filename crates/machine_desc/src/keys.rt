@@ -2,7 +2,7 @@
 //!
 //! `docs/formats.md`, "Machine descriptions", has the same table with what each key means. A further key is one more
 //! variant, its place in `KEYS`, and an arm of `since`, `section`, `name` and `range`.
-ghost use Rattle.std.specs.Prelude.{◌≡◌, ◌≤◌, ◌++◌, length, codes};
+ghost use Rattle.std.specs.Prelude.{◌≡◌, ◌≤◌, length};
 ghost use Rattle.machine_desc.specs.Table.{section_name, row, values_of, where_known, since_of, section_of, name_of, key_text, is_known};
 ghost use Rattle.machine_desc.specs.Table.{some_key, some_section, some_top, stands_at};
 ghost use Rattle.machine_desc.specs.Version.{most, knows_off};

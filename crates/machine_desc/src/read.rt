@@ -1,9 +1,8 @@
 //! Reads descriptions: looks for the faults in their order, and then takes the numbers.
 //!
 //! `specs/Description.antt` has the order; `docs/formats.md` tells it.
-ghost use Rattle.std.specs.Prelude.{◌≡◌, ◌≢◌, IsTrue, IsUtf8, Ok, Err, IfOk, IfErr, MatchResult, Some, None, map};
-ghost use Rattle.toml.specs.View.{table_view, view};
-ghost use Rattle.toml.specs.Data.{get_member};
+ghost use Rattle.std.specs.Prelude.{◌≡◌, ◌≢◌, IsTrue, IsUtf8, Ok, Err, IfOk, IfErr, Some, None, map};
+ghost use Rattle.toml.specs.View.{table_view};
 ghost use Rattle.machine_desc.specs.declared.keys.Key.{Key};
 ghost use Rattle.machine_desc.specs.Table.{values_of};
 ghost use Rattle.machine_desc.specs.Clean.{IsClean, has_numbers};

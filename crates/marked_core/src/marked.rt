@@ -1,5 +1,5 @@
 //! The core with marks beside it.
-ghost use Rattle.std.specs.Prelude.{◌≡◌, ◌<◌, ◌≤◌, ◌-◌, ◌^◌, length, map, IfOk, None};
+ghost use Rattle.std.specs.Prelude.{◌≡◌, ◌<◌, ◌≤◌, ◌-◌, ◌^◌, length, IfOk, None};
 ghost use Rattle.elf_loader.specs.inner.Code.{word_at};
 ghost use Rattle.window_model.specs.Committed.{Commits};
 ghost use Rattle.window_model.specs.Cycle.{Cycled, cycle};

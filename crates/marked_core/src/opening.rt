@@ -1,5 +1,5 @@
 //! Marks before the first cycle: those of the secret bytes.
-ghost use Rattle.std.specs.Prelude.{◌≡◌, length, map, IfOk};
+ghost use Rattle.std.specs.Prelude.{◌≡◌, map, IfOk};
 ghost use Rattle.rv_types.specs.Memory.{range};
 ghost use Rattle.secret_marks.specs.Marks.{opening_marks};
 ghost use Rattle.secret_marks.specs.Ranges.{lies_in, secret_in};

@@ -1,6 +1,6 @@
 //! The phases that move marks, or in which something marked shows: each is that of its crate over the parts, with what
 //! becomes of the marks beside them (`docs/theorems.md`, "Secrets that are loaded").
-ghost use Rattle.std.specs.Prelude.{◌≡◌, ◌<◌, ◌≤◌, ◌+◌, ◌^◌, [], None, length};
+ghost use Rattle.std.specs.Prelude.{◌≡◌, ◌<◌, ◌+◌, ◌^◌, [], None, length};
 ghost use Rattle.std.specs.List.{AllByRecursion as Each};
 ghost use Rattle.machine_facts.specs.Sized.{Sized};
 ghost use Rattle.machine_facts.specs.Timely.{WaitsOrDone};

@@ -1,10 +1,9 @@
 //! Two images to be run.
-ghost use Rattle.std.specs.Prelude.{◌≡◌, ◌<◌, ◌^◌, ◌+◌, ◌↔◌, length, true, IfOk, IsTrue};
-ghost use Rattle.window_model.specs.Cycle.{after_cycles};
+ghost use Rattle.std.specs.Prelude.{◌≡◌, ◌<◌, ◌+◌, length, true, IfOk, IsTrue};
 ghost use Rattle.window_model.specs.Taint.{protects};
 ghost use Rattle.pair_run.specs.inner.Images.{Opened, image_at};
 ghost use Rattle.run_inputs.specs.Loaded.{loaded};
-ghost use Rattle.pair_run.specs.Answer.{Answers, Premise};
+ghost use Rattle.pair_run.specs.Answer.{Answers};
 ghost use Rattle.pair_run.specs.declared.answer.Differ.TheVariants.{Same};
 
 use crate::answer::PairAnswer;

@@ -1,6 +1,5 @@
 //! Branches and JALRs over a reorder buffer of two entries, with serial 0 alone visible (`branch_resolve`;
 //! `docs/machine.md`, "Resolve").
-ghost use Rattle.std.specs.Prelude.{◌≡◌, length, IfOk};
 
 use crate::asserting::assert_same;
 use crate::descriptions::small;

@@ -1,6 +1,6 @@
 //! Flags beside the entries, as the bits of three words: bit k % 64 of word k / 64 is set where the entry at position k
 //! has a flag.
-ghost use Rattle.std.specs.Prelude.{◌≡◌, ◌≢◌, ◌+◌, ◌≤◌, ◌<◌, ℕ, if◌then◌else◌, nat_lt};
+ghost use Rattle.std.specs.Prelude.{◌≡◌, ◌≢◌, ◌+◌, ◌<◌, ℕ, if◌then◌else◌, nat_lt};
 ghost use Rattle.std.specs.Int.{bit_at};
 ghost use Rattle.word_bits.specs.Bits.{one_if, NextBit};
 ghost use Rattle.rob_ring.specs.Flags.{flag_at};

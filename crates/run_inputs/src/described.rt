@@ -1,5 +1,5 @@
 //! A description, and then an image in its memory.
-ghost use Rattle.std.specs.Prelude.{◌≡◌, ◌∷◌, [], Some, MatchResult, IfOk};
+ghost use Rattle.std.specs.Prelude.{◌∷◌, [], Some, MatchResult, IfOk};
 ghost use Rattle.tool_io.specs.Outside.{SameContents};
 ghost use Rattle.run_inputs.specs.Loaded.{Fits, loaded};
 ghost use Rattle.run_inputs.specs.Input.{IsRead, Refuses};

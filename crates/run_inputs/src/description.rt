@@ -1,5 +1,5 @@
 //! The description of a run, if one is named.
-ghost use Rattle.std.specs.Prelude.{◌≡◌, Option, Some, Result, MatchResult};
+ghost use Rattle.std.specs.Prelude.{Option, Some, Result, MatchResult};
 ghost use Rattle.std.specs.Option.{option_map};
 ghost use Rattle.machine_desc.specs.Description.{Describes};
 ghost use Rattle.tool_io.specs.Outside.{SameContents, SameCounts};

@@ -1,5 +1,5 @@
 //! A program over its words as they were read.
-ghost use Rattle.std.specs.Prelude.{◌≡◌, ◌≢◌, ℕ, List, [], IfOk, IfErr, map, string_bytes};
+ghost use Rattle.std.specs.Prelude.{◌≢◌, ℕ, List, [], IfOk, IfErr, map, string_bytes};
 ghost use Rattle.std.specs.Process.{exit_status};
 ghost use Rattle.tool_io.specs.Outside.{SameContents, Told};
 ghost use Rattle.run_inputs.specs.Note.{Tells};

@@ -1,5 +1,5 @@
 //! Reading a file whole, up to a limit.
-ghost use Rattle.std.specs.Prelude.{◌≡◌, MatchResult};
+ghost use Rattle.std.specs.Prelude.{MatchResult};
 ghost use Rattle.tool_io.specs.declared.Got.TheVariants.{Bytes};
 ghost use Rattle.tool_io.specs.Outside.{SameContents, SameCounts};
 ghost use Rattle.run_inputs.specs.Input.{MayGive};

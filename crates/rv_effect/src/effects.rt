@@ -1,5 +1,5 @@
 //! What each instruction makes of its sources (RISC-V unprivileged manual, chapters RV32I and M).
-ghost use Rattle.std.specs.Prelude.{◌≡◌, ◌==◌, if◌then◌else◌};
+ghost use Rattle.std.specs.Prelude.{◌≡◌, if◌then◌else◌};
 ghost use Rattle.rv_types.specs.Isa.{at_address, effect, is_misaligned, jump, only, relative};
 ghost use Rattle.rv_effect.specs.Seen.{seen};
 

@@ -1,5 +1,5 @@
 //! The instruction set's state in which a run begins.
-ghost use Rattle.std.specs.Prelude.{◌≡◌, IfOk};
+ghost use Rattle.std.specs.Prelude.{IfOk};
 ghost use Rattle.run_inputs.specs.Loaded.{loaded};
 ghost use Rattle.stt_top.specs.inner.Running.{Begins};
 

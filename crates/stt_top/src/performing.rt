@@ -1,5 +1,4 @@
 //! What a task comes to. All memory is taken before the first step or cycle, and nothing is written before.
-ghost use Rattle.std.specs.Prelude.{◌≡◌};
 ghost use Rattle.run_inputs.specs.Loaded.{Fits};
 ghost use Rattle.run_inputs.specs.Loaded.{loaded};
 ghost use Rattle.stt_top.specs.Work.{isa_task, report_task, trace_task, pair_task};

@@ -1,5 +1,5 @@
 //! What a command asks for, with all that it reads.
-ghost use Rattle.std.specs.Prelude.{◌≡◌, Result, IfOk};
+ghost use Rattle.std.specs.Prelude.{Result, IfOk};
 ghost use Rattle.std.specs.Option.{option_map};
 ghost use Rattle.tool_io.specs.Outside.{SameContents};
 ghost use Rattle.tool_words.specs.Words.{isa_text, pair_text};

@@ -1,5 +1,5 @@
 //! The row of a cycle: its number, and its events in their order.
-ghost use Rattle.std.specs.Prelude.{◌≡◌, ◌<◌, ◌≤◌, ◌++◌, ◌∷◌, [], length};
+ghost use Rattle.std.specs.Prelude.{◌≡◌, ◌<◌, ◌≤◌, ◌∷◌, [], length};
 
 use crate::Event;
 use std::marker::Model;
