@@ -1,4 +1,5 @@
-//! Values that are given: those of Done entries, but for loads that are held back (`docs/machine.md`, "Writers and roots").
+//! Values that are given: those of Done entries, but for loads that are held back (`docs/machine.md`, "Writers and
+//! roots").
 ghost use Rattle.std.specs.Prelude.{◌≡◌, ◌<◌, ◌≤◌, ◌-◌, ◌^◌, ◌&&◌, true, map, take, drop, if◌then◌else◌};
 ghost use Rattle.std.specs.List.{All};
 ghost use Rattle.machine_desc.specs.declared.Defence.{Defence};

@@ -160,8 +160,8 @@ impl<'a> Seen<'a> {
         }
     }
 
-    /// Goes over the stations, oldest first, until none is left whose entry is able to issue: entries that lack what they
-    /// want stay as they are. All ports of the cycle are left, and nothing is decided as yet.
+    /// Goes over the stations, oldest first, until none is left whose entry is able to issue: entries that lack what
+    /// they want stay as they are. All ports of the cycle are left, and nothing is decided as yet.
     pub(crate) fn decide(&self, ports: &mut Ports, decided: &mut Decided, row: &mut Row)
         requires stands { IssueInvariant self.now }
         requires left { LeftAfter self.now.desc.now (around_of self.now) [] ports.old }

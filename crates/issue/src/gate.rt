@@ -61,10 +61,10 @@ impl<'a> Seen<'a> {
         self.request_at(candidate, made.addr)
     }
 
-    // Whether the older stores let a load of this effect go, where none of them keeps it whatever its address. In version
-    // 1 they do. In version 2 they do where each has both its parts, and else where each that lacks its data has an
-    // untainted address and covers none of the load's bytes. The load, and the oldest store that lacks data for some of
-    // its bytes, are put into `kept`, if there is such a store.
+    // Whether the older stores let a load of this effect go, where none of them keeps it whatever its address. In
+    // version 1 they do. In version 2 they do where each has both its parts, and else where each that lacks its data
+    // has an untainted address and covers none of the load's bytes. The load, and the oldest store that lacks data for
+    // some of its bytes, are put into `kept`, if there is such a store.
     fn goes(&self, candidate: &Candidate, made: &Effect, kept: &mut Option<Kept>) -> bool
         requires turn { HasTurn self.now candidate.now }
         requires open { stores_keep self.now candidate.now ≡ false }

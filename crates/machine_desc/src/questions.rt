@@ -26,8 +26,8 @@ impl Desc {
         self.ram_misaligned == 1
     }
 
-    /// Whether the line behind a load's is fetched with it, where the load takes a miss register and another one is left
-    /// (`docs/machine.md`, "Prefetch").
+    /// Whether the line behind a load's is fetched with it, where the load takes a miss register and another one is
+    /// left (`docs/machine.md`, "Prefetch").
     pub fn has_prefetch(&self) -> bool
         ensures { result ≡ has_prefetch self.now }
     {
