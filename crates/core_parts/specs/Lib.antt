@@ -4,3 +4,5 @@ pub mod Inside
 pub mod Lent
 pub mod Dropped
 pub mod Given
+pub mod Puts
+pub mod Decided

@@ -5,6 +5,7 @@
 //! moves, and shows the invariant once, where it ends.
 #![tactic(auto)]
 
+mod decided;
 mod dropping;
 mod fetching;
 mod giving;
@@ -13,5 +14,6 @@ mod moves;
 mod parts;
 mod start;
 
+pub use decided::{Decided, PUTS_MAX, Put, Puts};
 pub use giving::gives;
 pub use parts::Parts;

@@ -27,7 +27,7 @@ use Rattle.refinement.specs.Refines.{Refines}
 use Rattle.refinement.specs.Stations.{left_held}
 use Rattle.window_model.proofs.Serials.{all_at, all_left, all_right}
 use Rattle.window_model.proofs.Lists.{set_here}
-use Rattle.issue.specs.declared.decide.Put.{Put}
+use Rattle.core_parts.specs.declared.decided.Put.{Put}
 use Rattle.issue.specs.Puts.{ArePuts, IsPut, known_in, placed, width_for}
 use Rattle.issue.proofs.Turning.{issues_here, placed_push}
 

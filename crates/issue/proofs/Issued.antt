@@ -26,7 +26,7 @@ use Rattle.core_parts.specs.Held.{Held, Sizes, Whole, described, in_flight, mach
 use Rattle.refinement.specs.InFlight.{InFlight}
 use Rattle.refinement.specs.Refines.{Refines}
 use Rattle.core_parts.proofs.Whole.{shown_by, told_by}
-use Rattle.issue.specs.declared.decide.Decided.{Decided}
+use Rattle.core_parts.specs.declared.decided.Decided.{Decided}
 use Rattle.issue.specs.Decisions.{Decides, most_begun}
 use Rattle.issue.specs.Parts.{holding}
 use Rattle.issue.specs.Ports.{events_left, left_in_all}

@@ -8,7 +8,7 @@ use Rattle.window_model.specs.Row.{Row}
 use Rattle.window_model.specs.inner.Row.{with_events}
 use Rattle.rob_ring.specs.declared.issued.Issued.{Issued}
 use Rattle.unit_ports.specs.Ports.{Ports}
-use Rattle.issue.specs.declared.decide.Put.{Put}
+use Rattle.core_parts.specs.declared.decided.Put.{Put}
 use Rattle.issue.specs.Ports.{OnlyPorts}
 use Rattle.issue.specs.Turns.{after_by, after_of, puts_by, puts_of}
 

@@ -8,7 +8,7 @@ use Rattle.window_model.specs.Row.{Row}
 use Rattle.window_model.specs.inner.Row.{IsLonger, most_issued, with_events}
 use Rattle.unit_ports.specs.Ports.{Ports}
 use Rattle.stations.specs.Stations.{PlacesAble}
-use Rattle.issue.specs.declared.decide.Decided.{Decided}
+use Rattle.core_parts.specs.declared.decided.Decided.{Decided}
 use Rattle.issue.specs.declared.candidate.Candidate.{Candidate}
 use Rattle.issue.specs.declared.seen.Seen.{Seen}
 use Rattle.issue.specs.Decisions.{DecidesFor, HadTurn, most_begun, turns_of}

@@ -15,7 +15,7 @@ use Rattle.rob_ring.specs.declared.issued.Issued.{Issued}
 use Rattle.unit_ports.specs.Laws.{LeftAfter, if_asked}
 use Rattle.unit_ports.specs.Ports.{Ports, left_at}
 use Rattle.unit_ports.proofs.Granting.{granted_is, left_by_store}
-use Rattle.issue.specs.declared.decide.Decided.{Decided}
+use Rattle.core_parts.specs.declared.decided.Decided.{Decided}
 use Rattle.issue.specs.declared.candidate.Candidate.{Candidate}
 use Rattle.issue.specs.declared.seen.Seen.{Seen}
 use Rattle.issue.specs.Decisions.{HadTurn}

@@ -32,7 +32,7 @@ use Rattle.unit_ports.specs.Ports.{port_for}
 use Rattle.rob_ring.specs.Issued.{issued_of, with_issued}
 use Rattle.refinement.specs.Noted.{PartsGoOn, TracksOn}
 use Rattle.refinement.specs.Stations.{Issues, station_of}
-use Rattle.issue.specs.declared.decide.Put.{Put}
+use Rattle.core_parts.specs.declared.decided.Put.{Put}
 use Rattle.issue.specs.Ports.{most_events_of}
 use Rattle.issue.specs.Puts.{ArePuts, IsPut, issue_by, issue_in, placed, width_for}
 use Rattle.issue.specs.Turns.{after_by, begin_entry, puts_by, puts_of}

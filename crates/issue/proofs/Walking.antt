@@ -18,9 +18,9 @@ use Rattle.window_model.proofs.Before.{before_more, each_push}
 use Rattle.unit_ports.specs.Ports.{Ports}
 use Rattle.unit_ports.specs.Laws.{LeftAfter}
 use Rattle.refinement.specs.Stations.{station_of}
-use Rattle.issue.specs.declared.decide.Put.{Put}
+use Rattle.core_parts.specs.declared.decided.Put.{Put}
 use Rattle.issue.specs.declared.seen.Seen.{Seen}
-use Rattle.issue.specs.declared.decide.Decided.{Decided}
+use Rattle.core_parts.specs.declared.decided.Decided.{Decided}
 use Rattle.issue.specs.Decisions.{DecidesFor, turns_of}
 use Rattle.issue.specs.Puts.{ArePuts, IsPut, placed}
 use Rattle.issue.specs.Shared.{divider_left}

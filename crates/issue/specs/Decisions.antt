@@ -1,5 +1,5 @@
 -- What the phase decides, before anything is changed (docs/machine.md, "Issue").
-use Rattle.std.specs.Prelude.{◌≡◌, ◌≤◌, ◌+◌, ℕ, List, [], ◌++◌, length, map, Option, None}
+use Rattle.std.specs.Prelude.{◌≡◌, ◌≤◌, ◌+◌, List, ◌++◌, length, map, Option}
 use Rattle.std.specs.Option.{option_map}
 use Rattle.machine_desc.specs.declared.Desc.{Desc}
 use Rattle.window_model.specs.declared.Divider.{Divider}
@@ -9,7 +9,9 @@ use Rattle.window_model.specs.Around.{Around}
 use Rattle.window_model.specs.Order.{each, first}
 use Rattle.window_model.specs.Ports.{DivPort, LoadPort, may_at}
 use Rattle.window_model.specs.Issue.{Begun, access_of, issue_entry, taken_for}
-use Rattle.issue.specs.declared.decide.Decided.{Decided}
+use Rattle.core_parts.specs.declared.decided.Decided.{Decided}
+pub use Rattle.core_parts.specs.Decided.{IsNothing}
+pub use Rattle.core_parts.specs.Puts.{most_begun}
 use Rattle.issue.specs.declared.seen.Seen.{Seen}
 use Rattle.issue.specs.Puts.{placed}
 use Rattle.issue.specs.Shared.{divider_left}
@@ -33,21 +35,11 @@ load_of d now window = option_map (λ p. access_of d now p.before p.entry) (firs
 abbrev pub division_of : Desc → Around → List Entry → Option Divider
 division_of d now window = option_map (λ p. taken_for now p.before p.entry) (first (may_at d now DivPort) window)
 
--- the most entries that issue in a cycle, or of which a part does: four arithmetic ones, a multiplication, a division,
--- a load and two stores
-abbrev pub most_begun : ℕ
-most_begun = 9
-
 -- which entries begin, what the load's access comes to, and the divider then
 pub record Decides (d : Desc) (now : Around) (es : List Entry) (decided : Decided) (old new : Divider) : Type 0 where
   pub window : placed decided.puts.items es ≡ map (λ b. b.entry) (turns d now es)
   pub load : decided.load ≡ load_of d now es
   pub divider : new ≡ divider_left (division_of d now es) old
-
--- nothing, as the phase begins
-pub record IsNothing (decided : Decided) : Type 0 where
-  pub puts : decided.puts.items ≡ []
-  pub load : decided.load ≡ None
 
 -- ---- of what is seen
 

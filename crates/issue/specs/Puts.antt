@@ -11,7 +11,7 @@ use Rattle.rob_ring.specs.Issued.{with_issued}
 use Rattle.lsq.specs.Queues.{Queues}
 use Rattle.refinement.specs.Noted.{PartsGoOn, TracksOn, noted, noted_load}
 use Rattle.refinement.specs.Stations.{Issues, station_of}
-use Rattle.issue.specs.declared.decide.Put.{Put}
+use Rattle.core_parts.specs.declared.decided.Put.{Put}
 
 -- the width of an access of so many bytes
 abbrev pub width_for : ℕ → Width

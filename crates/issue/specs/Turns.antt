@@ -20,7 +20,7 @@ use Rattle.window_model.specs.inner.Issue.{data_events}
 use Rattle.window_model.specs.inner.Row.{with_events}
 use Rattle.rob_ring.specs.Issued.{issued_of}
 use Rattle.rob_ring.specs.declared.issued.Issued.{Issued}
-use Rattle.issue.specs.declared.decide.Put.{Put}
+use Rattle.core_parts.specs.declared.decided.Put.{Put}
 use Rattle.issue.specs.declared.loads.Loaded.{Loaded}
 use Rattle.issue.specs.declared.candidate.Candidate.{Candidate}
 use Rattle.issue.specs.declared.seen.Seen.{Seen}

@@ -1,86 +1,29 @@
 //! What the phase decides as it goes over the entries that wait, oldest first (`docs/machine.md`, "Issue"). Every test
 //! is made on the state before the phase.
+ghost use Rattle.std.specs.Prelude.{◌≡◌, ◌<◌, ◌++◌, length};
+ghost use Rattle.issue.specs.Decisions.{most_begun};
+ghost use Rattle.issue.specs.Turns.{puts_by};
+
 use crate::candidate::{Candidate, candidate_at};
 use crate::seen::Seen;
-use arrayvec::ArrayVec;
-use lsq::Kept;
+use core_parts::{Decided, Put};
 use rob_ring::Issued;
 use unit_ports::Ports;
-use window_model::{Access, Progress, Row};
+use window_model::Row;
 
-/// At most so many entries issue in a cycle, or a part of them: four arithmetic units, and one port of each other kind.
-pub(crate) const PUTS_MAX: usize = 9;
-
-/// An entry that issues, or of which a part does, before it does in its place.
-#[derive(Clone, Copy, Debug, PartialEq, Eq)]
-pub(crate) struct Put {
-    /// The position of the entry, counted from the oldest one.
-    pub(crate) position: u32,
-    /// The position of the entry's station, as the stations are before the phase. It is freed where the entry no longer
-    /// waits.
-    pub(crate) station: u32,
-    /// What has then issued of the entry: all that changes.
-    pub(crate) issued: Issued,
-}
-
-impl Default for Put {
-    /// A put to fill free places with, whose bytes are all 0, so that all places are cleared at once.
-    fn default() -> Self {
-        Put {
-            position: 0,
-            station: 0,
-            issued: Issued {
-                state: Progress::Waiting,
-                outcome: None,
-                issued: None,
-                addr_due: None,
-                data_due: None,
-            },
-        }
-    }
-}
-
-/// What is decided of all entries before any of them issues in its place.
-#[derive(Drop)]
-pub(crate) struct Decided {
-    /// The entries that issue, or of which a part does, oldest first.
-    pub(crate) puts: ArrayVec<Put, PUTS_MAX>,
-    /// What the access of the load that was tried came to.
-    pub(crate) load: Option<Access>,
-    /// The last load that was found to be kept for want of a store's data, but for those that a guess told.
-    pub(crate) kept: Option<Kept>,
-}
-
-impl Decided {
-    ghost use Rattle.std.specs.Prelude.{◌≡◌, ◌<◌, ◌++◌, length};
-    ghost use Rattle.issue.specs.Decisions.{IsNothing, most_begun};
-    ghost use Rattle.issue.specs.Turns.{puts_by};
-
-    /// The decision as the phase begins: no entry issues, no load was tried.
-    pub(crate) fn nothing() -> Decided
-        ensures { IsNothing result }
-    {
-        Decided {
-            puts: ArrayVec::new(),
-            load: None,
-            kept: None,
-        }
-    }
-
-    /// Notes what has then issued of the entry, if it changes.
-    pub(crate) fn note(&mut self, candidate: &Candidate, after: Option<Issued>)
-        requires few { length self.old.puts.items < most_begun }
-        ensures puts { self.new.puts.items
-            ≡ self.old.puts.items ++ puts_by candidate.now.position candidate.now.station after }
-        ensures load { self.new.load ≡ self.old.load }
-    {
-        if let Some(issued) = after {
-            self.puts.push(Put {
-                position: candidate.position,
-                station: candidate.station,
-                issued,
-            });
-        }
+// Notes what has then issued of the entry, if it changes.
+pub(crate) fn note(decided: &mut Decided, candidate: &Candidate, after: Option<Issued>)
+    requires few { length decided.old.puts.items < most_begun }
+    ensures puts { decided.new.puts.items
+        ≡ decided.old.puts.items ++ puts_by candidate.now.position candidate.now.station after }
+    ensures load { decided.new.load ≡ decided.old.load }
+{
+    if let Some(issued) = after {
+        decided.puts.push(Put {
+            position: candidate.position,
+            station: candidate.station,
+            issued,
+        });
     }
 }
 
@@ -136,7 +79,7 @@ impl<'a> Seen<'a> {
         }
         let after = self.begin(candidate, &computed, &mut decided.load, ports, row);
         let _ = ports.grant(candidate.entry.item.kind);
-        decided.note(candidate, after);
+        note(decided, candidate, after);
     }
 
     // An entry has its turn.

@@ -5,8 +5,9 @@ ghost use Rattle.rob_ring.specs.Issued.{issued_of};
 ghost use Rattle.issue.specs.Ports.{has_issued};
 
 use crate::candidate::Candidate;
-use crate::decide::Decided;
+use crate::decide::note;
 use crate::seen::Seen;
+use core_parts::Decided;
 use rob_ring::Issued;
 use rv_effect::Effect;
 use stations::Part;
@@ -209,7 +210,7 @@ impl<'a> Seen<'a> {
         let stored = self.grant_data(candidate, ports);
         if address || stored {
             let after = self.after_parts(candidate, address, stored, row);
-            decided.note(candidate, Some(after));
+            note(decided, candidate, Some(after));
         }
     }
 }

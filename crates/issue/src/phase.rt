@@ -6,7 +6,6 @@ ghost use Rattle.window_model.specs.Issue.{issue};
 ghost use Rattle.window_model.specs.inner.Row.{HasRoom, IsLonger, most_issued, with_events};
 ghost use Rattle.visibility.specs.Point.{HasAdvanced};
 
-use crate::decide::Decided;
 use crate::placing::place;
 use crate::seen::Seen;
 use crate::shared::{take_registers, touch};
@@ -35,7 +34,7 @@ pub fn issue<R: RenameTaint>(parts: &mut Parts<R>, row: &mut Row)
     }
     let divider = parts.ports.divider();
     parts.ports.begin(parts.cycle as u64);
-    let mut decided = Decided::nothing();
+    parts.decided.begin();
     let seen = Seen {
         rob: &parts.rob,
         stations: &parts.stations,
@@ -54,20 +53,20 @@ pub fn issue<R: RenameTaint>(parts: &mut Parts<R>, row: &mut Row)
         free_from: divider.free_from,
         cycle: parts.cycle,
     };
-    seen.decide(&mut parts.ports, &mut decided, row);
-    parts.keepers.note(decided.kept);
+    seen.decide(&mut parts.ports, &mut parts.decided, row);
+    parts.keepers.note(parts.decided.kept);
     place(
-        &decided.puts,
+        &parts.decided.puts,
         &parts.desc,
         &mut parts.rob,
         &mut parts.stations,
         &mut parts.lsq,
     );
-    touch(&mut parts.tags, decided.load);
+    touch(&mut parts.tags, parts.decided.load);
     take_registers(
         &mut parts.mshrs,
         &mut parts.second,
-        decided.load,
+        parts.decided.load,
         parts.cycle,
         &parts.desc,
     );

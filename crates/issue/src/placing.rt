@@ -12,8 +12,7 @@ ghost use Rattle.refinement.specs.Stations.{left_held};
 ghost use Rattle.issue.specs.Parts.{holding};
 ghost use Rattle.issue.specs.Puts.{ArePuts, known_in, placed, width_for};
 
-use crate::decide::{PUTS_MAX, Put};
-use arrayvec::ArrayVec;
+use core_parts::Puts;
 use lsq::{IssuedLoad, Lsq, Span};
 use machine_desc::Desc;
 use rob_ring::RobRing;
@@ -119,7 +118,7 @@ fn note(lsq: &mut Lsq, desc: &Desc, entry: &Entry)
 /// its station is freed or waits for what is left, a store's parts that have issued are known to its queue, and so is
 /// what a load reads, where loads may pass stores.
 pub(crate) fn place(
-    puts: &ArrayVec<Put, PUTS_MAX>,
+    puts: &Puts,
     desc: &Desc,
     rob: &mut RobRing,
     stations: &mut Stations,
@@ -134,8 +133,9 @@ pub(crate) fn place(
     ensures refines { (p : InFlight) → Refines (holding desc.now rob.old stations.old lsq.old p)
         → Refines (holding desc.now rob.new stations.new lsq.new p) }
 {
-    for k in (0..puts.len()).rev() {
-        let put = &puts[k];
+    let listed = puts.as_slice();
+    for k in (0..listed.len()).rev() {
+        let put = &listed[k];
         rob.issue(put.position, &put.issued);
         let entry = rob.lend(put.position);
         settle(stations, desc, put.station, entry);

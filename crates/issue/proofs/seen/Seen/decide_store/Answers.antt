@@ -25,7 +25,7 @@ pub returns-then-address : goal.returns-then-address
 returns-then-address c =
     let g = c.grant_address-address.ensures in
     let g2 = c.grant_data-stored.ensures in
-    went c.args.self.now c.args.candidate.now _ _ _ _ _ c.requires.store c.requires.left g.granted g.asked g2.granted g2.asked c.args.decided.now c.note.new.self c.args.row.now _ c.after_parts-after.result
+    went c.args.self.now c.args.candidate.now _ _ _ _ _ c.requires.store c.requires.left g.granted g.asked g2.granted g2.asked c.args.decided.now c.note.new.decided c.args.row.now _ c.after_parts-after.result
     (some_part _ _ c.then-address.either) c.after_parts-after.ensures c.note.ensures.puts c.note.ensures.load
 
 pub returns-else-stored : goal.returns-else-stored

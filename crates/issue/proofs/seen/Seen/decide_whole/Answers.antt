@@ -6,7 +6,7 @@ use Rattle.window_model.specs.inner.Row.{with_events}
 use Rattle.window_model.specs.Order.{is_store}
 use Rattle.window_model.specs.Row.{Row}
 use Rattle.lsq.specs.declared.keepers.Kept.{Kept}
-use Rattle.issue.specs.declared.decide.Decided.{Decided}
+use Rattle.core_parts.specs.declared.decided.Decided.{Decided}
 use Rattle.issue.specs.declared.candidate.Candidate.{Candidate}
 use Rattle.issue.specs.declared.seen.Seen.{Seen}
 use Rattle.issue.specs.Decisions.{HadTurn}
