@@ -6,3 +6,4 @@ use Rattle.core_parts.specs.declared.decided.Decided.{Decided}
 pub record IsNothing (decided : Decided) : Type 0 where
   pub puts : decided.puts.items ≡ []
   pub load : decided.load ≡ None
+  pub kept : decided.kept ≡ None
