@@ -6,6 +6,8 @@ from view import Fault
 from view.description import FUTURISTIC, HOLD, OFF, SPECTRE, STT
 
 MODEL, DEFENCE = "stt.model", "stt.defence"
+# a number of 32 bits has ten digits at most
+VALUE = re.compile(r"[0-9]{1,10}|[A-Za-z_][A-Za-z0-9_]*")
 # nothing protected; then each defence under each model
 DEFENCES = [{MODEL: OFF, DEFENCE: STT}, {MODEL: SPECTRE, DEFENCE: STT}, {MODEL: FUTURISTIC, DEFENCE: STT}, {MODEL: SPECTRE, DEFENCE: HOLD},
             {MODEL: FUTURISTIC, DEFENCE: HOLD}]
@@ -18,6 +20,8 @@ FASTER = ("A branch on a wrong path that is resolved teaches the predictor, and 
 def told(values):
     """A model and a defence as a table tells them: `off`, `spectre`, `spectre+hold`."""
     held = values.get(DEFENCE, STT) == HOLD and values.get(MODEL) != OFF
+    if MODEL not in values:
+        raise Fault(f"a description without {MODEL}")
     return values[MODEL] + (f"+{HOLD}" if held else "")
 
 
@@ -61,12 +65,12 @@ def with_value(text, key, value, name):
 
 def value_of(word):
     """A value as the command line has it: a number, or a name."""
-    return int(word) if re.fullmatch(r"\d+", word) else word
+    return int(word) if word.isdigit() else word
 
 
 def asked(word):
     """The key and the values of `core.rob=16,32,64`."""
     key, equals, values = word.partition("=")
-    if not equals or not re.fullmatch(r"[a-z_]+(\.[a-z_]+)?", key) or not all(values.split(",")):
-        raise Fault(f"--set {word}: KEY=VALUE,.. is asked for, as core.rob=16,32,64")
+    if not equals or not re.fullmatch(r"[a-z_]+(\.[a-z_]+)?", key) or not all(map(VALUE.fullmatch, values.split(","))):
+        raise Fault(f"--set {word[:80]}: KEY=VALUE,.. is asked for, as core.rob=16,32,64")
     return key, [value_of(value) for value in values.split(",")]

@@ -4,8 +4,11 @@ from typing import NamedTuple
 
 from view import Fault
 
-NUMBER = r"0[xX][0-9a-fA-F]+|\d+"
-WORD = re.compile(rf"(?:(?P<address>{NUMBER})|(?P<symbol>[^\d+:][^+:]*)(?:\+(?P<offset>{NUMBER}))?)(?::(?P<size>\d+))?")
+# numbers as the program reads them (docs/formats.md, "Words of stt_secrets"): zeros and a plus may stand before the digits
+DECIMAL = r"\+?[0-9]+"
+NUMBER = rf"0x\+?[0-9a-fA-F]+|{DECIMAL}"
+WORD = re.compile(rf"(?:(?P<address>{NUMBER})|(?P<symbol>[^\d+:][^+:]*)(?:\+(?P<offset>{NUMBER}))?)(?::(?P<size>{DECIMAL}))?")
+MOST = 0xffffffff
 # more than so many words are too many for a command line
 MOST_RANGES = 256
 
@@ -30,13 +33,23 @@ def named(image, word):
     found = WORD.fullmatch(word)
     if found is None:
         raise Fault(f"--secret {word}: SYMBOL, SYMBOL+OFFSET:BYTES or ADDRESS:BYTES is asked for, as key, key+4:8 or 0x10080:16")
-    size = int(found["size"]) if found["size"] else None
+    size = number(word, found["size"]) if found["size"] else None
     if found["address"]:
         if not size:
             raise Fault(f"--secret {word}: how many bytes? as {word.split(':')[0]}:16")
-        return Range(int(found["address"], 0), size)
+        return Range(number(word, found["address"]), size)
     address, whole = symbol(image, found["symbol"])
-    return part(word, address, whole, int(found["offset"] or "0", 0), size)
+    return part(word, address, whole, number(word, found["offset"] or "0"), size)
+
+
+def number(word, text):
+    """A number of a word: hexadecimal behind `0x`, else decimal."""
+    base, digits = (16, text[2:]) if text.startswith("0x") else (10, text)
+    digits = digits.lstrip("+").lstrip("0") or "0"
+    found = int(digits, base) if len(digits) <= len(str(MOST)) else MOST + 1
+    if found > MOST:
+        raise Fault(f"--secret {word[:80]}: a number is at most {MOST}")
+    return found
 
 
 def symbol(image, name):

@@ -107,7 +107,7 @@ class Settings(unittest.TestCase):
     def test_words(self):
         self.assertEqual(settings.asked("core.rob=16,32"), ("core.rob", [16, 32]))
         self.assertEqual(settings.asked("stt.model=off,spectre"), ("stt.model", ["off", "spectre"]))
-        for word in ("core.rob", "core.rob=", "=3", "core.rob=1,,2", "Core=1"):
+        for word in ("core.rob", "core.rob=", "=3", "core.rob=1,,2", "Core=1", "core.rob=" + "9" * 5000, "core.rob=\udcff", "core.rob=\u0661"):
             with self.subTest(word=word), self.assertRaises(Fault):
                 settings.asked(word)
 

@@ -49,13 +49,18 @@ class Ranges(unittest.TestCase):
 
     def test_words(self):
         for word, found in [("key", (0x100, 16)), ("key+4", (0x104, 12)), ("key+0x8:2", (0x108, 2)), ("key:3", (0x100, 3)),
-                            ("label:7", (0x200, 7)), ("label+2:1", (0x202, 1)), ("0x1fff8:1", (0x1fff8, 1)), ("4096:2", (4096, 2))]:
+                            ("label:7", (0x200, 7)), ("label+2:1", (0x202, 1)), ("0x1fff8:1", (0x1fff8, 1)), ("4096:2", (4096, 2)),
+                            ("0131064:01", (0x1fff8, 1)), ("0x0001FFF8:1", (0x1fff8, 1)), ("+131064:+1", (0x1fff8, 1)),
+                            ("0x+1fff8:1", (0x1fff8, 1)), ("key+08:2", (0x108, 2)), ("0" * 5000 + "4294967295:1", (0xffffffff, 1))]:
             self.assertEqual(ranges.named(self.IMAGE, word), found, word)
 
     def test_refusals(self):
         for word, note in [("kee", "no symbol `kee`"), ("key:17", "has 16 bytes"), ("key+16", "has 16 bytes"), ("key+8:9", "has 16 bytes"),
                            ("label", "doesn't say how many bytes"), ("twice", "at 00000300 and at 00000400"), ("0x100", "how many bytes"),
-                           ("key:", "is asked for"), ("key+x", "is asked for"), ("", "is asked for"), ("0x100:0", "how many bytes")]:
+                           ("key:", "is asked for"), ("key+x", "is asked for"), ("", "is asked for"), ("0x100:0", "how many bytes"),
+                           ("0X100:1", "is asked for"), ("0x:1", "is asked for"), ("1_0:1", "is asked for"), ("\u0661:1", "is asked for"),
+                           ("4294967296:1", "at most 4294967295"), ("0x100:4294967296", "at most 4294967295"),
+                           ("9" * 5000 + ":1", "at most 4294967295"), ("key+" + "9" * 5000, "at most 4294967295")]:
             with self.subTest(word=word), self.assertRaises(Fault) as told:
                 ranges.named(self.IMAGE, word)
             self.assertIn(note, str(told.exception))
@@ -110,6 +115,23 @@ class OneImage(unittest.TestCase):
         self.assertEqual((told.returncode, told.stderr), (8, ""))
         self.assertRegex(told.stdout, r"\nshown         00010018 (lw|load) .* <_start\+0x18>: its address, in cycle 15, entry 6\n")
         self.assertIn("\nverdict       exposed: ", told.stdout)
+
+    def test_numbers(self):
+        """A number is read as the program reads it, with zeros before its digits."""
+        self.told(HIDDEN, 0)
+        words = CORE, support.example("bounds_check.elf"), "--secret", f"0{SECRET}:01", "--secrets-program", self.program
+        self.assertEqual(command("verdict", *words).returncode, 7)
+        self.assertIn(f"--secret {WORD} ", asked_of(self.program)[-1])
+
+    def test_full(self):
+        """What can't be written is a refusal of one line."""
+        said = program(HIDDEN.replace("\n", "\\n"))
+        words = CORE, support.example("bounds_check.elf"), "--secret", WORD, "--secrets-program", said
+        with open("/dev/full", "w", encoding="ascii") as full:
+            told = subprocess.run([os.path.join(material.TOOLS, "verdict", "verdict"), *words], stdout=full, stderr=subprocess.PIPE, text=True,
+                                  check=False)
+        self.assertEqual(told.returncode, 2)
+        self.assertRegex(told.stderr, r"\Averdict: [^\n]*\n\Z")
 
     def test_refusals(self):
         for status, said, note in [(2, "", "status 2, secret 0 code"), (0, "equal\\n", "doesn't answer as stt_secrets does")]:
