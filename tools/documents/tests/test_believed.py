@@ -57,11 +57,23 @@ pub fn top(n: u32) -> u32
 """
 LAW = """ghost use Rattle.low.specs.Low.{
   told,
+  twice,
 };
 
 pub fn law()
     ensures { (n : ℕ) → told n ≡ n }
 {}
+"""
+
+OTHER_LAW = """
+pub fn other()
+    ensures { twice 1 ≡ 2 }
+{}
+"""
+TOLD = """
+-- one that a law tells of
+abbrev pub told : ℕ → ℕ
+told n = n
 """
 
 
@@ -86,11 +98,21 @@ class SmallTree(unittest.TestCase):
     def test_follows_names_through_files(self):
         self.assertEqual(self.rows(), [("high.specs.High", 1, 3, []), ("low.specs.Low", 3, 11, [])])
 
+    def test_follows_the_laws_that_the_readme_names(self):
+        """Those and no others: `other` is of the same crate."""
+        for path, text in (("README.md", "The law is `law`."), ("crates/law/src/lib.rt", LAW + OTHER_LAW),
+                           ("crates/low/specs/Low.antt", LOW + TOLD)):
+            with open(os.path.join(self.believed.TOP, path), "w", encoding="utf-8") as file:
+                file.write(text)
+        self.believed.LAWS = ("law",)
+        found = self.believed.reached(self.believed.modules(), [], self.believed.named_laws())
+        self.assertEqual(found, {("low.specs.Low", "told")})
+
     def test_names_what_no_promise_rests_on(self):
         path = os.path.join(self.believed.TOP, "crates/low/specs/Low.antt")
         with open(path, "a", encoding="utf-8") as file:
             file.write("\n-- a spare one\nabbrev pub spare : ℕ → ℕ\nspare n = twice n\n")
-            file.write("\n-- one that a law tells of\nabbrev pub told : ℕ → ℕ\ntold n = n\n")
+            file.write(TOLD)
         self.assertEqual(self.rows()[1], ("low.specs.Low", 3, 11, ["spare"]))
 
     def test_table(self):
