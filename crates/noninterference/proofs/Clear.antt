@@ -16,7 +16,7 @@ use Rattle.window_model.specs.Access.{covers}
 use Rattle.window_model.specs.Clear.{clear_at, clear_with, cleared_one, clears, is_violated, may_clear, passed, shares, violated_by, violates}
 use Rattle.machine_desc.specs.Questions.{loads_pass}
 use Rattle.window_model.specs.Dependence.{bit_index, bit_set}
-use Rattle.window_model.specs.Order.{Place, first, first_from, fault_of, has_address, is_load, is_store}
+use Rattle.window_model.specs.Order.{Place, first, first_from, fault_of, is_load}
 use Rattle.window_model.specs.Resolve.{freed_from}
 use Rattle.window_model.specs.Retire.{addr_of, byte_count}
 use Rattle.window_model.proofs.Clearing.{clear_parts, passed_load}
@@ -25,16 +25,10 @@ use Rattle.window_model.proofs.Booleans.{and_tests}
 use Rattle.noninterference.specs.Alike.{Alike, shown, shown_after, without_outcome}
 use Rattle.noninterference.specs.Laws.{ClearTellsNothing}
 use Rattle.noninterference.specs.Outcomes.{OutcomesAgree, SameEntry, SameOutcome, SameOutcomes, but_value}
-use Rattle.noninterference.proofs.Letting.{same_covers}
-use Rattle.noninterference.proofs.Looking.{any_same_list, same_rest}
-use Rattle.noninterference.proofs.Operand.{same_address}
-use Rattle.noninterference.proofs.Places.{SamePlaces, SameShape, SeenAlike, first_same, left_over, peel, reverse_alike, same_length}
-
--- ---- which store is cleared
-
-may_clear_alike : (d : Desc) → SeenAlike d.stt_model (may_clear d) (may_clear d)
-may_clear_alike d b b2 e e2 s h =
-    ap₂ (λ k t. k && not t) (ap (λ (t : Entry). is_store t.item.kind && not t.cleared && has_address t) h.but_outcome) (same_address d.stt_model b b2 e e2 s h.but_outcome)
+use Rattle.noninterference.proofs.Looking.{same_covers, seen_alike}
+use Rattle.two_runs.proofs.Looking.{any_same, same_rest}
+use Rattle.two_runs.proofs.May.{may_clear_alike}
+use Rattle.noninterference.proofs.Places.{SamePlaces, SameShape, first_same, left_over, peel, reverse_alike, same_length}
 
 -- ---- which load is violated
 
@@ -56,7 +50,7 @@ module _ (e e2 : Entry) (h : without_outcome e ≡ without_outcome e2) (same : (
   shares_alike : (model : SttModel) (b : List Entry) (y y2 : Entry) → SameEntry model b y y2 → is_load y.item.kind ≡ true → shares e y ≡ shares e2 y2
   shares_alike model b y y2 s q =
       let l = load_alike y.item.kind model b y y2 q s.outcomes in
-      ap₂ (λ f c. not (is_some f) && c) l.1 (any_same_list (λ a. covers a e) (λ a. covers a e2) _ _ (ap₂ range l.0 (ap byte_count s.but_outcome)) same)
+      ap₂ (λ f c. not (is_some f) && c) l.1 (any_same (λ a. covers a e) (λ a. covers a e2) _ _ (ap₂ range l.0 (ap byte_count s.but_outcome)) same)
 
   violated_alike : (model : SttModel) (b : List Entry) (y y2 : Entry) → SameEntry model b y y2 → is_violated e y ≡ is_violated e2 y2
   violated_alike model b y y2 s =
@@ -100,7 +94,7 @@ first_between model f f2 m (e ∷ es) [] c c2 b b2 l k s = absurd (cc)
 -- Clear at two places that show the same, of two machines that show the same
 module _ (d : Desc) (p p2 : Place) (s : SameShape d.stt_model p p2) (m m2 : Machine) (q : shown m ≡ shown m2) where
   before : map without_outcome p.before ≡ map without_outcome p2.before
-  before = same_rest d.stt_model p.before p2.before s.before
+  before = same_rest d.stt_model p.before p2.before (seen_alike d.stt_model p.before p2.before s.before)
 
   -- the windows that Clear leaves show the same
   marked_over : (y y2 : List Entry) → map without_outcome y ≡ map without_outcome y2 → map without_outcome (reverse p.before ++ cleared_one p.entry ∷ y) ≡ map without_outcome (reverse p2.before ++ cleared_one p2.entry ∷ y2)
@@ -162,7 +156,7 @@ module _ (d : Desc) (x x2 : Machine) (a : OutcomesAgree d.stt_model x x2) (q : A
   store_tells : shown_after (clear_at d (first (may_clear d) x.window) x) ≡ shown_after (clear_at d (first (may_clear d) x2.window) x2)
   store_tells =
       let w : map without_outcome x.window ≡ map without_outcome x2.window = ap (λ (m : Machine). m.window) q in
-      places_tell _ _ (first_same d.stt_model (may_clear d) (may_clear d) (may_clear_alike d) x.window x2.window [] [] w a) (found (may_clear d) [] x.window) (found (may_clear d) [] x2.window)
+      places_tell _ _ (first_same d.stt_model (may_clear d) (may_clear d) (λ b b2 e e2 s h. may_clear_alike d b b2 (seen_alike d.stt_model b b2 s) e e2 h.but_outcome) x.window x2.window [] [] w a) (found (may_clear d) [] x.window) (found (may_clear d) [] x2.window)
 
   clear_alike : (b : Bool) → shown_after (if b then clear_at d (first (may_clear d) x.window) x else nothing x) ≡ shown_after (if b then clear_at d (first (may_clear d) x2.window) x2 else nothing x2)
   clear_alike true = store_tells

@@ -18,7 +18,6 @@ pub mod SameReads
 pub mod Agree
 pub mod Places
 pub mod Resolve
-pub mod Letting
 pub mod May
 pub mod Access
 pub mod Issue

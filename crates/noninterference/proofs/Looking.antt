@@ -1,16 +1,19 @@
 -- What two runs see alike when they look back.
-use Rattle.std.proofs.Common.{Option, map, ◌≡◌, ℕ, Bool, true, false, ◌&&◌, List, [], ◌∷◌, refl, ap, sym, ◌∙◌, arith}
-use Rattle.std.specs.List.{list_any}
+use Rattle.std.proofs.Common.{Option, Some, None, ◌≡◌, ℕ, true, false, ◌&&◌, List, [], ◌∷◌, refl, ap, ◌∙◌, arith}
+use Rattle.std.specs.Prelude.{is_some}
 use Rattle.rv_types.specs.declared.Kind.{Kind}
 use Rattle.rv_types.specs.declared.Kind.TheVariants.{Load, Store, Branch, Jalr}
 use Rattle.machine_desc.specs.declared.SttModel.{SttModel}
 use Rattle.machine_desc.specs.declared.SttModel.TheVariants.{Spectre, Futuristic, Off}
 use Rattle.window_model.specs.declared.Entry.{Entry}
 use Rattle.window_model.specs.declared.Outcome.{Outcome}
-use Rattle.window_model.specs.Order.{writes, sources, base_of, is_load, fault_of}
+use Rattle.window_model.specs.Access.{covers, reaches}
+use Rattle.window_model.specs.Order.{writes, sources, base_of, fault_of, has_address, is_store}
+use Rattle.window_model.specs.Retire.{addr_of, byte_count}
 use Rattle.window_model.specs.Taint.{address_tainted, any_tainted, permits, safe, safe_as, settled, tainted, visible}
 use Rattle.window_model.proofs.Booleans.{both}
-use Rattle.window_model.proofs.Taints.{any_agree, tainted_cons, none_any}
+use Rattle.window_model.proofs.Taints.{tainted_cons, none_any}
+use Rattle.two_runs.specs.Seen.{SeenEntries}
 use Rattle.noninterference.specs.Outcomes.{SameEntry, SameOutcome, SameOutcomes}
 use Rattle.noninterference.specs.Alike.{without_outcome}
 
@@ -32,13 +35,6 @@ with_outcome e o = record e { outcome = o }
 pub same_entry : (e e2 : Entry) → without_outcome e ≡ without_outcome e2 → e.outcome ≡ e2.outcome → e ≡ e2
 unfolding with_outcome
 same_entry e e2 h o = ap (λ (t : Entry). with_outcome t e.outcome) h ∙ ap (with_outcome (without_outcome e2)) o
-
--- two lists of entries with equal outcomes, where they may be looked at, are equal but for outcomes
-pub same_rest : (model : SttModel) (b b2 : List Entry) → SameOutcomes model b b2 → map without_outcome b ≡ map without_outcome b2
-same_rest model [] [] s = refl
-same_rest model (e ∷ b) (e2 ∷ b2) s = ap (λ t. t ∷ map without_outcome b) s.0.but_outcome ∙ ap (λ t. without_outcome e2 ∷ t) (same_rest model b b2 s.1)
-same_rest model [] (e2 ∷ b2) s = absurd s
-same_rest model (e ∷ b) [] s = absurd s
 
 -- ---- what is visible is not tainted
 
@@ -80,40 +76,30 @@ same_permits Spectre before e e2 s h = ap settled s.but_outcome
 same_permits Futuristic before e e2 s h = same_safe Futuristic before e e2 s h
 same_permits Off before e e2 s h = refl
 
-and_same : (a a2 b b2 : Bool) → b ≡ b2 → (b ≡ true → a ≡ a2) → (a && b) ≡ (a2 && b2)
-and_same true true b b2 p h = p
-and_same false false b b2 p h = refl
-and_same true false true b2 p h = absurd (let d = h refl in cc)
-and_same true false false b2 p h = p ∙ sym p
-and_same false true true b2 p h = absurd (let d = h refl in cc)
-and_same false true false b2 p h = p
+-- two outcomes with one address and fault reach the same bytes, and so do none and none
+same_reaches : (a n : ℕ) (o o2 : Option Outcome) → is_some o ≡ is_some o2 → addr_of o ≡ addr_of o2 → fault_of o ≡ fault_of o2 → reaches a n o ≡ reaches a n o2
+same_reaches a n None None i ad f = refl
+same_reaches a n (Some o) (Some o2) i ad f = cc
+same_reaches a n None (Some o2) i ad f = absurd (cc)
+same_reaches a n (Some o) None i ad f = absurd (cc)
 
--- two runs see alike what is visible
-pub same_visible : (model : SttModel) (before before2 : List Entry) → SameOutcomes model before before2 → visible model before ≡ visible model before2
-same_visible model [] [] s = refl
-same_visible model (e ∷ before) (e2 ∷ before2) s =
-    and_same (permits model e) (permits model e2) (visible model before) (visible model before2) (same_visible model before before2 s.1) (same_permits model before e e2 s.0)
-same_visible model [] (e2 ∷ before2) s = absurd s
-same_visible model (e ∷ before) [] s = absurd s
+covers_by : (k : Kind) (model : SttModel) (b : List Entry) (e e2 : Entry) (a : ℕ) → is_some e.outcome ≡ is_some e2.outcome → SameOutcome k model b e e2 →
+    (is_store k ≡ true → address_tainted model b e ≡ false) → byte_count e ≡ byte_count e2 → (is_store k && has_address e && reaches a (byte_count e) e.outcome) ≡ (is_store k && has_address e && reaches a (byte_count e2) e2.outcome)
+covers_by Store model b e e2 a i o t w =
+    let q = o.0 (t refl) in
+    ap (λ r. has_address e && r) (same_reaches a (byte_count e) e.outcome e2.outcome i q.0 q.1 ∙ ap (λ n. reaches a n e2.outcome) w)
+covers_by _ model b e e2 a i o t w = refl
 
-pub any_same_list : (f g : ℕ → Bool) (rs rs2 : List ℕ) → rs ≡ rs2 → ((r : ℕ) → f r ≡ g r) → list_any f rs ≡ list_any g rs2
-any_same_list f g rs rs2 p h = ap (list_any f) p ∙ any_agree f g rs2 h
+-- a store with an untainted address covers the same bytes in both runs
+pub same_covers : (model : SttModel) (b : List Entry) (e e2 : Entry) (a : ℕ) → SameEntry model b e e2 → (is_store e.item.kind ≡ true → address_tainted model b e ≡ false) → covers a e ≡ covers a e2
+same_covers model b e e2 a h t =
+    covers_by e.item.kind model b e e2 a h.issued h.outcomes t (ap byte_count h.but_outcome)
+    ∙ ap (λ (u : Entry). is_store u.item.kind && has_address u && reaches a (byte_count e2) e2.outcome) h.but_outcome
 
--- two runs see alike whether a register is tainted
-pub same_tainted : (model : SttModel) (before before2 : List Entry) (r : ℕ) → SameOutcomes model before before2 → tainted model before r ≡ tainted model before2 r
-same_tainted model [] [] r s = refl
-same_tainted model (e ∷ before) (e2 ∷ before2) r s =
-    let w = same_writes r e e2 s.0.but_outcome in
-    let l : is_load e.item.kind ≡ is_load e2.item.kind = ap is_load (same_kind e e2 s.0.but_outcome) in
-    let v = same_visible model before before2 s.1 in
-    let a : any_tainted model before e ≡ any_tainted model before2 e2 = any_same_list (tainted model before) (tainted model before2) (sources e) (sources e2) (same_sources e e2 s.0.but_outcome) (λ r. same_tainted model before before2 r s.1) in
-    let t = same_tainted model before before2 r s.1 in
-    let c = tainted_cons model e before r in
-    let c2 = tainted_cons model e2 before2 r in
-    cc
-same_tainted model [] (e2 ∷ before2) r s = absurd s
-same_tainted model (e ∷ before) [] r s = absurd s
-
--- two runs see alike whether an operand of an entry is tainted
-pub same_any : (model : SttModel) (b b2 : List Entry) (e e2 : Entry) → SameOutcomes model b b2 → SameEntry model b e e2 → any_tainted model b e ≡ any_tainted model b2 e2
-same_any model b b2 e e2 s h = any_same_list (tainted model b) (tainted model b2) (sources e) (sources e2) (same_sources e e2 h.but_outcome) (λ r. same_tainted model b b2 r s)
+-- entries whose outcomes are equal, where they may be looked at, are seen alike
+pub seen_alike : (model : SttModel) (b b2 : List Entry) → SameOutcomes model b b2 → SeenEntries model b b2
+seen_alike model [] [] s = tt
+seen_alike model (e ∷ b) (e2 ∷ b2) s =
+    (record { but_outcome = s.0.but_outcome; permits_alike = same_permits model b e e2 s.0; covers_alike = λ a t. same_covers model b e e2 a s.0 t }, seen_alike model b b2 s.1)
+seen_alike model [] (e2 ∷ b2) s = absurd s
+seen_alike model (e ∷ b) [] s = absurd s

@@ -1,18 +1,14 @@
 -- Rename and Fetch look at nothing that is hidden.
-use Rattle.std.proofs.Common.{◌≡◌, ℕ, zero, suc, ◌+◌, Bool, true, false, cond, ◌||◌, List, [], ◌∷◌, map, Option, Some, None, refl, ap, sym, ◌∙◌, length}
-use Rattle.std.specs.Prelude.{if◌then◌else◌, count_by, nat_lt}
-use Rattle.std.specs.List.{list_any, fold}
-use Rattle.std.proofs.lemmas.List.{length-map, map-append}
+use Rattle.std.proofs.Common.{◌≡◌, ℕ, zero, suc, ◌+◌, Bool, true, false, List, [], ◌∷◌, map, Option, Some, None, refl, ap, sym, ◌∙◌, length}
+use Rattle.std.specs.Prelude.{if◌then◌else◌, nat_lt}
+use Rattle.std.proofs.lemmas.List.{map-append}
 use Rattle.rv_types.specs.Memory.{Code}
-use Rattle.rv_types.specs.declared.Kind.{Kind}
-use Rattle.rv_types.specs.declared.Kind.TheVariants.{Load, Store, Call}
 use Rattle.machine_desc.specs.declared.Desc.{Desc}
-use Rattle.window_model.specs.declared.Entry.{Entry}
 use Rattle.window_model.specs.declared.Item.{Item}
 use Rattle.window_model.specs.State.{Machine, After, then_does, nothing}
-use Rattle.window_model.specs.Order.{is_load, is_store, is_waiting}
-use Rattle.window_model.specs.Rename.{rename, rename_up_to, rename_from, rename_one, renamed, fits, fits_as, is_call}
+use Rattle.window_model.specs.Rename.{rename, rename_up_to, rename_from, rename_one, renamed, fits}
 use Rattle.window_model.specs.Fetch.{fetch, fetch_up_to, fetch_from, fetch_one, item_at}
+use Rattle.two_runs.proofs.Fitting.{same_fits}
 use Rattle.noninterference.specs.Alike.{without_outcome, shown, shown_after}
 use Rattle.noninterference.specs.Laws.{RenameTellsNothing, FetchTellsNothing}
 
@@ -21,32 +17,6 @@ abbrev pub Commutes : (Machine → After) → Type 0
 Commutes more = (x : Machine) → shown_after (more x) ≡ more (shown x)
 
 -- ---- Rename as a whole
-
-same_fold : (f : Entry → Bool) → ((e : Entry) → f (without_outcome e) ≡ f e) → (n : ℕ) (es : List Entry) → fold (λ a x. a + cond (f x) 1 0) n (map without_outcome es) ≡ fold (λ a x. a + cond (f x) 1 0) n es
-same_fold f h n [] = refl
-same_fold f h n (e ∷ es) = ap (λ b. fold (λ a x. a + cond (f x) 1 0) (n + cond b 1 0) (map without_outcome es)) (h e) ∙ same_fold f h (n + cond (f e) 1 0) es
-
-same_count : (f : Entry → Bool) → ((e : Entry) → f (without_outcome e) ≡ f e) → (es : List Entry) → count_by f (map without_outcome es) ≡ count_by f es
-same_count f h es = same_fold f h 0 es
-
-same_any : (f : Entry → Bool) → ((e : Entry) → f (without_outcome e) ≡ f e) → (es : List Entry) → list_any f (map without_outcome es) ≡ list_any f es
-same_any f h [] = refl
-same_any f h (e ∷ es) = ap (λ b. b || list_any f (map without_outcome es)) (h e) ∙ ap (λ b. f e || b) (same_any f h es)
-
-same_fits_as : (k : Kind) (d : Desc) (w : List Entry) → fits_as k d (map without_outcome w) ≡ fits_as k d w
-same_fits_as Load d w = ap (λ n. nat_lt n d.core_loads) (same_count (λ e. is_load e.item.kind) (λ e. refl) w)
-same_fits_as Store d w = ap (λ n. nat_lt n d.core_stores) (same_count (λ e. is_store e.item.kind) (λ e. refl) w)
-same_fits_as Call d [] = refl
-same_fits_as Call d (e ∷ es) = refl
-same_fits_as _ d w = refl
-
-same_fits : (d : Desc) (w : List Entry) (i : Item) → fits d (map without_outcome w) i ≡ fits d w i
-same_fits d w i =
-    let a = length-map w without_outcome in
-    let b = same_any (λ e. is_call e.item.kind) (λ e. refl) w in
-    let c = same_fits_as i.kind d w in
-    let e = same_count (λ e. is_waiting e.state) (λ e. refl) w in
-    cc
 
 renamed_shown : (d : Desc) (i : Item) (rest : List Item) (x : Machine) → shown (rename_one d i rest x).machine ≡ (rename_one d i rest (shown x)).machine
 renamed_shown d i rest x =

@@ -17,18 +17,12 @@ use Rattle.window_model.proofs.Places.{found}
 use Rattle.noninterference.specs.Alike.{Alike, shown, shown_after, without_outcome}
 use Rattle.noninterference.specs.Outcomes.{SameOutcome}
 use Rattle.noninterference.specs.Laws.{ResolveTellsNothing}
-use Rattle.noninterference.proofs.Places.{SamePlaces, SeenAlike, first_same, left_over, same_length}
-use Rattle.noninterference.proofs.Looking.{same_any, same_entry, same_rest, same_kind}
+use Rattle.noninterference.proofs.Places.{SamePlaces, first_same, left_over, same_length}
+use Rattle.two_runs.proofs.Looking.{same_rest}
+use Rattle.two_runs.proofs.May.{may_resolve_alike}
+use Rattle.noninterference.proofs.Looking.{same_entry, seen_alike}
 
 -- ---- which entry is resolved
-
-may_resolve_alike : (d : Desc) → SeenAlike d.stt_model (may_resolve d) (may_resolve d)
-may_resolve_alike d b b2 e e2 s h =
-    let k = same_kind e e2 h.but_outcome in
-    let t = same_any d.stt_model b b2 e e2 s h in
-    let st = ap (λ (x : Entry). x.state) h.but_outcome in
-    let r = ap (λ (x : Entry). x.resolved) h.but_outcome in
-    cc
 
 -- what may be resolved has an outcome that both runs share
 same_outcome : (k : Kind) (model : SttModel) (b : List Entry) (e e2 : Entry) → SameOutcome k model b e e2 → is_control k ≡ true → any_tainted model b e ≡ false → e.outcome ≡ e2.outcome
@@ -86,7 +80,7 @@ places_tell d (Some p) (Some p2) x x2 s f q =
     let done = both (is_control e.item.kind && is_done e.state) _ t.0 in
     let k = (both (is_control e.item.kind) _ done.0).0 in
     let same = same_entry e p2.entry s.here.but_outcome (same_outcome e.item.kind d.stt_model p.before e p2.entry s.here.outcomes k (not_true _ t.1)) in
-    let h = same_rest d.stt_model p.before p2.before s.before in
+    let h = same_rest d.stt_model p.before p2.before (seen_alike d.stt_model p.before p2.before s.before) in
     at_tells d p.before p2.before e p.younger p2.younger x x2 h s.younger q
     ∙ ap (λ t. shown_after (resolve_at d (Some (record { before = p2.before; entry = t; younger = p2.younger })) x2)) same
 places_tell d None (Some p2) x x2 s f q = absurd s
@@ -95,4 +89,4 @@ places_tell d (Some p) None x x2 s f q = absurd s
 pub resolve_tells_nothing : ResolveTellsNothing
 resolve_tells_nothing d x x2 r o =
     let w : map without_outcome x.window ≡ map without_outcome x2.window = ap (λ (m : Machine). m.window) r in
-    places_tell d _ _ x x2 (first_same d.stt_model (may_resolve d) (may_resolve d) (may_resolve_alike d) x.window x2.window [] [] w o) (λ p e. (found (may_resolve d) [] x.window p e).has) r
+    places_tell d _ _ x x2 (first_same d.stt_model (may_resolve d) (may_resolve d) (λ b b2 e e2 s h. may_resolve_alike d b b2 (seen_alike d.stt_model b b2 s) e e2 h.but_outcome) x.window x2.window [] [] w o) (λ p e. (found (may_resolve d) [] x.window p e).has) r
