@@ -109,6 +109,29 @@ subtracted_from_itself = 0x00814303 ∷ 0x406303b3 ∷ 0x002383b3 ∷ 0xf003c403
 abbrev pub times_zero : List ℕ
 times_zero = 0x00814303 ∷ 0x020303b3 ∷ 0x002383b3 ∷ 0xf003c403 ∷ 0x00000513 ∷ 0x05d00893 ∷ 0x00000073 ∷ []
 
+-- register 0 before the secret, and what its AND and its product with it make is looked up by: lbu x6,8(x2); and
+-- x7,x0,x6; mul x8,x0,x6; or x7,x7,x8; add x7,x7,x2; lbu x8,-256(x7); exit
+abbrev pub zero_first : List ℕ
+zero_first =
+    0x00814303 ∷ 0x006073b3 ∷ 0x02600433 ∷ 0x0083e3b3 ∷ 0x002383b3 ∷ 0xf003c403 ∷ 0x00000513 ∷ 0x05d00893 ∷ 0x00000073 ∷
+    []
+
+-- of every operation that keeps bytes apart the bytes that stay public are collected in x9, and looked up by: lbu
+-- x5,8(x2); slli x8,x5,16; slt x6,x5,x17; srli x6,x6,8; or x9,x9,x6; slt x6,x5,x5; or x9,x9,x6; sltu x6,x5,x5; or
+-- x9,x9,x6; sll x6,x8,x17; slli x6,x6,16; or x9,x9,x6; srl x6,x5,x17; srli x6,x6,8; or x9,x9,x6; slli x6,x5,8; andi
+-- x7,x6,255; or x9,x9,x7; srli x6,x6,16; or x9,x9,x6; slli x6,x5,24; slli x6,x6,8; or x9,x9,x6; slli x6,x8,4; slli
+-- x6,x6,16; or x9,x9,x6; srli x6,x5,16; or x9,x9,x6; srli x6,x5,24; or x9,x9,x6; srli x6,x5,4; srli x6,x6,8; or
+-- x9,x9,x6; mul x6,x8,x17; slli x6,x6,16; or x9,x9,x6; lhu x6,8(x2); srli x6,x6,8; or x9,x9,x6; sb x5,11(x2); lh
+-- x6,10(x2); andi x6,x6,255; or x9,x9,x6; add x7,x9,x2; lbu x8,-256(x7); exit
+abbrev pub kept_apart : List ℕ
+kept_apart =
+    0x00814283 ∷ 0x01029413 ∷ 0x0112a333 ∷ 0x00835313 ∷ 0x0064e4b3 ∷ 0x0052a333 ∷ 0x0064e4b3 ∷ 0x0052b333 ∷ 0x0064e4b3 ∷
+    0x01141333 ∷ 0x01031313 ∷ 0x0064e4b3 ∷ 0x0112d333 ∷ 0x00835313 ∷ 0x0064e4b3 ∷ 0x00829313 ∷ 0x0ff37393 ∷ 0x0074e4b3 ∷
+    0x01035313 ∷ 0x0064e4b3 ∷ 0x01829313 ∷ 0x00831313 ∷ 0x0064e4b3 ∷ 0x00441313 ∷ 0x01031313 ∷ 0x0064e4b3 ∷ 0x0102d313 ∷
+    0x0064e4b3 ∷ 0x0182d313 ∷ 0x0064e4b3 ∷ 0x0042d313 ∷ 0x00835313 ∷ 0x0064e4b3 ∷ 0x03140333 ∷ 0x01031313 ∷ 0x0064e4b3 ∷
+    0x00815303 ∷ 0x00835313 ∷ 0x0064e4b3 ∷ 0x005105a3 ∷ 0x00a11303 ∷ 0x0ff37313 ∷ 0x0064e4b3 ∷ 0x002483b3 ∷ 0xf003c403 ∷
+    0x00000513 ∷ 0x05d00893 ∷ 0x00000073 ∷ []
+
 -- the secret is compared, and the bytes above the 0 or 1 are looked up by: lbu x6,8(x2); sltu x6,x0,x6; srli x7,x6,8;
 -- add x7,x7,x2; lbu x8,-256(x7); exit
 abbrev pub compared : List ℕ
@@ -169,3 +192,55 @@ one_line = 0x00814303 ∷ 0x00437393 ∷ 0x002383b3 ∷ 0x0003a403 ∷ 0x0000051
 -- a dividend whose length is the same for each secret: lbu x6,8(x2); addi x7,x6,256; divu x8,x7,x2; exit
 abbrev pub one_length : List ℕ
 one_length = 0x00814303 ∷ 0x10030393 ∷ 0x0223d433 ∷ 0x00000513 ∷ 0x05d00893 ∷ 0x00000073 ∷ []
+
+-- ---- what is published
+
+-- the secret is written to stream 2, loaded anew and looked up by: lbu x5,8(x2); sb x5,12(x2); addi x10,x0,2; addi
+-- x11,x2,12; addi x12,x0,1; addi x17,x0,64; ecall; lbu x7,12(x2); add x7,x7,x2; lbu x8,-256(x7); exit
+abbrev pub published : List ℕ
+published =
+    0x00814283 ∷ 0x00510623 ∷ 0x00200513 ∷ 0x00c10593 ∷ 0x00100613 ∷ 0x04000893 ∷ 0x00000073 ∷ 0x00c14383 ∷ 0x002383b3 ∷
+    0xf003c403 ∷ 0x00000513 ∷ 0x05d00893 ∷ 0x00000073 ∷ []
+
+-- the same, and it is written to stream 1
+abbrev pub other_stream : List ℕ
+other_stream =
+    0x00814283 ∷ 0x00510623 ∷ 0x00100513 ∷ 0x00c10593 ∷ 0x00100613 ∷ 0x04000893 ∷ 0x00000073 ∷ 0x00c14383 ∷ 0x002383b3 ∷
+    0xf003c403 ∷ 0x00000513 ∷ 0x05d00893 ∷ 0x00000073 ∷ []
+
+-- the secret is written to stream 2, and a register that has it yet is looked up by: lbu x5,8(x2); sb x5,12(x2); addi
+-- x10,x0,2; addi x11,x2,12; addi x12,x0,1; addi x17,x0,64; ecall; add x7,x5,x2; lbu x8,-256(x7); exit
+abbrev pub kept : List ℕ
+kept =
+    0x00814283 ∷ 0x00510623 ∷ 0x00200513 ∷ 0x00c10593 ∷ 0x00100613 ∷ 0x04000893 ∷ 0x00000073 ∷ 0x002283b3 ∷ 0xf003c403 ∷
+    0x00000513 ∷ 0x05d00893 ∷ 0x00000073 ∷ []
+
+-- the byte below the secret is written to stream 2, and the word is looked up by: lbu x5,8(x2); slli x5,x5,8; sw
+-- x5,12(x2); addi x10,x0,2; addi x11,x2,12; addi x12,x0,1; addi x17,x0,64; ecall; lw x7,12(x2); add x7,x7,x2; lbu
+-- x8,-256(x7); exit
+abbrev pub in_part : List ℕ
+in_part =
+    0x00814283 ∷ 0x00829293 ∷ 0x00512623 ∷ 0x00200513 ∷ 0x00c10593 ∷ 0x00100613 ∷ 0x04000893 ∷ 0x00000073 ∷ 0x00c12383 ∷
+    0x002383b3 ∷ 0xf003c403 ∷ 0x00000513 ∷ 0x05d00893 ∷ 0x00000073 ∷ []
+
+-- a write to stream 2 goes beyond memory, so that nothing is put out: as the first, with 15(x2) and two bytes
+abbrev pub outside : List ℕ
+outside =
+    0x00814283 ∷ 0x005107a3 ∷ 0x00200513 ∷ 0x00f10593 ∷ 0x00200613 ∷ 0x04000893 ∷ 0x00000073 ∷ 0x00f14383 ∷ 0x002383b3 ∷
+    0xf003c403 ∷ 0x00000513 ∷ 0x05d00893 ∷ 0x00000073 ∷ []
+
+-- whether the secret is below 100 is written to stream 2, loaded anew, branched on and exited with: lbu x5,8(x2); sltiu
+-- x5,x5,100; sb x5,12(x2); addi x10,x0,2; addi x11,x2,12; addi x12,x0,1; addi x17,x0,64; ecall; lbu x10,12(x2); beq
+-- x10,x0,+8; addi x6,x0,1; addi x17,x0,93; ecall
+abbrev pub verdict : List ℕ
+verdict =
+    0x00814283 ∷ 0x0642b293 ∷ 0x00510623 ∷ 0x00200513 ∷ 0x00c10593 ∷ 0x00100613 ∷ 0x04000893 ∷ 0x00000073 ∷ 0x00c14503 ∷
+    0x00050463 ∷ 0x00100313 ∷ 0x05d00893 ∷ 0x00000073 ∷ []
+
+-- a slow branch passes over a look-up by the secret to its write to stream 2, behind which it is looked up by: lw
+-- x5,0(x2); mul x5,x5,x5; bgeu x0,x5,+16; lbu x6,8(x2); add x6,x6,x2; lbu x7,-256(x6); addi x10,x0,2; addi x11,x2,8;
+-- addi x12,x0,1; addi x17,x0,64; ecall; lbu x6,8(x2); add x6,x6,x2; lbu x7,-256(x6); exit
+abbrev pub too_early : List ℕ
+too_early =
+    0x00012283 ∷ 0x025282b3 ∷ 0x00507863 ∷ 0x00814303 ∷ 0x00230333 ∷ 0xf0034383 ∷ 0x00200513 ∷ 0x00810593 ∷ 0x00100613 ∷
+    0x04000893 ∷ 0x00000073 ∷ 0x00814303 ∷ 0x00230333 ∷ 0xf0034383 ∷ 0x00000513 ∷ 0x05d00893 ∷ 0x00000073 ∷ []
