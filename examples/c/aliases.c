@@ -1,7 +1,7 @@
 /* Loads behind stores whose addresses come late, and no victim. Each round stores to a place that a division gives, and then loads: what
    was just stored, always; the same every eighth round; another array, never. Where loads pass stores (`predictor.depend`) the first two
    are wrong once, and wait for addresses from then on; the third goes on passing, and the next division needs what it loads.
-   `tools/view/view stats` counts it. */
+   `wadrelwy view stats` counts it. */
 #define ROUNDS 64
 #define SCALE 0x300000
 

@@ -1,5 +1,5 @@
 /* Branches, and no victim. A loop of three rounds within a loop, branches in turn, and one that two others decide: two-bit counters
-   mispredict them, counters that depend on the last branches learn them. `tools/view/view stats` counts both. */
+   mispredict them, counters that depend on the last branches learn them. `wadrelwy view stats` counts both. */
 #define ROUNDS 120
 
 static int counts[4];

@@ -1,5 +1,5 @@
 /* Calls, and no victim. A function that is called from several places returns to another one each time: a table of last targets
-   mispredicts that, a return stack doesn't. `tools/view/view stats` counts both. */
+   mispredicts that, a return stack doesn't. `wadrelwy view stats` counts both. */
 #define NODES 63
 
 static int tree[NODES];

@@ -11,15 +11,14 @@ import subprocess
 import sys
 
 TOP = os.path.dirname(os.path.dirname(os.path.dirname(os.path.abspath(__file__))))
-sys.path.append(os.path.join(TOP, "tools"))
 
-import built_programs
+from wadrelwy import built_programs
 
 DOCUMENTS = ("README.md", "docs/using.md", "docs/results.md", "docs/secrets.md")
 # what a command with such words asks for
 NEEDS = [("build/gcc", "riscv64-unknown-elf-gcc"), ("build/picolibc", "riscv64-unknown-elf-gcc"), ("build/clang", "clang"), ("xxd", "xxd"),
-         ("tools/verdict", "riscv64-unknown-elf-objdump"),
-         ("examples/c programs", "riscv64-unknown-elf-gcc"), ("tools/view", "riscv64-unknown-elf-objdump")]
+         ("wadrelwy verdict", "riscv64-unknown-elf-objdump"),
+         ("examples/c programs", "riscv64-unknown-elf-gcc"), ("wadrelwy view", "riscv64-unknown-elf-objdump")]
 PICOLIBC = "/usr/lib/picolibc"
 # what a compiler makes is its own: the samples are of this one
 GCC, GCC_VERSION = "riscv64-unknown-elf-gcc", "12.2"
@@ -89,7 +88,7 @@ def outcome(command, lines, path):
     """What is wrong with a sample: a text, or None."""
     try:
         ran = subprocess.run(["bash", "-c", command], cwd=TOP, capture_output=True, text=True, timeout=SECONDS, check=False,
-                             env=os.environ | {"STT_CLI": path})
+                             env=os.environ | {"STT_CLI": path, "PATH": os.path.join(TOP, "tools") + os.pathsep + os.environ["PATH"]})
     except subprocess.TimeoutExpired:
         return f"takes more than {SECONDS} seconds"
     if not lines:

@@ -1,19 +1,15 @@
 """The machine of docs/machine.md in Python: both versions, each model and defence, without proof and without haste.
 
 It is a second answer to what a trace is: it was written from that page, keeps one list of instructions as the page does, and searches
-it anew where the page asks a question. What single instructions do it has from tools/verdict, and images from there too.
+it anew where the page asks a question. What single instructions do it has from tools/src/wadrelwy/verdict, and images from there too.
 """
-import os
-import sys
 import tomllib
 from types import SimpleNamespace
 
-sys.path.insert(0, os.path.dirname(os.path.dirname(os.path.abspath(__file__))))
-
-from riscv.kinds import BRANCH, CALL, DIVISION, JAL, JALR, LOAD, MULTIPLICATION, STOP, STORE
-from riscv.operation import SIZES, WORD, decode, division_time, effect, extend
-from verdict.hart import JUMP_MISALIGNED, Memory, stored_bytes, system_call
-from view.description import FUTURISTIC, HOLD, OPTIONAL, SPECTRE
+from wadrelwy.riscv.kinds import BRANCH, CALL, DIVISION, JAL, JALR, LOAD, MULTIPLICATION, STOP, STORE
+from wadrelwy.riscv.operation import SIZES, WORD, decode, division_time, effect, extend
+from wadrelwy.verdict.hart import JUMP_MISALIGNED, Memory, stored_bytes, system_call
+from wadrelwy.view.description import FUTURISTIC, HOLD, OPTIONAL, SPECTRE
 
 WAITING, BUSY, DONE = "waiting", "busy", "done"
 ALU, MULTIPLIER, DIVIDER, ADDRESS, DATA, LOADS = "alu", "multiplier", "divider", "address", "data", "loads"

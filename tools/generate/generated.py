@@ -1,7 +1,7 @@
 """The image that a seed and a number of blocks generate (docs/formats.md, "Generated images")."""
 import struct
 
-from riscv.encoding import ECALL, add, addi, beq, blt, div, jal, lw, mul, sw, xor
+from wadrelwy.riscv.encoding import ECALL, add, addi, beq, blt, div, jal, lw, mul, sw, xor
 
 BASE = 0x00010000
 HEADERS = 52 + 32

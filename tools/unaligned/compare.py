@@ -1,4 +1,4 @@
-"""Builds random programs, and compares what the simulator and tools/verdict make of them with what qemu-riscv32 does."""
+"""Builds random programs, and compares what the simulator and wadrelwy.verdict make of them with what qemu-riscv32 does."""
 import os
 import re
 import shutil
@@ -9,7 +9,6 @@ import tempfile
 HERE = os.path.dirname(os.path.realpath(__file__))
 TOOLS = os.path.dirname(HERE)
 ROOT = os.path.dirname(TOOLS)
-sys.path[:0] = [HERE, TOOLS]
 
 import generate
 
@@ -61,9 +60,9 @@ def by_qemu(image):
 
 
 def by_hart(image):
-    """The same by tools/verdict, and how many accesses had an address that is no multiple of their width."""
-    from verdict.hart import Hart
-    from verdict.loaded import Loaded
+    """The same by wadrelwy.verdict, and how many accesses had an address that is no multiple of their width."""
+    from wadrelwy.verdict.hart import Hart
+    from wadrelwy.verdict.loaded import Loaded
     hart = Hart(Loaded(image, 0x00010000, 1 << 20, misaligned=True))
     odd = sum(step.access is not None and step.access.address % step.access.size != 0 for step in hart.run(STEPS))
     return (b"".join(hart.out), hart.end[1] if hart.end and hart.end[0] == "exit" else hart.end), odd
@@ -82,7 +81,7 @@ def compared(seed, folder, program, machines):
     image = build(seed, folder)
     wanted = by_qemu(image)
     hart, odd = by_hart(image)
-    runs = [("tools/verdict", hart)]
+    runs = [("wadrelwy.verdict", hart)]
     for machine in machines if program else []:
         name = os.path.basename(machine)
         runs.append((f"isa, {name}", by_simulator(program, "isa", image, "--steps", str(STEPS), "--desc", machine)))

@@ -5,16 +5,13 @@ import glob
 import os
 import shutil
 import subprocess
-import sys
 import tempfile
 import unittest
 
 FOLDER = os.path.dirname(os.path.dirname(os.path.abspath(__file__)))
 ROOT = os.path.dirname(os.path.dirname(FOLDER))
-sys.path.append(os.path.join(ROOT, "tools"))
-
-import built_programs
-from verdict import simulator
+from wadrelwy import built_programs
+from wadrelwy.verdict import simulator
 
 PROGRAM = built_programs.simulator()
 PROGRAMS = sorted(os.path.splitext(os.path.basename(path))[0] for path in glob.glob(os.path.join(FOLDER, "programs", "*.c")))

@@ -6,7 +6,6 @@ import os
 import re
 import shutil
 import subprocess
-import sys
 import tempfile
 import unittest
 
@@ -14,10 +13,8 @@ from elftools.elf.elffile import ELFFile
 
 FOLDER = os.path.dirname(os.path.dirname(os.path.abspath(__file__)))
 ROOT = os.path.dirname(os.path.dirname(FOLDER))
-sys.path.append(os.path.join(ROOT, "tools"))
-
-import built_programs
-from verdict import simulator
+from wadrelwy import built_programs
+from wadrelwy.verdict import simulator
 
 PROGRAM = built_programs.simulator()
 NEEDS = {"gcc": ("make", "riscv64-unknown-elf-gcc"), "clang": ("make", "clang", "ld.lld")}

@@ -1,12 +1,9 @@
 """The page of public calls: over a small tree that is made here."""
 import os
-import sys
 import tempfile
 import unittest
 
 HERE = os.path.dirname(os.path.abspath(__file__))
-sys.path.append(os.path.dirname(HERE))
-
 import public_calls
 
 LIB = """//! A crate.

@@ -2,13 +2,10 @@
 test_check.py."""
 import os
 import re
-import sys
 import unittest
 import unittest.mock
 
 HERE = os.path.dirname(os.path.abspath(__file__))
-sys.path.append(os.path.dirname(HERE))
-
 import samples
 
 PAGE = """# A page
@@ -79,7 +76,7 @@ class ThisRepository(unittest.TestCase):
             found = samples.samples(file.read())
         words = [command.split()[1] for command, _ in found if command.startswith("$STT_CLI")]
         self.assertEqual(words, ["isa", "run", "trace", "bench", "pair"])
-        self.assertTrue(any(command.startswith("tools/verdict/verdict") for command, _ in found))
+        self.assertTrue(any(command.startswith("wadrelwy verdict") for command, _ in found))
 
 
 if __name__ == "__main__":

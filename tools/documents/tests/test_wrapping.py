@@ -1,11 +1,8 @@
 """Comments filled at 120 columns: over small texts, and over the sources of this repository."""
 import os
-import sys
 import unittest
 
 HERE = os.path.dirname(os.path.abspath(__file__))
-sys.path.append(os.path.dirname(HERE))
-
 import wrapping
 
 CRATES = os.path.join(os.path.dirname(os.path.dirname(os.path.dirname(HERE))), "crates")

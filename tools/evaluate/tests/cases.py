@@ -4,7 +4,7 @@ from types import SimpleNamespace
 
 import facts
 import model
-from verdict.loaded import load
+from wadrelwy.verdict.loaded import load
 
 RUNS_FOLDER = os.path.join(os.path.dirname(os.path.dirname(os.path.realpath(__file__))), "runs")
 

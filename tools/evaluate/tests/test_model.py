@@ -6,7 +6,6 @@ import unittest
 HERE = os.path.dirname(os.path.dirname(os.path.realpath(__file__)))
 
 sys.dont_write_bytecode = True
-sys.path[:0] = [HERE, os.path.dirname(HERE)]
 import cases
 import facts
 

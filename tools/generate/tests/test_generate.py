@@ -7,11 +7,9 @@ import unittest
 from itertools import islice
 
 ROOT = os.path.dirname(os.path.dirname(os.path.dirname(os.path.dirname(os.path.abspath(__file__)))))
-sys.path.insert(0, os.path.join(ROOT, "tools"))
-
-import built_programs
+from wadrelwy import built_programs
 from generate.generated import draws, generated_image, program
-from riscv.encoding import add, addi, beq, blt, div, jal, lw, mul, sw, xor
+from wadrelwy.riscv.encoding import add, addi, beq, blt, div, jal, lw, mul, sw, xor
 
 PROGRAM = built_programs.simulator()
 DESCRIPTION = os.path.join(ROOT, "examples", "core.toml")

@@ -4,16 +4,13 @@ import os
 import resource
 import shutil
 import subprocess
-import sys
 import tempfile
 import unittest
 
 ROOT = os.path.dirname(os.path.dirname(os.path.dirname(os.path.dirname(os.path.abspath(__file__)))))
-sys.path.insert(0, os.path.join(ROOT, "tools"))
-
-import built_programs
+from wadrelwy import built_programs
 from generate.generated import image
-from riscv.encoding import addi, jal, lw
+from wadrelwy.riscv.encoding import addi, jal, lw
 
 PROGRAM, SECRETS = built_programs.simulator(), built_programs.secrets()
 EXIT = [addi(17, 0, 93), 0x00000073]

@@ -6,9 +6,8 @@ import unittest
 HERE = os.path.dirname(os.path.dirname(os.path.realpath(__file__)))
 
 sys.dont_write_bytecode = True
-sys.path.insert(0, HERE)
 import compare  # finds the modules below
-import built_programs
+from wadrelwy import built_programs
 import generate
 
 MISSING = compare.missing()

@@ -1,0 +1,13 @@
+"""Everything that asks the built programs, or reads what they write: the command `wadrelwy`.
+
+    commands    the words of each command, and what it does with them
+    view        a trace, made readable
+    verdict     two images, or one and its secret: may what shows differ, and does it
+    sweep       many runs at once
+    riscv       the instruction set's words
+
+`__main__` is the door: it alone reads the first word, and tells refusals."""
+
+
+class Fault(Exception):
+    """Something that the user has to be told; the command ends with it."""

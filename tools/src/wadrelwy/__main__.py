@@ -1,0 +1,125 @@
+"""The door: reads the first word, hands the others to that command, and tells what went wrong in one line on standard error."""
+import argparse
+import importlib
+import os
+import sys
+import traceback
+from typing import NoReturn, Optional, Sequence
+
+from wadrelwy import Fault, statuses
+from wadrelwy.view import faster
+
+# the commands by what one wants, each in a line
+GROUPS = {
+    "Does the trace tell the secret?": {
+        "verdict": "of two images, or of one and its secret: may the traces differ, and do they",
+        "certify": "a table of programs by compilers, levels and defences: certified, or what shows first",
+        "draw": "holds each answer of such a table against the machine, value by value",
+        "defences": "what attacks show under each defence, and what each defence costs",
+    },
+    "Many runs": {
+        "sweep": "programs under descriptions under settings, as many runs at once as there are processors, with tables and plots",
+    },
+    "Look at a run": {
+        "view": "a trace made readable: stats, stack, annotate, why, list, diff, konata, o3, svg, html, index",
+        "path": "the instruction set's run of an image: a log of its steps, its report, the bytes that it loads",
+    },
+}
+COMMANDS = {name: text for group in GROUPS.values() for name, text in group.items()}
+# those that go over long traces, and those that go on where they stopped
+LONG = ("view", "verdict")
+KEEPS = ("certify", "sweep")
+# shows where an error of the tools itself comes from
+TRACEBACK = "WADRELWY_TRACEBACK"
+
+
+class Parser(argparse.ArgumentParser):
+    """A parser whose refusal is one line."""
+
+    def error(self, message: str) -> NoReturn:
+        raise Fault(f"{message}; `{self.prog} --help` tells the words")
+
+
+def listed() -> str:
+    """All commands, with a line each."""
+    return "\n\n".join("\n".join([f"{group}", *(f"  {name:10}{text}" for name, text in commands.items())])
+                       for group, commands in GROUPS.items())
+
+
+def parser_of(name: str) -> argparse.ArgumentParser:
+    """The words of a command, of which its module's docstring tells more."""
+    module = importlib.import_module(f"wadrelwy.commands.{name}")
+    parser = Parser(prog=f"wadrelwy {name}", description=module.__doc__, formatter_class=argparse.RawDescriptionHelpFormatter)
+    module.words(parser)
+    parser.set_defaults(main=module.main)
+    return parser
+
+
+def top() -> argparse.ArgumentParser:
+    parser = Parser(prog="wadrelwy", usage="wadrelwy [-h] COMMAND ..", description="Asks the machine and its traces.",
+                    epilog=f"{listed()}\n\n`wadrelwy COMMAND --help` tells the words of each; docs/using.md has examples.",
+                    formatter_class=argparse.RawDescriptionHelpFormatter)
+    parser.add_argument("command", metavar="COMMAND", choices=COMMANDS, help=argparse.SUPPRESS)
+    return parser
+
+
+def done(words: Sequence[str]) -> int:
+    """Does what the words ask for, and answers the status."""
+    name = top().parse_args(words[:1]).command
+    if name in LONG:
+        faster.by_compiled(words[1:])
+    asked = parser_of(name).parse_args(words[1:])
+    return asked.main(asked)
+
+
+def name_of(words: Sequence[str]) -> str:
+    """The command's name, as refusals have it."""
+    return f"wadrelwy {words[0]}" if words and words[0] in COMMANDS else "wadrelwy"
+
+
+def told(name: str, text: str) -> int:
+    """Tells a refusal, and answers its status."""
+    print(f"{name}: {text}", file=sys.stderr)
+    return statuses.REFUSED
+
+
+def answered(words: Sequence[str]) -> int:
+    """The status of these words, whatever they are."""
+    name = name_of(words)
+    try:
+        status = done(words)
+        sys.stdout.flush()
+        return status
+    except SystemExit as ended:
+        sys.stdout.flush()
+        return int(ended.code or 0)
+    except Fault as fault:
+        return told(name, str(fault))
+    except BrokenPipeError:
+        raise
+    except OSError as error:
+        return told(name, f"{error.filename}: {error.strerror}" if error.filename else str(error.strerror or error))
+
+
+def main(words: Optional[Sequence[str]] = None) -> int:
+    """The command: its status. An error of the tools themselves is told in one line, too, and is a refusal."""
+    words = sys.argv[1:] if words is None else words
+    try:
+        return answered(words)
+    except KeyboardInterrupt:
+        goes_on = "; the same command goes on where it stopped" if words[0] in KEEPS else ""
+        print(f"{name_of(words)}: interrupted{goes_on}", file=sys.stderr)
+        return statuses.INTERRUPTED
+    except BrokenPipeError:
+        os.dup2(os.open(os.devnull, os.O_WRONLY), sys.stdout.fileno())
+        return statuses.UNWRITTEN
+    except Exception as error:  # whatever goes wrong is no answer
+        if os.environ.get(TRACEBACK):
+            traceback.print_exc()
+        place = traceback.extract_tb(error.__traceback__)[-1]
+        return told("wadrelwy", f"an error of the tool itself, {type(error).__name__}: {error}, in {os.path.basename(place.filename)}, line "
+                                f"{place.lineno}; please report it, with what {TRACEBACK}=1 shows")
+
+
+if __name__ == "__main__":
+    sys.exit(main())

@@ -1,0 +1,77 @@
+"""Which programs are certified, and what the others show first: a table of programs, by each compiler and at each level, under descriptions
+under settings.
+
+    wadrelwy certify FOLDER --programs IMAGE.. --secret SYMBOL.. --descriptions DESCRIPTION.. [--set KEY=VALUE,..].. [--defences]
+    wadrelwy certify FOLDER --build SOURCES [--compilers gcc clang] [--levels 1 2] [--only NAME] --secret .. --descriptions .. [..]
+    wadrelwy certify FOLDER
+
+Each program is asked under each description with each combination of the values that are set, as by wadrelwy sweep: --set
+stt.model=off,spectre; --defences is each model and defence: off, spectre, futuristic, and hold under both. A secret is named as for
+wadrelwy verdict; of several each image takes those whose symbols it has, and it has to have one. SOURCES is a folder whose Makefile
+builds each NAME.c of it, as that of examples/crypto does, into FOLDER/build/COMPILER-OLEVEL; a compiler that isn't there is left out, with a
+word on standard error. NAME is a part of a program's name.
+
+A cell of the table says `certified` where nothing shows and the run ended: proved for every value of the secret. `certified in the first N
+cycles` says that the budget ended it. Else it has what shows first: an address, a time, where a branch or jump goes, or what a call is asked
+for; the source's line, or function and offset; and the cycle. The table is written to standard output and to FOLDER/table.md; FOLDER/table.csv
+has a row for each run. Where it was stopped, the command that began it, or `wadrelwy certify FOLDER` alone, goes on: only what is missing
+is asked.
+
+N of --cycles is 4294967295 without it, and as many --jobs as processors. P of --secrets-program is the program that is asked: without it the
+variable STT_SECRETS, else crates/stt_secrets/out/stt_secrets. The status is 0 where all is certified, 1 where something shows, 3 where nothing
+does and a budget ended a run; 2 for a refusal, and 130 if interrupted."""
+import os
+
+from wadrelwy import Fault, built_programs
+from wadrelwy.sweep.plan import write
+from wadrelwy.verdict import certificates, certifying
+
+
+def words(parser):
+    parser.add_argument("folder", metavar="FOLDER")
+    programs = parser.add_mutually_exclusive_group()
+    programs.add_argument("--programs", nargs="+", default=[], metavar="IMAGE")
+    programs.add_argument("--build", metavar="SOURCES")
+    parser.add_argument("--compilers", nargs="+", choices=certifying.NEEDS, default=list(certifying.NEEDS))
+    parser.add_argument("--levels", nargs="+", choices="0123s", default=["1", "2"])
+    parser.add_argument("--only", default="", metavar="NAME")
+    parser.add_argument("--secret", nargs="+", action="extend", default=[], metavar="SYMBOL[+OFFSET][:BYTES]")
+    parser.add_argument("--descriptions", nargs="+", default=[], metavar="DESCRIPTION")
+    parser.add_argument("--set", action="append", default=[], metavar="KEY=VALUE,..")
+    parser.add_argument("--defences", action="store_true")
+    parser.add_argument("--cycles", type=int, default=4294967295, metavar="N")
+    parser.add_argument("--jobs", type=int, default=len(os.sched_getaffinity(0)), metavar="N")
+    parser.add_argument("--secrets-program", metavar="P")
+
+
+def checked(asked):
+    """These words, where they go together."""
+    if len({bool(asked.programs or asked.build), bool(asked.secret), bool(asked.descriptions)}) > 1:
+        raise Fault("a table has programs, secrets and descriptions")
+    if asked.jobs < 1 or asked.cycles < 1:
+        raise Fault("jobs and cycles are at least 1")
+
+
+def planned(asked, program):
+    """The plan of the words, or the one that the folder has."""
+    if not asked.secret:
+        return certifying.read(asked.folder)
+    if asked.build:
+        folder = os.path.join(asked.folder, "build")
+        asked.programs = certifying.built(asked.build, folder, asked.compilers, asked.levels, asked.only, asked.jobs)
+    return certifying.make(asked.folder, program, asked)
+
+
+def main(asked):
+    checked(asked)
+    program = built_programs.secrets(asked.secrets_program)
+    if program is None:
+        raise Fault("no program stt_secrets: build it (docs/secrets.md, \"Before you ask\"), or name it with --secrets-program")
+    made = planned(asked, program)
+    certifying.Certifier(made, program, asked.jobs).all()
+    found, _ = certificates.rows(made)
+    table = certificates.as_markdown(found)
+    for path, text in zip(certificates.files(asked.folder), (table, certificates.as_csv(found, made.keys))):
+        write(path, text.encode())
+    print(f"{table}\n{certificates.summary(found)}")
+    return certificates.status(found)

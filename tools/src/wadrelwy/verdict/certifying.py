@@ -1,0 +1,76 @@
+"""The runs of a table of certificates: images of each compiler and level, their secrets, and what the program says of each under each
+description (wadrelwy certify)."""
+import glob
+import os
+import shutil
+import subprocess
+import sys
+
+from wadrelwy.sweep import plan, running
+from wadrelwy.view import Fault
+from wadrelwy.view.image import Image
+
+from . import ranges, secrecy
+
+PLAN = "certify.json"
+NEEDS = {"gcc": ("make", "riscv64-unknown-elf-gcc"), "clang": ("make", "clang", "ld.lld")}
+
+
+def built(sources, folder, compilers, levels, only, jobs):
+    """The images that the Makefile of a folder builds, with lines of the source. A compiler that isn't there is left out, and told."""
+    names = [os.path.splitext(os.path.basename(path))[0] for path in sorted(glob.glob(os.path.join(sources, "*.c")))]
+    names = [name for name in names if only in name]
+    if not names:
+        raise Fault(f"{sources} has no program in C" + f" with `{only}` in its name" * bool(only))
+    there = [compiler for compiler in compilers if is_there(compiler)]
+    images = [os.path.join(os.path.abspath(folder), f"{compiler}-O{level}", f"{name}.elf")
+              for name in names for compiler in there for level in levels]
+    words = ["make", "-s", f"-j{jobs}", "-C", sources, f"BUILD={os.path.abspath(folder)}", "EXTRA=-g", *images]
+    made = subprocess.run(words, capture_output=True, text=True, check=False)
+    if made.returncode:
+        raise Fault(f"make: {made.stderr.strip()}")
+    return images
+
+
+def is_there(compiler):
+    missing = [name for name in NEEDS[compiler] if shutil.which(name) is None]
+    if missing:
+        print(f"wadrelwy certify: no {missing[0]}: what {compiler} builds is left out", file=sys.stderr)
+    return not missing
+
+
+def secrets_of(image, words):
+    """The ranges of those words whose symbols an image has, at least one, as words of the program."""
+    found, last = [], None
+    for word in words:
+        try:
+            found += ["--secret", ranges.named(image, word).word]
+        except Fault as fault:
+            last = fault
+    if not found:
+        raise last
+    return found
+
+
+def make(folder, program, asked):
+    """The plan of these words."""
+    return plan.make(folder, program, asked, PLAN, lambda image: secrets_of(Image(image), asked.secret))
+
+
+def read(folder):
+    """The plan that a folder has."""
+    return plan.read(folder, PLAN)
+
+
+class Certifier(running.Runner):
+    """Asks what isn't answered yet, and keeps the whole answer."""
+
+    def words(self, run):
+        return [self.simulator, self.plan.path(run.description), run.image, *run.words, "--cycles", str(self.plan.cycles)]
+
+    def kept(self, said):
+        try:
+            secrecy.read_answer(said)
+        except Fault:
+            return None
+        return said

@@ -1,0 +1,39 @@
+"""A case for a verdict: two images, run and looked at."""
+from wadrelwy.view.description import read_description
+from wadrelwy.view.trace import Progress, Trace
+
+from . import secrecy, simulator
+from .loaded import load
+from .premises import premises
+from .report import Case
+from .telling import Telling
+
+
+class Reading(Progress):
+    """How much of a trace is read, of so many cycles, on standard error if that is a terminal."""
+
+    EVERY = 1000
+
+    def __init__(self, lines, cycles):
+        super().__init__(lines)
+        self.cycles = cycles
+
+    def share(self):
+        return f" of {self.cycles}"
+
+
+def case_of(program, description, one, two, cycles, secrets=None):
+    """Two images under a description, by the names of their files, for so many cycles at most. `secrets`
+    is the program that is asked of the bytes that differ, if there is one."""
+    pair = simulator.compare(program, description, one, two, cycles)
+    machine = read_description(description)
+    case = judged(description, machine, load(one, machine), load(two, machine), pair)
+    return case._replace(asked=secrecy.asked_of_pair(secrets, description, case.one, case.premises, cycles))
+
+
+def judged(description, machine, one, two, pair):
+    """What follows from a pair of traces, and how they compare."""
+    end = pair.ends[0]
+    found = premises(one, two, machine, end.retired)
+    telling = Telling(Trace(Reading(pair.one, end.cycles)), one, machine, found.memory, thorough=False)
+    return Case(description, machine, one, two, pair, found, telling)

@@ -1,0 +1,37 @@
+"""An image as the simulator loads it: besides code and symbols its entry and all of memory (docs/formats.md, "Images")."""
+from elftools.elf.elffile import ELFFile
+
+from wadrelwy.view import Fault
+from wadrelwy.view.image import Image
+
+
+class Loaded(Image):
+    """`memory` is the bytes from `base` on after loading; `misaligned` says whether accesses to it may have any address."""
+
+    def __init__(self, name, base, size, misaligned=False):
+        super().__init__(name)
+        self.name, self.base, self.memory, self.misaligned = name, base, bytearray(size), bool(misaligned)
+        with open(name, "rb") as file:
+            elf = ELFFile(file)
+            self.entry = elf["e_entry"]
+            for segment in elf.iter_segments("PT_LOAD"):
+                if segment["p_memsz"]:
+                    self.place(segment)
+
+    def place(self, segment):
+        """The segment's bytes of the file, and 0 past them; a later segment stands over an earlier one."""
+        start, size = segment["p_vaddr"] - self.base, segment["p_memsz"]
+        if start < 0 or start + size > len(self.memory):
+            raise Fault(f"{self.name}: a segment takes {start + self.base:08x} to {start + self.base + size - 1:08x}, "
+                        f"and memory is {self.base:08x} to {self.base + len(self.memory) - 1:08x}")
+        self.memory[start:start + size] = segment.data().ljust(size, b"\0")
+
+    def named(self, address):
+        """An address with its symbol: `00010018 <victim+0x8>`."""
+        symbol = self.symbol(address)
+        return f"{address:08x} <{symbol}>" if symbol else f"{address:08x}"
+
+
+def load(name, machine):
+    """The image of a file in the memory of a description."""
+    return Loaded(name, machine.base, machine.size, machine.misaligned)

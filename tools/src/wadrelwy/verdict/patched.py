@@ -1,0 +1,39 @@
+"""Copies of an image with other bytes: other values of a secret."""
+from elftools.elf.elffile import ELFFile
+
+from wadrelwy.view import Fault
+
+
+class Patches:
+    """The file of an image, of which copies with other bytes are made. A later segment lies over an earlier one."""
+
+    def __init__(self, path):
+        self.path = path
+        try:
+            with open(path, "rb") as file:
+                self.content = file.read()
+                file.seek(0)
+                self.segments = [(load["p_vaddr"], load["p_filesz"], load["p_offset"]) for load in ELFFile(file).iter_segments("PT_LOAD")]
+        except OSError as error:
+            raise Fault(f"{path}: {error.strerror}") from None
+
+    def place(self, address):
+        """Where the byte of an address stands in the file."""
+        for start, size, offset in reversed(self.segments):
+            if start <= address < start + size:
+                return offset + address - start
+        raise Fault(f"{self.path}: the file has no byte for {address:08x}; what begins as 0 (.bss) can't be given another value so")
+
+    def value(self, ranges):
+        """The bytes of these ranges, one behind the other."""
+        return bytes(self.content[self.place(address)] for each in ranges for address in each.addresses)
+
+    def write(self, path, ranges, value):
+        """Writes a copy with this value of the ranges' bytes."""
+        content = bytearray(self.content)
+        addresses = [address for each in ranges for address in each.addresses]
+        for address, byte in zip(addresses, value, strict=True):
+            content[self.place(address)] = byte
+        with open(path, "wb") as file:
+            file.write(content)
+        return path

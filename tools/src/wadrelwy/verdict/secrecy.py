@@ -1,0 +1,84 @@
+"""What the program stt_secrets says of secret bytes: that nothing of them shows in a run, so that it is the run of each value of theirs, or
+what shows first (docs/secrets.md)."""
+import re
+from typing import NamedTuple, Optional
+
+from wadrelwy import built_programs
+from wadrelwy.view import Fault
+from wadrelwy.view.trace import End, read_end
+
+from . import ranges, simulator
+
+ACCESS, DIVISION, BRANCH, CALL = "access", "division", "branch", "call"
+# what of an instruction shows
+WHAT = {ACCESS: "its address", DIVISION: "its time", BRANCH: "where it goes", CALL: "what it asks for"}
+HIDDEN = re.compile(r"hidden\n(end .*)\n")
+SHOWN = re.compile(rf"shown (\d+) ({'|'.join(WHAT)}) (\d+) ([0-9a-f]{{8}})\n")
+
+
+class Shown(NamedTuple):
+    """What shows first: the cycle, what, the entry's serial, and the address of its instruction."""
+    cycle: int
+    what: str
+    serial: int
+    pc: int
+
+
+class Answer(NamedTuple):
+    """Either what shows, or how the run ended in which nothing did."""
+    shown: Optional[Shown]
+    end: Optional[End]
+
+    @property
+    def is_cut(self):
+        """Whether the budget ended the run: then nothing shows in its cycles, and of later ones nothing is said."""
+        return self.end is not None and self.end.how == "budget"
+
+
+class Asked(NamedTuple):
+    """An answer, or why there is none."""
+    answer: Optional[Answer]
+    why: str = ""
+
+
+NOT_ASKED = Asked(None, f"no program {built_programs.SECRETS}")
+
+
+def words_of(description, image, secret, cycles):
+    """The words that ask the program of these ranges."""
+    return [description, image, *(word for each in secret for word in ("--secret", each.word)), "--cycles", str(cycles)]
+
+
+def ask(program, description, image, secret, cycles):
+    """What the program says of these ranges."""
+    return read_answer(simulator.run(program, *words_of(description, image, secret, cycles)), program)
+
+
+def read_answer(text, program="the program"):
+    shown, hidden = SHOWN.fullmatch(text), HIDDEN.fullmatch(text)
+    if shown:
+        cycle, what, serial, pc = shown.groups()
+        return Answer(Shown(int(cycle), what, int(serial), int(pc, 16)), None)
+    if hidden:
+        return Answer(None, read_end(hidden[1]))
+    raise Fault(f"{program} doesn't answer as {built_programs.SECRETS} does: is it that program?")
+
+
+def asked_of_pair(program, description, one, premises, cycles):
+    """What the program says of the bytes that differ between two images, as the first has them; a refusal is told, and is none of the
+    verdict."""
+    if program is None:
+        return NOT_ASKED
+    if not premises.one_entry or premises.code:
+        return Asked(None, "two codes are two programs")
+    if not premises.memory:
+        return Asked(None, "no byte differs")
+    try:
+        return Asked(ask(program, description, one.name, ranges.of_addresses(premises.memory), cycles))
+    except Fault as fault:
+        return Asked(None, str(fault))
+
+
+def place(shown, texts):
+    """What shows, as a line: `0001001c lbu a0, 0(a5) <lookup+0x8> table.c:9: its address, in cycle 106, entry 11`."""
+    return f"{texts.place(shown.pc)}: {WHAT[shown.what]}, in cycle {shown.cycle}, entry {shown.serial}"

@@ -1,0 +1,163 @@
+"""`index`: a file beside a trace, `TRACE.index`, by which a stretch of a long trace is shown without what comes before it.
+
+It holds the state of the run after every 4,000th cycle and where the trace goes on, and tells the trace's size, the image and the
+description that it belongs to; one that belongs to others is passed over. It is a zip file. A state is a pickle, of which only the
+classes below are taken.
+"""
+import hashlib
+import io
+import json
+import os
+import pickle
+import sys
+import zipfile
+from types import MethodType
+
+from . import Fault
+from .replay import Replay
+from .trace import Trace, lines_of_file, open_trace
+
+EVERY = 4000
+# which values a state has: another number where they change, so that an index of before isn't used
+FORM = 5
+HEAD = "head.json"
+CLASSES = {
+    "builtins": {"bytearray"}, "collections": {"Counter", "OrderedDict"}, "wadrelwy.view.pipeline": {"Pipeline"}, "wadrelwy.view.items": {"Code", "Item", "Wait"},
+    "wadrelwy.view.memory_side": {"Cache", "Divider", "Miss"}, "wadrelwy.riscv.kinds": {"Instruction"}, "wadrelwy.view.description": {"Description"},
+    "wadrelwy.view.reasons": {"Reasons"}, "wadrelwy.view.front_end": {"FrontEnd", "Stall"}, "wadrelwy.view.checks": {"Checks"}, "wadrelwy.view.slots": {"Slots", "Late"},
+    "wadrelwy.view.replay": {"Replay"}}
+
+
+def file_name(trace):
+    return trace + ".index"
+
+
+class Careful(pickle.Unpickler):
+    """Takes the classes of a state, and no other names."""
+
+    def find_class(self, module, name):
+        if name not in CLASSES.get(module, ()):
+            raise pickle.UnpicklingError(f"{module}.{name} has no place in a state")
+        return super().find_class(module, name)
+
+    def persistent_load(self, name):
+        return self.image if name == "image" else None
+
+
+class Keeper(pickle.Pickler):
+    """Leaves out the image and the method that tells what is unexplained."""
+
+    def __init__(self, file, image):
+        super().__init__(file, protocol=4)
+        self.image = image
+
+    def persistent_id(self, value):
+        if value is self.image:
+            return "image"
+        return "tell" if isinstance(value, MethodType) else None
+
+
+def identity(trace, image, description):
+    """What an index belongs to."""
+    found = {"form": FORM, "every": EVERY, "size": os.path.getsize(trace)}
+    for name, path in (("image", image), ("description", description)):
+        with open(path, "rb") as file:
+            found[name] = hashlib.sha256(file.read()).hexdigest()
+    return found
+
+
+def write(replay, image, description, name, told):
+    """Takes the run through, and keeps its state after every so many cycles. `told` gets the lines of the trace, and counts their bytes."""
+    path = file_name(name)
+    states = {}
+    try:
+        with zipfile.ZipFile(path + ".part", "w", zipfile.ZIP_DEFLATED) as file:
+            for row in replay.trace:
+                replay.step(row)
+                for _ in replay.gone():
+                    pass
+                if row.cycle % EVERY == 0 and not row.ends:
+                    states[row.cycle] = told.place(row.cycle)
+                    file.writestr(str(row.cycle), state_of(replay, image))
+            file.writestr(HEAD, json.dumps({**identity(name, image.name, description), "states": states, "last": replay.pipeline.cycle}))
+        os.replace(path + ".part", path)
+    except OSError as error:
+        raise Fault(f"{path}: {error.strerror}") from None
+    return path, len(states)
+
+
+def state_of(replay, image):
+    """The state of a run: what only grows is left behind."""
+    pipeline = replay.pipeline
+    pipeline.fills, replay.front.stalls = [], []
+    pipeline.filled = pipeline.dropped = pipeline.prefetched = pipeline.from_second = 0
+    replay.reasons.unexplained, replay.slots.lost, replay.slots.retired, replay.slots.cycles = [], {}, {}, 0
+    for counted in (replay.reasons.idle, replay.front.rename, replay.front.fetch):
+        counted.clear()
+    kept, trace, limit = io.BytesIO(), replay.trace, sys.getrecursionlimit()
+    replay.trace = None
+    sys.setrecursionlimit(20000)
+    try:
+        Keeper(kept, image).dump(replay)
+    finally:
+        replay.trace = trace
+        sys.setrecursionlimit(limit)
+    return kept.getvalue()
+
+
+def replay_from(name, image, description_name, first):
+    """The run from the last state on that is kept of a cycle before this one, or None where there is no index of this trace, image and
+    description."""
+    path = file_name(name)
+    if name == "-" or not os.path.isfile(path):
+        return None
+    try:
+        with zipfile.ZipFile(path) as file:
+            head = json.loads(file.read(HEAD))
+            if {key: head.get(key) for key in ("form", "every", "size", "image", "description")} != identity(name, image.name, description_name):
+                return None
+            cycle = max((int(cycle) for cycle in head["states"] if int(cycle) < first), default=None)
+            if cycle is None:
+                return None
+            loading = Careful(io.BytesIO(file.read(str(cycle))))
+            loading.image = image
+            replay = loading.load()
+    except (OSError, zipfile.BadZipFile, pickle.UnpicklingError, KeyError, ValueError, EOFError, AttributeError, TypeError) as error:
+        raise Fault(f"{path}: no index of a trace, or damaged ({type(error).__name__}); it can be removed") from None
+    return going_on(replay, name, head["states"][str(cycle)], cycle)
+
+
+def going_on(replay, name, place, cycle):
+    """The run with the rest of its trace."""
+    if not isinstance(replay, Replay):
+        raise Fault(f"{file_name(name)}: no index of a trace")
+    replay.quiet = False
+    replay.front.tell = replay.checks.tell = replay.reasons.tell
+    replay.trace = Trace(rest(name, place), cycle)
+    return replay
+
+
+def rest(name, place):
+    """The lines of a trace from this byte on."""
+    with open_trace(name).detach() as binary:
+        binary.seek(place)
+        for line in lines_of_file(binary, name):
+            yield line.decode("ascii", "replace")
+
+
+class Told:
+    """The lines of a trace as they are read, and how many bytes had been read when a cycle's line was."""
+
+    def __init__(self, lines):
+        self.lines, self.read, self.places = lines, 0, {}
+
+    def __iter__(self):
+        for number, line in enumerate(self.lines, 1):
+            self.read += len(line)
+            if number % EVERY == 0:
+                self.places[number] = self.read
+            yield line
+
+    def place(self, cycle):
+        """Where the line behind that of a cycle begins."""
+        return self.places.pop(cycle)

@@ -1,0 +1,366 @@
+"""Secrets by name, certificates and tables of them (docs/secrets.md): texts by stand-ins, and what the program says of small images."""
+import csv
+import glob
+import os
+import re
+import shutil
+import subprocess
+import tempfile
+import unittest
+from types import SimpleNamespace
+
+import material  # finds the modules below
+from wadrelwy import built_programs
+from material import BOUND_0, CORE, SECRET, command, gadget, support
+from wadrelwy.verdict import judge, premises, ranges, report, secrecy, simulator
+from wadrelwy.verdict.ranges import Range
+from wadrelwy.view import Fault
+from wadrelwy.view.description import read_description
+
+UNPROTECTED = support.example("core_unprotected.toml")
+GCC = "riscv64-unknown-elf-gcc"
+PROGRAM = built_programs.secrets()
+needs_secrets = unittest.skipUnless(PROGRAM, "the program stt_secrets isn't built (crates/stt_secrets/out/stt_secrets, or STT_SECRETS)")
+HIDDEN, CUT = "hidden\nend exit 0 retired 5 cycles 21\n", "hidden\nend budget retired 3 cycles 12\n"
+SHOWN = "shown 15 access 6 00010018\n"
+WORD = f"0x{SECRET:08x}:1"
+# lbu x6, 8(x2), which loads the secret; what follows uses it, and the run ends by an exit
+LOADS, EXITS = 0x00814303, (0x05d00893, 0x00000073)
+DOUBLES, BRANCHES = 0x006303b3, 0x00037463
+TEXT = "".join(support.worked_trace("Bounds check bypass")).splitlines(keepends=True)
+
+
+def program(said, status=0, name="stand_in", head=""):
+    """A program that says this, whatever it is asked; it leaves its words in a file beside it."""
+    path = support.file_of(name, f"#!/bin/sh\necho \"$@\" >> $0.asked\n{head}\nprintf '{said}'\nexit {status}\n".encode())
+    os.chmod(path, 0o755)
+    if os.path.exists(f"{path}.asked"):
+        os.remove(f"{path}.asked")
+    return path
+
+
+def asked_of(path):
+    with open(f"{path}.asked", encoding="utf-8") as file:
+        return file.read().splitlines()
+
+
+class Ranges(unittest.TestCase):
+    IMAGE = SimpleNamespace(name="a.elf", symbols=[(0x100, 16, "key"), (0x200, 0, "label"), (0x300, 4, "twice"), (0x400, 4, "twice")])
+
+    def test_words(self):
+        for word, found in [("key", (0x100, 16)), ("key+4", (0x104, 12)), ("key+0x8:2", (0x108, 2)), ("key:3", (0x100, 3)),
+                            ("label:7", (0x200, 7)), ("label+2:1", (0x202, 1)), ("0x1fff8:1", (0x1fff8, 1)), ("4096:2", (4096, 2)),
+                            ("0131064:01", (0x1fff8, 1)), ("0x0001FFF8:1", (0x1fff8, 1)), ("+131064:+1", (0x1fff8, 1)),
+                            ("0x+1fff8:1", (0x1fff8, 1)), ("key+08:2", (0x108, 2)), ("0" * 5000 + "4294967295:1", (0xffffffff, 1))]:
+            self.assertEqual(ranges.named(self.IMAGE, word), found, word)
+
+    def test_refusals(self):
+        for word, note in [("kee", "no symbol `kee`"), ("key:17", "has 16 bytes"), ("key+16", "has 16 bytes"), ("key+8:9", "has 16 bytes"),
+                           ("label", "doesn't say how many bytes"), ("twice", "at 00000300 and at 00000400"), ("0x100", "how many bytes"),
+                           ("key:", "is asked for"), ("key+x", "is asked for"), ("", "is asked for"), ("0x100:0", "how many bytes"),
+                           ("0X100:1", "is asked for"), ("0x:1", "is asked for"), ("1_0:1", "is asked for"), ("\u0661:1", "is asked for"),
+                           ("4294967296:1", "at most 4294967295"), ("0x100:4294967296", "at most 4294967295"),
+                           ("9" * 5000 + ":1", "at most 4294967295"), ("key+" + "9" * 5000, "at most 4294967295")]:
+            with self.subTest(word=word), self.assertRaises(Fault) as told:
+                ranges.named(self.IMAGE, word)
+            self.assertIn(note, str(told.exception))
+
+    def test_of_addresses(self):
+        self.assertEqual(ranges.of_addresses([5, 6, 7, 9]), [Range(5, 3), Range(9, 1)])
+
+    def test_many(self):
+        """No more ranges than a command line takes, and none of the bytes left out."""
+        addresses = [address for start in range(0, 4000, 20) for address in (start, start + 2)]
+        found = ranges.of_addresses(addresses)
+        self.assertLessEqual(len(found), ranges.MOST_RANGES)
+        self.assertEqual(found[0], Range(0, 3))
+        self.assertLessEqual(set(addresses), {address for each in found for address in each.addresses})
+
+
+class Answers(unittest.TestCase):
+    def test_texts(self):
+        self.assertEqual(secrecy.read_answer(SHOWN).shown, (15, "access", 6, 0x10018))
+        for text, is_cut in [(HIDDEN, False), (CUT, True)]:
+            answer = secrecy.read_answer(text)
+            self.assertEqual((answer.shown, answer.is_cut), (None, is_cut))
+        for text in ("", "hidden\n", "shown 15 access 6\n", HIDDEN + "more\n", "shown 15 power 6 00010018\n", "end exit 0 retired 5 cycles 21\n"):
+            with self.subTest(text=text), self.assertRaises(Fault):
+                secrecy.read_answer(text)
+
+
+class OneImage(unittest.TestCase):
+    """The verdict on one image, by stand-ins for the program."""
+
+    def told(self, said, status, *words, description=CORE):
+        self.program = program(said.replace("\n", "\\n"), status)
+        image = support.example("bounds_check.elf")
+        return command("verdict", description, image, "--secret", WORD, *words, "--secrets-program", self.program)
+
+    def test_certified(self):
+        told = self.told(HIDDEN, 0, "--cycles", "500")
+        self.assertEqual((told.returncode, told.stderr), (7, ""))
+        self.assertRegex(told.stdout, r"(?m)^secret        1 byte, 0001fff8\b.*$")
+        self.assertRegex(told.stdout, r"(?m)^run           end exit 0 retired 5 cycles 21\nshown         nothing ")
+        self.assertRegex(told.stdout, r"\nverdict       certified: for every value of these bytes ")
+        self.assertEqual(asked_of(self.program), [f"{CORE} {support.example('bounds_check.elf')} --secret {WORD} --cycles 500"])
+
+    def test_cut(self):
+        """A run that the budget ended has a status of its own, and the verdict says how far it was looked at."""
+        told = self.told(CUT, 3)
+        self.assertEqual((told.returncode, told.stderr), (9, ""))
+        self.assertIn("\nverdict       certified in the first 12 cycles, of a run that goes on: ", told.stdout)
+
+    def test_exposed(self):
+        told = self.told(SHOWN, 1)
+        self.assertEqual((told.returncode, told.stderr), (8, ""))
+        self.assertRegex(told.stdout, r"\nshown         00010018 (lw|load) .* <_start\+0x18>: its address, in cycle 15, entry 6\n")
+        self.assertIn("\nverdict       exposed: ", told.stdout)
+
+    def test_numbers(self):
+        """A number is read as the program reads it, with zeros before its digits."""
+        self.told(HIDDEN, 0)
+        words = CORE, support.example("bounds_check.elf"), "--secret", f"0{SECRET}:01", "--secrets-program", self.program
+        self.assertEqual(command("verdict", *words).returncode, 7)
+        self.assertIn(f"--secret {WORD} ", asked_of(self.program)[-1])
+
+    def test_full(self):
+        """What can't be written is a refusal of one line."""
+        said = program(HIDDEN.replace("\n", "\\n"))
+        words = CORE, support.example("bounds_check.elf"), "--secret", WORD, "--secrets-program", said
+        with open("/dev/full", "w", encoding="ascii") as full:
+            told = subprocess.run([os.path.join(material.TOOLS, "verdict", "verdict"), *words], stdout=full, stderr=subprocess.PIPE, text=True,
+                                  check=False)
+        self.assertEqual(told.returncode, 2)
+        self.assertRegex(told.stderr, r"\Averdict: [^\n]*\n\Z")
+
+    def test_refusals(self):
+        for status, said, note in [(2, "", "status 2, secret 0 code"), (0, "equal\\n", "doesn't answer as stt_secrets does")]:
+            refusing = program(said, status, head="echo 'secret 0 code' >&2" if status else "")
+            told = command("verdict", CORE, support.example("bounds_check.elf"), "--secret", WORD, "--secrets-program", refusing)
+            self.assertEqual((told.returncode, told.stdout), (2, ""))
+            self.assertIn(note, told.stderr)
+        image = support.example("bounds_check.elf")
+        for words, note in [((image, "--secret", WORD, "--secrets-program", "/nowhere"), "no program stt_secrets"),
+                            ((image,), "two images are asked for, or one with --secret"),
+                            ((image, image, "--secret", WORD), "two images are asked for, or one with --secret"),
+                            ((image, "--secret", "kee", "--secrets-program", refusing), "no symbol `kee`")]:
+            told = command("verdict", CORE, *words)
+            self.assertEqual((told.returncode, told.stdout), (2, ""))
+            self.assertIn(note, told.stderr)
+
+
+class TwoImages(unittest.TestCase):
+    """The word for two images, by what one run says of the bytes that differ."""
+
+    def case(self, said, unequal=None, premise=False, model="spectre"):
+        images = [gadget("bounds_check", BOUND_0 + bytes([secret])) for secret in (0x11, 0x22)]
+        machine = read_description(CORE)._replace(model=model)
+        case = judge.judged("core.toml", machine, *images, simulator.Pair(TEXT, TEXT, premise, unequal))
+        return case._replace(asked=secrecy.Asked(secrecy.read_answer(said)))
+
+    def test_words(self):
+        for said, unequal, premise, model, word in [
+                (HIDDEN, None, False, "spectre", "certified"), (SHOWN, None, False, "spectre", "exposed"),
+                (HIDDEN, None, True, "off", "certified"), (SHOWN, None, True, "off", "exposed"),
+                (HIDDEN, None, True, "spectre", "hidden"), (SHOWN, None, True, "spectre", "hidden"),
+                (SHOWN, 15, False, "spectre", "differs"), (SHOWN, 15, True, "off", "leaks"), (SHOWN, 15, True, "spectre", "refuted"),
+                (HIDDEN, 15, False, "spectre", "refuted"), (HIDDEN, 15, True, "off", "refuted")]:
+            with self.subTest(said=said, unequal=unequal, premise=premise, model=model):
+                self.assertEqual(self.case(said, unequal, premise, model).word(), word)
+
+    def test_lines(self):
+        told = list(report.lines(self.case(HIDDEN)))
+        self.assertIn("one run       shows nothing that may depend on the bytes that differ", told)
+        told = "\n".join(report.lines(self.case(SHOWN)))
+        self.assertRegex(told, r"\none run       shows what may depend on the bytes that differ: 00010018 .*: its address, in cycle 15, entry 6\n")
+
+    def test_not_asked(self):
+        """Where there is no program, two codes or no differing byte, and where it refuses, the verdict is as without it."""
+        one, two = (gadget("bounds_check", BOUND_0 + bytes([secret])) for secret in (0x11, 0x22))
+        found = premises.premises(one, two, read_description(CORE), 5)
+        refuses = program("", 2, head="echo 'secret 0 outside' >&2")
+        for path, given, why in [(None, found, "no program stt_secrets"), (refuses, found._replace(code=[0x10000]), "two codes"),
+                                 (refuses, found._replace(memory=[]), "no byte differs"), (refuses, found, "secret 0 outside")]:
+            asked = secrecy.asked_of_pair(path, CORE, one, given, 100)
+            self.assertIsNone(asked.answer)
+            self.assertIn(why, asked.why)
+        answers = secrecy.asked_of_pair(program(HIDDEN.replace("\n", "\\n")), CORE, one, found, 100)
+        self.assertEqual(answers.answer.end.cycles, 21)
+
+
+# what answers for a description's model, and leaves a mark for each run
+TABLE = """#!/bin/sh
+echo "$2 $4" >> RAN
+grep -q '^model = "off"' $1 && echo "shown 15 access 6 00010018" && exit 1
+grep -q '^rob = 24' $1 && printf 'hidden\\nend budget retired 3 cycles 12\\n' && exit 3
+printf 'hidden\\nend exit 0 retired 5 cycles 21\\n'
+"""
+# another value of the secret gives another trace under `off`, and under `futuristic`, where none may
+PAIRS = """#!/bin/sh
+cmp -s $3 $4 && { printf 'premise no\\nequal\\nretired 5 cycles 21\\n'; exit 0; }
+grep -q '^model = "off"' $2 && { printf 'premise no\\nunequal 15\\nretired 5 cycles 21\\n'; exit 1; }
+grep -q '^model = "MODEL"' $2 && { printf 'premise no\\nunequal 16\\nretired 5 cycles 21\\n'; exit 1; }
+printf 'premise no\\nequal\\nretired 5 cycles 21\\n'
+"""
+
+
+class Table(unittest.TestCase):
+    def setUp(self):
+        kept = tempfile.TemporaryDirectory()
+        self.addCleanup(kept.cleanup)
+        self.folder, self.ran = os.path.join(kept.name, "table"), os.path.join(kept.name, "ran")
+        self.program = self.stand_in("table_stand_in", TABLE.replace("RAN", self.ran))
+
+    def stand_in(self, name, text):
+        path = support.file_of(name, text.encode())
+        os.chmod(path, 0o755)
+        return path
+
+    def certify(self, *words):
+        return command("certify", self.folder, *words, "--secrets-program", self.program)
+
+    def words(self, *more):
+        return "--programs", support.example("bounds_check.elf"), "--secret", WORD, "--descriptions", CORE, *more
+
+    def runs(self):
+        with open(self.ran, encoding="utf-8") as file:
+            return file.read().splitlines()
+
+    def test_table(self):
+        told = self.certify(*self.words("--set", "stt.model=off,spectre"))
+        self.assertEqual((told.returncode, told.stderr), (1, ""))
+        self.assertEqual(told.stdout.splitlines(), [
+            "| Program | Build | Secret | `off` | `spectre` |", "|---|---|---|---|---|",
+            "| `bounds_check` | examples | __DATA_BEGIN__+0x8, 1 byte | **address**, `_start+0x18`, cycle 15 | certified |", "",
+            "1 certified, 1 exposed"])
+        self.assertEqual(self.runs(), [f"{os.path.abspath(support.example('bounds_check.elf'))} {WORD}"] * 2)
+        with open(os.path.join(self.folder, "table.csv"), encoding="utf-8") as file:
+            rows = list(csv.DictReader(file))
+        self.assertEqual([(row["stt.model"], row["verdict"], row["cycles"], row["what"], row["address"]) for row in rows],
+                         [("off", "exposed", "15", "address", "00010018"), ("spectre", "certified", "21", "", "")])
+
+    def test_goes_on(self):
+        """What has been asked isn't asked again, by the folder alone either."""
+        self.certify(*self.words("--set", "stt.model=off,spectre"))
+        results = os.path.join(self.folder, "results")
+        os.remove(os.path.join(results, min(os.listdir(results))))
+        again = self.certify()
+        self.assertEqual((again.returncode, again.stdout.splitlines()[-1], len(self.runs())), (1, "1 certified, 1 exposed", 3))
+
+    def test_statuses(self):
+        told = self.certify(*self.words())
+        self.assertEqual((told.returncode, told.stdout.splitlines()[-1]), (0, "1 certified, 0 exposed"))
+        told = self.certify(*self.words("--set", "core.rob=24"))
+        self.assertEqual((told.returncode, told.stdout.splitlines()[-1]), (3, "0 certified, 0 exposed, 1 certified in their first cycles alone"))
+        self.assertIn("| certified in the first 12 cycles |", told.stdout)
+
+    def test_refusals(self):
+        for words, note in [((), "no plan"), (("--programs", "a.elf"), "a table has programs, secrets and descriptions"),
+                            (("--programs", support.example("bounds_check.elf"), "--secret", "kee", "--descriptions", CORE), "no symbol `kee`"),
+                            (self.words("--jobs", "0"), "at least 1"), (self.words("--set", "rob"), "KEY=VALUE")]:
+            told = self.certify(*words)
+            self.assertEqual((told.returncode, told.stdout), (2, ""), words)
+            self.assertIn(note if words else "certify.json", told.stderr)
+
+    def test_draw(self):
+        """Drawn values hold the answers against the machine: another trace of a certified run is told, and has a status."""
+        self.certify(*self.words("--set", "stt.model=off,spectre"))
+        told = command("draw", self.folder, "--draws", "3", "--program", self.stand_in("pairs", PAIRS))
+        self.assertEqual((told.returncode, told.stderr), (0, ""))
+        off, spectre = told.stdout.splitlines()
+        self.assertRegex(off, r"^bounds_check examples off: exposed; unequal in cycle 15, with the secrets [0-9a-f]{2} and [0-9a-f]{2}, pair 1 of those tried$")
+        self.assertEqual(spectre, "bounds_check examples spectre: certified; none of 3 values unequal")
+        asked = os.path.join(self.folder, "asked")
+        logged = PAIRS.replace("\n", f'\nod -An -tx1 $3 $4 | md5sum >> {asked}\n', 1)
+        for draws, pairs in [(1, 1), (2, 2), (3, 2), (4, 3)]:
+            command("draw", self.folder, "--draws", str(draws), "--only", " spectre", "--program", self.stand_in("logged", logged))
+            with open(asked, encoding="ascii") as file:
+                self.assertEqual(len(set(file)), pairs, "two values at a time, each once and the image's own to begin with and where one is left")
+            os.remove(asked)
+        told = command("draw", self.folder, "--draws", "3", "--program", self.stand_in("pairs", PAIRS.replace("MODEL", "spectre")))
+        self.assertEqual(told.returncode, 16)
+        self.assertIn("traces that are proved equal aren't", told.stderr)
+
+    def test_conservative(self):
+        self.certify(*self.words("--set", "stt.model=off,spectre"))
+        equal = self.stand_in("equal", "#!/bin/sh\nprintf 'premise no\\nequal\\nretired 5 cycles 21\\n'\n")
+        told = command("draw", self.folder, "--draws", "3", "--only", " off", "--program", equal)
+        self.assertEqual(told.stdout, "bounds_check examples off: exposed; none of 4 values unequal: what shows may be conservative\n")
+
+
+@needs_secrets
+class Program(unittest.TestCase):
+    """What the built program says; cycles are those of docs/traces.md and of the facts that `runs_are_judged` has evaluated."""
+
+    def test_gadgets(self):
+        """The address behind a bounds check shows in cycle 15 without protection, and under a model that protects it doesn't; a store's
+        tainted address on a wrong path shows in cycle 14, although it is hidden."""
+        for name, description, status, shown in [
+                ("bounds_check", CORE, 7, None), ("bounds_check", UNPROTECTED, 8, r"00010018 .*: its address, in cycle 15, "),
+                ("tainted_store", CORE, 8, r"its address, in cycle 14, ")]:
+            with self.subTest(name=name, description=description):
+                told = command("verdict", description, support.example(f"{name}.elf"), "--secret", WORD)
+                self.assertEqual((told.returncode, told.stderr), (status, ""))
+                self.assertRegex(told.stdout, rf"\nshown         (?:{shown or 'nothing '})" if shown is None else rf"\nshown         .*{shown}")
+
+    def test_budget(self):
+        told = command("verdict", CORE, support.example("bounds_check.elf"), "--secret", WORD, "--cycles", "12")
+        self.assertEqual(told.returncode, 9)
+        self.assertIn("\nverdict       certified in the first 12 cycles, of a run that goes on: ", told.stdout)
+
+    def test_refusals(self):
+        image = support.example("bounds_check.elf")
+        for word, note in [("0x10000:4", "secret 0 code"), ("0x1ffff:2", "secret 0 outside"), ("0xffff:1", "secret 0 outside")]:
+            told = command("verdict", CORE, image, "--secret", word)
+            self.assertEqual((told.returncode, told.stdout), (2, ""))
+            self.assertIn(f"status 2, {note}", told.stderr)
+
+    def test_rows_of_the_page(self):
+        """docs/secrets.md, "The ciphers of examples/crypto", has the rows of the compares by gcc as the command writes them."""
+        version = subprocess.run([GCC, "-dumpversion"], capture_output=True, text=True, check=False).stdout if shutil.which(GCC) else ""
+        if not version.startswith("12.2") or shutil.which("make") is None:
+            self.skipTest("no gcc 12.2 for RISC-V, or no make")
+        with tempfile.TemporaryDirectory() as folder:
+            told = command("certify", folder, "--build", support.example("crypto"), "--compilers", "gcc", "--only", "compare", "--secret", "secret",
+                           "--descriptions", support.example("large_passing.toml"), "--defences")
+        self.assertEqual((told.returncode, told.stderr), (1, ""))
+        rows = told.stdout.splitlines()[:-2]
+        self.assertEqual(len(rows), 2 + 4)
+        page = material.read("docs", "secrets.md").splitlines()
+        self.assertEqual([row for row in rows if row not in page], [])
+
+    @material.needs_program
+    def test_conservative(self):
+        """Each program of docs/secrets.md, "What stays conservative", is exposed, and some values of its secret have the trace of its own."""
+        if shutil.which(GCC) is None or shutil.which("make") is None:
+            self.skipTest("no gcc for RISC-V, or no make")
+        listed = re.findall(r"(?m)^\| `(\w+)` \| `.*\| (an address|where a branch goes|the time of a division) \|", material.read("docs", "secrets.md"))
+        names = {"an address": "address", "where a branch goes": "branch", "the time of a division": "time"}
+        with tempfile.TemporaryDirectory() as folder:
+            subprocess.run(["make", "-s", "-C", support.example("secrets"), f"BUILD={folder}/build"], check=True, capture_output=True)
+            images = sorted(glob.glob(f"{folder}/build/*.elf"))
+            told = command("certify", f"{folder}/table", "--programs", *images, "--secret", "secret", "--descriptions",
+                           support.example("large_passing.toml"))
+            found = re.findall(r"(?m)^\| `(\w+)` \| build \| secret, 1 byte \| \*\*(\w+)\*\*, ", told.stdout)
+            self.assertEqual(sorted(found), sorted((name, names[what]) for name, what in listed))
+            self.assertEqual(len(found), 8)
+            drawn = command("draw", f"{folder}/table", "--draws", "5").stdout.splitlines()
+            self.assertEqual([line for line in drawn if not line.endswith("unequal: what shows may be conservative")], [])
+            self.assertEqual(len(drawn), 8)
+
+    @material.needs_program
+    def test_two_images(self):
+        """Both load the secret, and the traces of these two are equal: proved for all where it is only added, and not where it decides a
+        branch, though that goes one way."""
+        for use, word in [(DOUBLES, "certified"), (BRANCHES, "exposed")]:
+            images = [material.image_file(f"uses_{word}_{secret}.elf", (LOADS, use, *EXITS), BOUND_0 + bytes([secret])) for secret in (1, 2)]
+            told = command("verdict", CORE, *images)
+            self.assertEqual((told.returncode, told.stderr), (report.STATUS[word], ""))
+            self.assertIn("premises      not met\n", told.stdout)
+            without = command("verdict", CORE, *images, "--secrets-program", "/nowhere")
+            self.assertEqual(without.returncode, report.STATUS["same"])
+            self.assertIn("one run       not asked about the bytes that differ: no program stt_secrets\n", without.stdout)
+
+
+if __name__ == "__main__":
+    unittest.main()

@@ -1,0 +1,106 @@
+"""The command: its statuses, and what it tells of wrong words."""
+import gzip
+import os
+import signal
+import subprocess
+import sys
+import unittest
+
+import support
+
+
+
+def view(*words, text=None):
+    return subprocess.run([sys.executable, support.TOOL, "view", *words], capture_output=True, text=True, input=text, timeout=60)
+
+
+class Command(unittest.TestCase):
+    @classmethod
+    def setUpClass(cls):
+        cls.text = "".join(support.worked_trace("Bounds check bypass"))
+        cls.trace = support.file_of("bounds.trace", cls.text.encode())
+        cls.other = support.file_of("other.trace", cls.text.replace("0001fff0", "0001ffe0").encode())
+        cls.files = ["-e", support.example("bounds_check.elf"), "-D", support.example("core.toml")]
+
+    def test_each_subcommand_writes(self):
+        for what in ("stats", "why", "list", "konata", "o3", "svg", "html"):
+            with self.subTest(what=what):
+                answer = view(what, self.trace, *self.files)
+                self.assertEqual((answer.returncode, answer.stderr), (0, ""))
+                self.assertGreater(len(answer.stdout), 400)
+
+    def test_diff_tells_by_its_status(self):
+        self.assertEqual(view("diff", self.trace, self.trace, *self.files).returncode, 0)
+        answer = view("diff", self.trace, self.other, *self.files)
+        self.assertEqual((answer.returncode, answer.stdout.split("\n")[0]), (1, "first unequal cycle: 3"))
+
+    def test_why_tells_by_its_status(self):
+        wrong = support.file_of("wrong.trace", self.text.replace(" alu:7", "").encode())
+        self.assertEqual(view("why", wrong, *self.files).returncode, 1)
+
+    def test_standard_input_and_a_file_to_write(self):
+        out = os.path.join(support.FOLDER.name, "out.txt")
+        answer = view("stats", "-", *self.files, "-o", out, text=self.text)
+        self.assertEqual((answer.returncode, answer.stdout), (0, ""))
+        with open(out, encoding="utf-8") as file:
+            self.assertIn("end exit 0 retired 5 cycles 21", file.read())
+
+    def test_what_is_wrong_is_told_in_one_line(self):
+        for words in (["stats", "/nowhere", *self.files], ["stats", self.trace, "-e", "/nowhere", *self.files[2:]],
+                      ["stats", self.trace, *self.files[:2], "-D", "/nowhere"], ["svg", *[self.trace] * 3, *self.files],
+                      ["stats", self.files[3], *self.files]):
+            answer = view(*words)
+            self.assertEqual((answer.returncode, answer.stdout, answer.stderr.count("\n")), (2, "", 1), words)
+
+    def test_an_image_or_description_too_many(self):
+        self.assertIn("-e is given 2 times", self.refused("list", self.trace, *self.files, *self.files[:2]))
+        self.assertIn("-D is given 2 times", self.refused("stack", *[self.trace] * 3, *self.files, *self.files[2:]))
+        self.assertEqual(view("stats", self.trace, self.other, *self.files, *self.files[2:]).returncode, 0)
+
+    def refused(self, *words, text=None):
+        """What is told of wrong input: one line, and the status of errors."""
+        answer = view(*words, text=text)
+        self.assertEqual((answer.returncode, answer.stdout, answer.stderr.count("\n")), (2, "", 1), (words, answer.stderr))
+        return answer.stderr
+
+    def test_what_is_no_trace(self):
+        packed = gzip.compress(self.text.encode())
+        for name, data, word in [("random", bytes(range(128, 256)), "byte 80"), ("byte", self.text.encode()[:90] + b"\xff\n", "byte ff"),
+                                 ("false.gz", self.text.encode(), "gzip"), ("damaged.gz", packed[:40] + bytes(60), "gzip"),
+                                 ("empty", b"", "empty"), ("empty.gz", gzip.compress(b""), "empty")]:
+            self.assertIn(word, self.refused("stats", support.file_of(name, data), *self.files))
+
+    def test_a_packed_trace_that_is_cut_is_read_up_to_there(self):
+        path = support.file_of("whole.gz", gzip.compress(self.text.encode()))
+        self.assertIn("end exit 0 retired 5 cycles 21", view("stats", path, *self.files).stdout)
+        for cut in (gzip.compress(self.text.encode())[:-12], gzip.compress(self.text.encode(), 0)[:500]):
+            self.assertIn("none: the trace is cut", view("stats", support.file_of("cut.gz", cut), *self.files).stdout)
+
+    def test_where_nothing_can_be_written(self):
+        for path in ("/nowhere/x.html", support.FOLDER.name, "/dev/full"):
+            self.assertIn(path, self.refused("html", self.trace, *self.files, "-o", path))
+
+    def test_cycles_that_are_none(self):
+        for what in ("why", "list", "konata", "o3", "svg", "html", "stats", "stack", "annotate"):
+            self.assertIn("behind the last cycle", self.refused(what, self.trace, *self.files, "--from", "22"))
+        self.assertIn("behind --to", self.refused("list", self.trace, *self.files, "--from", "9", "--to", "8"))
+        for first, status in (("21", 0), ("0", 2), ("x", 2)):
+            self.assertEqual(view("list", self.trace, *self.files, "--from", first).returncode, status)
+
+    def test_an_interrupt(self):
+        path = os.path.join(support.FOLDER.name, "fifo")
+        os.mkfifo(path)
+        ran = subprocess.Popen([sys.executable, support.TOOL, "view", "stats", path, *self.files], stdout=subprocess.PIPE, stderr=subprocess.PIPE, text=True)
+        with open(path, "w", encoding="ascii") as fifo:
+            fifo.write(self.text[:60])
+            fifo.flush()
+            ran.send_signal(signal.SIGINT)
+            out, err = ran.communicate(timeout=60)
+        self.assertEqual((ran.returncode, out, err), (130, "", "wadrelwy view: interrupted\n"))
+
+    def test_help(self):
+        for words in (["--help"], ["svg", "--help"]):
+            self.assertIn("usage: wadrelwy view", view(*words).stdout)
+
+    def test_no_progress_where_there_is_no_terminal(self):
+        self.assertEqual(view("stats", self.trace, *self.files).stderr, "")

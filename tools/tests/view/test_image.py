@@ -1,0 +1,93 @@
+"""Images: code as loaded, and symbols (docs/formats.md, "Placing" and "Code"); descriptions; texts of instructions."""
+import unittest
+
+import support
+from wadrelwy.view import Fault
+from wadrelwy.view.description import read_description
+from wadrelwy.view.disassembly import CALLERS, KINDS, MANUAL, Disassembler
+from wadrelwy.view.image import Image
+
+READ, WRITE, EXECUTE = 4, 2, 1
+
+
+def words(name, segments):
+    return Image(support.file_of(name, support.elf(segments))).words
+
+
+class Code(unittest.TestCase):
+    def test_words_of_an_example(self):
+        self.assertEqual(Image(support.example("bounds_check.elf")).words[0x10008], 0x00507A63)
+
+    def test_only_whole_words_of_the_file_are_code(self):
+        found = words("part.elf", [(READ | EXECUTE, 0x10002, bytes(range(1, 12)), 64)])
+        self.assertEqual(found, {0x10004: 0x06050403, 0x10008: 0x0A090807})
+
+    def test_a_segment_that_is_not_executable_is_no_code(self):
+        self.assertEqual(words("data.elf", [(READ | WRITE, 0x10000, bytes(8), 8)]), {})
+
+    def test_a_later_segment_lies_over_an_earlier_one_with_its_zero_bytes_too(self):
+        found = words("over.elf", [(READ | EXECUTE, 0x10000, b"\x11" * 12, 12), (READ | WRITE, 0x10004, b"\x22" * 2, 4)])
+        self.assertEqual(found, {0x10000: 0x11111111, 0x10004: 0x00002222, 0x10008: 0x11111111})
+
+    def test_outside_code_an_instruction_can_only_trap(self):
+        self.assertEqual(Image(support.example("bounds_check.elf")).instruction(0x20000).kind, "stop")
+
+    def test_symbols(self):
+        image = Image(support.example("bounds_check.elf"))
+        self.assertEqual(image.symbol(0x10000), "_start")
+        self.assertEqual(image.symbol(0x10018), "_start+0x18")
+        self.assertEqual(image.symbol(0x0FFFC), "")
+        self.assertEqual(image.symbol(0x18000), "")
+
+    def test_a_symbol_with_a_size_comes_before_one_without(self):
+        image = Image(support.example("bounds_check.elf"))
+        image.symbols, image.addresses = [(0x10000, 0x18, "table"), (0x10008, 0, "label")], [0x10000, 0x10008]
+        self.assertEqual([image.symbol(0x10000 + at) for at in (4, 0xC, 0x18)], ["table+0x4", "table+0xc", "label+0x10"])
+
+    def test_what_is_no_image_is_refused(self):
+        for name, data in (("empty.elf", b""), ("text.elf", b"no image at all" * 10)):
+            with self.assertRaises(Fault):
+                Image(support.file_of(name, data))
+        with self.assertRaises(Fault):
+            Image("/nowhere/a.elf")
+
+
+class Descriptions(unittest.TestCase):
+    def test_an_example(self):
+        found = read_description(support.example("core_futuristic.toml"))
+        self.assertEqual((found.rob, found.alus, found.miss_latency, found.model), (16, 2, 10, "futuristic"))
+
+    def test_what_is_none_is_refused(self):
+        for text in (b"[core", b"[core]\nrob = 4\n", b"core = 4\n", b"\xff"):
+            with self.assertRaises(Fault, msg=text):
+                read_description(support.file_of("wrong.toml", text))
+
+
+class Texts(unittest.TestCase):
+    def setUp(self):
+        self.image = Image(support.example("bounds_check.elf"))
+
+    def texts(self, notation):
+        found = Disassembler(self.image, notation)
+        if found.by == KINDS:
+            self.skipTest("no disassembler of RISC-V: neither a capstone that knows it nor binutils-riscv64-unknown-elf")
+        return found
+
+    def test_the_manuals_notation(self):
+        found = self.texts(MANUAL)
+        self.assertEqual(found.text(0x10000), "lw x5, 0(x2)")
+        if found.by == "objdump":
+            self.assertEqual(found.text(0x10008), "bgeu x0, x5, 0x1001c")
+        self.assertEqual(found.place(0x10018), "00010018 lw x7, -2048(x6) <_start+0x18>")
+
+    def test_the_compilers_notation(self):
+        self.assertEqual(self.texts(CALLERS).text(0x1000C), "lbu t1, 8(sp)")
+
+    def test_an_image_without_sections(self):
+        self.image = Image(support.image_of_words("plain", [0x00012283]))
+        self.assertEqual(self.texts(MANUAL).text(0x10000), "lw x5, 0(x2)")
+
+    def test_kinds_stand_where_there_is_no_disassembler(self):
+        found = Disassembler(self.image, KINDS)
+        self.assertEqual(found.text(0x10014), "arithmetic x6, x6, x2")
+        self.assertEqual(found.text(0x20000), "(no code)")

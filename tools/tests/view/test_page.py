@@ -1,0 +1,124 @@
+"""The page in a real browser, headless Chromium, at three widths: where panels stand, that they move together, what one goes to, pins."""
+import html
+import json
+import os
+import re
+import shutil
+import struct
+import subprocess
+import tempfile
+import unittest
+import zlib
+
+import support
+from test_pictures import panels
+from wadrelwy.view import page
+from wadrelwy.view.drawing import STATES
+
+CHROMIUM = shutil.which("chromium") or shutil.which("chromium-browser")
+NO_CHROMIUM = None if CHROMIUM else "no chromium"
+WIDTHS = 420, 900, 1600
+
+# a busy machine's browser may have no time to tell of a scroll, so it is told here
+MEASURE = """<script>addEventListener('load',()=>{const found={},charts=[...document.querySelectorAll('.chart')];
+const box=element=>{const one=element.getBoundingClientRect();return [one.left,one.top,one.right,one.bottom].map(Math.round)};
+found.wide=document.documentElement.scrollWidth;found.inner=innerWidth;
+found.panels=[...document.querySelectorAll('.panel')].map(box);
+found.cycles=charts.map(chart=>chart.clientWidth-chart.querySelector('.labels').getBoundingClientRect().width);
+found.cut=[...document.querySelectorAll('.legend li,h2,.panel p,form')].filter(one=>one.scrollWidth>one.clientWidth+1).length;
+charts[0].scrollLeft=30;charts[0].dispatchEvent(new Event('scroll'));setTimeout(()=>{found.moved=charts.map(chart=>chart.scrollLeft);
+setTimeout(()=>{go('16');found.column=charts.map(chart=>chart.querySelector('.column').getAttribute('visibility'));
+found.seen=charts.map(chart=>{const one=box(chart.querySelector('.column')),all=box(chart);return one[0]>=all[0]&&one[2]<=all[2]+1});
+go('#5');found.serial=[...document.querySelectorAll('.found')].map(row=>row.dataset.a);
+go('_start');found.name=[...document.querySelectorAll('.found')].map(row=>row.dataset.row);
+go('nowhere');found.told=document.getElementById('told').textContent;
+document.querySelectorAll('.label')[5].dispatchEvent(new MouseEvent('click',{bubbles:true}));found.pinned=document.getElementById('pins').textContent;
+document.querySelector('#pins pre').click();found.unpinned=document.getElementById('pins').textContent;
+parent.postMessage(JSON.stringify(found),'*')},200)},200)})</script>"""
+# a window of Chromium has at least 500 pixels, a frame may have fewer
+FRAME = """<body style="margin:0"><script>addEventListener('message',event=>{document.body.dataset.found=event.data})</script>
+<iframe src="measured.html" width="%d" height="800" style="border:0"></iframe></body>"""
+
+
+def browse(folder, path, width, option):
+    command = [CHROMIUM, "--headless=new", "--no-sandbox", "--disable-gpu", f"--user-data-dir={folder}/profile", f"--window-size={width},800",
+               "--hide-scrollbars", "--virtual-time-budget=3000", option, "file://" + path]
+    return subprocess.run(command, capture_output=True, text=True, timeout=120, cwd=folder).stdout
+
+
+def pixels(path):
+    """Width, height and the colours of a PNG of eight bits a channel."""
+    with open(path, "rb") as file:
+        data = file.read()
+    width, height, _, kind = struct.unpack(">IIBB", data[16:26])
+    depth, chunks, place = {2: 3, 6: 4}[kind], b"", 8
+    while place < len(data):
+        length, name = struct.unpack(">I4s", data[place:place + 8])
+        chunks += data[place + 8:place + 8 + length] if name == b"IDAT" else b""
+        place += 12 + length
+    raw, lines, above = zlib.decompress(chunks), [], bytes(width * depth)
+    for row in range(height):
+        start = row * (width * depth + 1)
+        above = unfiltered(raw[start], bytearray(raw[start + 1:start + 1 + width * depth]), above, depth)
+        lines.append([bytes(above[at:at + 3]) for at in range(0, width * depth, depth)])
+    return width, height, lines
+
+
+def unfiltered(kind, line, above, depth):
+    for at, value in enumerate(line):
+        left, up, corner = (line[at - depth] if at >= depth else 0), above[at], (above[at - depth] if at >= depth else 0)
+        guess = left + up - corner
+        nearest = min((left, up, corner), key=lambda one: abs(guess - one))
+        line[at] = value + (0, left, up, (left + up) // 2, nearest)[kind] & 255
+    return line
+
+
+@unittest.skipIf(NO_CHROMIUM, NO_CHROMIUM)
+class Browser(unittest.TestCase):
+    @classmethod
+    def setUpClass(cls):
+        cls.folder = tempfile.TemporaryDirectory()
+        text = page.page(panels())
+        for name, more in (("plain", ""), ("measured", MEASURE)):
+            with open(os.path.join(cls.folder.name, name + ".html"), "w", encoding="utf-8") as file:
+                file.write(text.replace("</body>", more + "</body>"))
+
+    @classmethod
+    def tearDownClass(cls):
+        cls.folder.cleanup()
+
+    def path(self, name):
+        return os.path.join(self.folder.name, name)
+
+    def measured(self, width):
+        with open(self.path("frame.html"), "w", encoding="utf-8") as file:
+            file.write(FRAME % width)
+        told = browse(self.folder.name, self.path("frame.html"), width, "--dump-dom")
+        return json.loads(html.unescape(re.search(r'data-found="([^"]*)"', told)[1]))
+
+    def test_at_three_widths(self):
+        for width in WIDTHS:
+            with self.subTest(width=width):
+                found = self.measured(width)
+                self.assertEqual((found["wide"], found["inner"], found["cut"]), (width, width, 0))
+                self.assertTrue(all(cycles >= 150 for cycles in found["cycles"]), found["cycles"])
+                one, two = found["panels"]
+                self.assertTrue(two[1] >= one[3] if width < 900 else two[1] == one[1] if width > 900 else True, found["panels"])
+                self.assertEqual(found["moved"], [30, 30] if width == 420 else [0, 0] if width == 1600 else [found["moved"][0]] * 2)
+                self.assertEqual((found["column"], found["seen"]), (["visible"] * 2, [True] * 2))
+                self.assertEqual((found["serial"], found["name"]), (["00010014"] * 2, ["0"] * 2))
+                self.assertIn("nowhere isn’t on this page (cycles 1 to 23)", found["told"])
+                self.assertTrue(found["pinned"].startswith("5 00010014 load x7, x6 <_start+0x14>"), found["pinned"])
+                self.assertEqual(found["unpinned"], "")
+
+    def test_what_is_seen(self):
+        """Of each width the colours of what the first rows do."""
+        for width in WIDTHS:
+            with self.subTest(width=width):
+                name = f"seen{width}.png"
+                browse(self.folder.name, self.path("plain.html"), width, f"--screenshot={self.path(name)}")
+                wide, _, lines = pixels(self.path(name))
+                self.assertEqual(wide, width)
+                for state in ("div", "miss", "taint"):
+                    colour = bytes.fromhex(STATES[state][1][1:])
+                    self.assertGreater(sum(line.count(colour) for line in lines), 300, state)
