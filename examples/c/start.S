@@ -24,3 +24,4 @@ _start:
     li   a7, 93                    # exit with main's value
     ecall
 #endif
+    .file "start.S"                # else the assembler's name for it, another each time, stands in the image

@@ -172,6 +172,22 @@ class Crypto(unittest.TestCase):
             self.assertNotEqual(ended.returncode, 0)
             self.assertEqual(ended.stdout, f"{image}: wrote '3e345911', and the vector is '3e345910'\n")
 
+    def test_nothing_stale(self):
+        """An image is that of its header, options and Makefile as they are now; made of the same twice it is the same, byte by byte."""
+        source, header = os.path.join(folder(), "stale.c"), os.path.join(folder(), "mine.h")
+        with open(source, "w", encoding="utf-8") as file:
+            file.write('#include "crypto.h"\n#include "mine.h"\nint main(void) { return VALUE + MORE; }\n')
+        for compiler, folders in self.each_compiler():
+            image, found = os.path.join(folders["O2"], "stale.elf"), []
+            for value, more in [(1, 1), (2, 1), (2, 2), (1, 1)]:
+                with open(header, "w", encoding="utf-8") as file:
+                    file.write(f"#define VALUE {value}\n")
+                ended = make("-s", image, f"VPATH={folder()}", f"EXTRA=-I{folder()} -I{FOLDER} -DMORE={more}")
+                self.assertEqual((ended.returncode, ended.stderr), (0, ""))
+                with open(image, "rb") as file:
+                    found.append(file.read())
+            self.assertEqual((len(set(found)), found[0] == found[3]), (3, True))
+
     def test_secrets(self):
         """The symbol, its bytes, and that they aren't code."""
         for name, _, _, secret in self.each_image():

@@ -12,7 +12,7 @@ from types import SimpleNamespace
 import material  # finds the modules below
 from wadrelwy import built_programs
 from material import BOUND_0, CORE, SECRET, command, gadget, support
-from wadrelwy.verdict import judge, premises, ranges, report, secrecy, simulator
+from wadrelwy.verdict import certifying, judge, premises, ranges, report, secrecy, simulator
 from wadrelwy.verdict.ranges import Range
 from wadrelwy.view import Fault
 from wadrelwy.view.description import read_description
@@ -286,6 +286,29 @@ class Table(unittest.TestCase):
         equal = self.stand_in("equal", "#!/bin/sh\nprintf 'premise no\\nequal\\nretired 5 cycles 21\\n'\n")
         told = command("draw", self.folder, "--draws", "3", "--only", " off", "--program", equal)
         self.assertEqual(told.stdout, "bounds_check examples off: exposed; none of 4 values unequal: what shows may be conservative\n")
+
+
+class Builds(unittest.TestCase):
+    """What `certify --build` asks of is built anew: also where only a header was edited, of which the Makefile doesn't know."""
+
+    MAKEFILE = """$(BUILD)/gcc-O2/%.elf: %.c
+\t@mkdir -p $(@D)
+\t@sed -e '/include/r mine.h' $< > $@
+"""
+
+    @unittest.skipIf([name for name in certifying.NEEDS["gcc"] if shutil.which(name) is None], "no make or gcc for RISC-V")
+    def test_headers(self):
+        with tempfile.TemporaryDirectory() as folder:
+            def write(name, text):
+                with open(os.path.join(folder, name), "w", encoding="utf-8") as file:
+                    file.write(text)
+            write("Makefile", self.MAKEFILE)
+            write("st.c", '#include "mine.h"\n')
+            for text in ("first", "second"):
+                write("mine.h", text)
+                [image] = certifying.built(folder, os.path.join(folder, "out"), ["gcc"], ["2"], "", 1)
+                with open(image, encoding="utf-8") as file:
+                    self.assertIn(text, file.read())
 
 
 @needs_secrets

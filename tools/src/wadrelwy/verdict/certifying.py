@@ -17,7 +17,8 @@ NEEDS = {"gcc": ("make", "riscv64-unknown-elf-gcc"), "clang": ("make", "clang", 
 
 
 def built(sources, folder, compilers, levels, only, jobs):
-    """The images that the Makefile of a folder builds, with lines of the source. A compiler that isn't there is left out, and told."""
+    """The images that the Makefile of a folder builds, with lines of the source, all of them anew: a Makefile needn't know of each header,
+    nor of its own options and the compiler. A compiler that isn't there is left out, and told."""
     names = [os.path.splitext(os.path.basename(path))[0] for path in sorted(glob.glob(os.path.join(sources, "*.c")))]
     names = [name for name in names if only in name]
     if not names:
@@ -25,7 +26,7 @@ def built(sources, folder, compilers, levels, only, jobs):
     there = [compiler for compiler in compilers if is_there(compiler)]
     images = [os.path.join(os.path.abspath(folder), f"{compiler}-O{level}", f"{name}.elf")
               for name in names for compiler in there for level in levels]
-    words = ["make", "-s", f"-j{jobs}", "-C", sources, f"BUILD={os.path.abspath(folder)}", "EXTRA=-g", *images]
+    words = ["make", "-B", "-s", f"-j{jobs}", "-C", sources, f"BUILD={os.path.abspath(folder)}", "EXTRA=-g", *images]
     made = subprocess.run(words, capture_output=True, text=True, check=False)
     if made.returncode:
         raise Fault(f"make: {made.stderr.strip()}")
