@@ -1,6 +1,7 @@
 """Sweeps: descriptions with other values, plans, runs that go on where they stopped, lists of commands, tables and plots. The simulator is a
 stand-in whose cycles follow from what is set, so that each number here is made by hand."""
 import csv
+import hashlib
 import json
 import os
 import re
@@ -12,11 +13,12 @@ import tempfile
 import time
 import unittest
 import xml.etree.ElementTree as ElementTree
+from types import SimpleNamespace
 
 TOOLS = os.path.dirname(os.path.dirname(os.path.dirname(os.path.abspath(__file__))))
 ROOT = os.path.dirname(TOOLS)
 from wadrelwy import built_programs
-from wadrelwy.sweep import plots, results, settings
+from wadrelwy.sweep import lists, plots, results, settings
 from wadrelwy.view import Fault
 
 PROGRAM = built_programs.simulator()
@@ -31,19 +33,24 @@ loads = 4
 model = "spectre"
 """
 # 1000 cycles without protection, 1100 under spectre, 1250 under futuristic, 100 more under hold; 8 fewer for each entry of the window; each
-# run leaves a mark
+# run leaves a mark. What is killed, or retires otherwise, a word of the environment says
 STAND_IN = """#!/bin/sh
+[ "$1" = isa ] && { grep -q trap $2 && echo "end trap 5 00010010 retired 3" && exit 1; echo "end exit 0 retired ${ISA:-500}"; exit 0; }
 [ "$1 $4" = "run --cycles" ] || exit 2
 if grep -q '^bad' $2; then echo "description K2 core.bad" >&2; exit 4; fi
+[ "$5" = 1 ] && echo "end budget retired 1 cycles 1" && exit 3
 [ -n "$SLOW" ] && sleep $SLOW
 echo x >> RAN
+grep -q trap $3 && echo "end trap 5 00010010 retired 3 cycles 9" && exit 1
+[ "$5" = 700 ] && echo "end budget retired 300 cycles 700" && exit 3
+[ -n "$KILL" ] && grep -q "$KILL" $3 && kill -9 $$
 cycles=1000
 grep -q '^model = "spectre"' $2 && cycles=1100
 grep -q '^model = "futuristic"' $2 && cycles=1250
 grep -q '^defence = "hold"' $2 && ! grep -q '^model = "off"' $2 && cycles=$((cycles + 100))
 rob=$(sed -n 's/^rob = \\([0-9]*\\).*/\\1/p' $2)
 echo "out 00"
-echo "end exit 0 retired 500 cycles $((cycles - 8 * rob))"
+echo "end exit 0 retired ${RETIRED:-500} cycles $((cycles - 8 * rob))"
 """
 
 
@@ -66,6 +73,10 @@ class Folder(unittest.TestCase):
         with open(path, "w", encoding="utf-8") as file:
             file.write(text)
         return path
+
+    def read(self, name):
+        with open(os.path.join(self.folder, name), encoding="utf-8") as file:
+            return file.read()
 
     def runs(self):
         with open(self.ran, encoding="utf-8") as file:
@@ -134,7 +145,7 @@ class Sweeps(Folder):
         for name in files[:5]:
             os.remove(os.path.join(self.out, "results", name))
         told = self.sweep(self.out, "--gather")
-        self.assertEqual((told.returncode, told.stdout.splitlines()[0][-13:]), (3, "5 are missing"))
+        self.assertEqual((told.returncode, told.stdout.splitlines()[0][-13:], told.stderr.count("missing: ")), (3, "5 are missing", 5))
         self.assertEqual(self.sweep(self.out, "--program", self.program).returncode, 0)
         self.assertEqual(self.runs(), 17)
         self.write("one.elf", "another program")  # whose results are others
@@ -164,10 +175,180 @@ class Sweeps(Folder):
         self.assertEqual((gathered.returncode, self.runs(), len(self.rows())), (0, 4, 4))
         again = self.sweep(*self.words("--set", "core.rob=10,20,30", "--list"))
         self.assertIn("2 commands", again.stdout)
-        array = os.path.join(self.out, "array.sh")
-        for task in (1, 2):
-            subprocess.run(["sh", array], check=True, env=os.environ | {"SLURM_ARRAY_TASK_ID": str(task)})
+        for task in ("1", "2"):
+            self.assertEqual(self.task(task), 0)
         self.assertEqual((self.sweep(self.out, "--gather").returncode, len(self.rows())), (0, 6))
+        self.assertEqual(self.runs(), 6)
+
+    def task(self, number, **more):
+        """A task of the job array, as Slurm would run it."""
+        return subprocess.run(["sh", os.path.join(self.out, "array.sh")], check=False, env=os.environ | {"SLURM_ARRAY_TASK_ID": number} | more,
+                              stderr=subprocess.DEVNULL).returncode
+
+    def test_killed(self):
+        """A line keeps the status of its run, what was killed leaves no result, and the table is made of the rest."""
+        self.assertEqual(self.sweep(*self.words("--set", "stt.model=off,spectre", "--list")).returncode, 0)
+        lines = self.read("out/commands").splitlines()
+        killed = [subprocess.run(["sh", "-c", line], check=False, env=os.environ | {"KILL": "two"}, stderr=subprocess.DEVNULL).returncode
+                  for line in lines]
+        self.assertEqual(sorted(killed), [0, 0, 137, 137])
+        told = self.sweep(self.out, "--gather")
+        self.assertEqual((told.returncode, len(self.rows())), (3, 2))
+        self.assertIn("2 are missing", told.stdout)
+        self.assertEqual(sorted(re.findall(r"missing: (.*): no result", told.stderr)), ["two core stt.model=off", "two core stt.model=spectre"])
+        self.assertEqual([subprocess.run(["sh", "-c", line], check=False).returncode for line in lines], [0] * 4)
+        self.assertEqual((self.sweep(self.out, "--gather").returncode, self.runs()), (0, 6))
+
+    def test_statuses_of_lines(self):
+        self.write("two.elf", "trap")
+        self.assertEqual(self.sweep(*self.words("--list")).returncode, 0)
+        for _ in range(2):
+            self.assertEqual([subprocess.run(["sh", "-c", line], check=False).returncode for line in self.read("out/commands").splitlines()], [0, 1])
+        self.assertEqual(self.runs(), 2)
+        self.assertEqual(self.sweep(*self.words("--cycles", "700", "--list")).returncode, 0)
+        self.assertEqual([subprocess.run(["sh", "-c", line], check=False).returncode for line in self.read("out/commands").splitlines()], [3, 1])
+
+    def test_tasks(self):
+        """Lines are dealt by cost; a task that was killed goes on, though the last line of its file was cut."""
+        self.assertEqual(self.sweep(*self.words("--set", "core.rob=10,20,30", "--list", "--tasks", "2", "--minutes", "7", "--memory", "99")).returncode, 0)
+        array = self.read("out/array.sh")
+        for line in ("--array=1-2", "--time=7", "--mem=99M", f"--output={self.out}/said/%a"):
+            self.assertIn(line, array)
+        self.assertEqual([len(self.read(f"out/tasks/{task}").splitlines()) for task in (1, 2)], [3, 3])
+        self.assertEqual(self.task("1", KILL="."), 137)
+        self.assertEqual(self.task("2"), 0)
+        self.assertEqual(sorted(os.listdir(os.path.join(self.out, "results"))), ["task_2"])
+        text = self.read("out/results/task_2")
+        self.write("out/results/task_2", text[:-20])
+        self.assertEqual((self.sweep(self.out, "--gather").returncode, len(self.rows())), (3, 2))
+        self.assertEqual((self.task("1"), self.task("2")), (0, 0))
+        self.assertEqual((self.sweep(self.out, "--gather").returncode, len(self.rows()), self.runs()), (0, 6, 3 + 3 + 3 + 1))
+
+    def test_costs(self):
+        parts = lists.dealt([SimpleNamespace(cost=cost) for cost in (8, 1, 1, 5, 4, 1)], 2)
+        self.assertEqual(sorted(sum(run.cost for run in part) for part in parts), [10, 10])
+
+    def test_make(self):
+        if shutil.which("make") is None:
+            self.skipTest("no make")
+        self.write("two.elf", "trap")
+        self.assertEqual(self.sweep(*self.words("--set", "core.rob=10,20", "--list")).returncode, 0)
+        words = ["make", "-s", "-k", "-j2", "-f", os.path.join(self.out, "rules.mk")]
+        killed = subprocess.run(words, check=False, env=os.environ | {"KILL": "one"}, capture_output=True)
+        self.assertEqual((killed.returncode, self.runs(), len(os.listdir(os.path.join(self.out, "results")))), (2, 4, 2))
+        self.assertEqual(subprocess.run(words, check=False, capture_output=True).returncode, 0)
+        self.assertEqual((self.sweep(self.out, "--gather").returncode, len(self.rows()), self.runs()), (12, 4, 6))
+
+    def test_pack(self):
+        """The archive is all that another machine needs; its results come back by --from."""
+        self.assertEqual(self.sweep(*self.words("--set", "core.rob=10,20", "--list", "--pack")).returncode, 0)
+        for host, lines in [("host1", slice(0, 2)), ("host2", slice(2, 4))]:
+            there = os.path.join(self.folder, host)
+            os.mkdir(there)
+            subprocess.run(["tar", "xf", f"{self.out}.tar.gz", "-C", there], check=True)
+            for line in self.read(f"{host}/out/commands").splitlines()[lines]:
+                subprocess.run(["sh", "-c", line], check=True, cwd=there)
+        others = [os.path.join(self.folder, host, "out") for host in ("host1", "host2")]
+        told = self.sweep(self.out, "--gather", "--from", *others)
+        self.assertEqual((told.returncode, len(self.rows())), (0, 4))
+        self.assertIn("4 results came from", told.stdout)
+        self.assertEqual(self.sweep(self.out, "--gather").returncode, 0)
+
+    def test_nothing_mixed(self):
+        """A folder goes on with what it was planned of, or not at all: another image, description or simulator is refused, and so is a copy
+        that isn't what its name says."""
+        words = self.words("--set", "stt.model=off,spectre")
+        self.assertEqual(self.sweep(*words).returncode, 0)
+        for name in ("one.elf", "core.toml", "stand_in"):
+            with self.subTest(name=name):
+                path, kept = os.path.join(self.folder, name), self.read(name)
+                results = os.path.join(self.out, "results")
+                os.remove(os.path.join(results, min(os.listdir(results))))
+                with open(path, "a", encoding="utf-8") as file:
+                    file.write("# another\n")
+                for more in ([], ["--gather"]):
+                    told = self.sweep(self.out, *more)
+                    self.assertEqual((told.returncode, told.stdout), (2, ""))
+                    self.assertIn(f"{path} isn't what it was", told.stderr)
+                ran = self.runs()
+                self.assertEqual((self.sweep(self.out, "--copies").returncode, self.runs()), (0, ran + 1))
+                self.write(name, kept)
+        other = self.write("other", self.read("stand_in") + "# another")
+        os.chmod(other, 0o755)
+        told = self.sweep(self.out, "--program", other)
+        self.assertEqual(told.returncode, 2)
+        self.assertIn("isn't the program by which", told.stderr)
+
+    def test_copies_that_were_changed(self):
+        self.assertEqual(self.sweep(*self.words("--list")).returncode, 0)
+        for kind in ("images", "descriptions", "programs"):
+            with self.subTest(kind=kind):
+                name = os.path.join("out", kind, min(os.listdir(os.path.join(self.out, kind))))
+                kept = self.read(name)
+                with open(os.path.join(self.folder, name), "a", encoding="utf-8") as file:
+                    file.write("# another\n")
+                for more in ([], ["--gather"]):
+                    told = self.sweep(self.out, *more)
+                    self.assertEqual((told.returncode, told.stdout), (2, ""))
+                    self.assertIn(f"{name} isn't what was asked of", told.stderr)
+                with open(os.path.join(self.out, "commands"), encoding="utf-8") as file:
+                    told = subprocess.run(["sh", "-c", file.readline()], capture_output=True, text=True, check=False)
+                self.assertEqual(told.returncode, 2)
+                self.assertIn("isn't what was planned", told.stderr)
+                self.write(name, kept)
+        self.assertEqual(self.runs(), 0)
+
+    def test_one_program_has_one_number(self):
+        """Runs of one image that retire unlike numbers can't be of it, and neither can those that the instruction set ends otherwise."""
+        words = self.words("--set", "stt.model=off,spectre")
+        self.assertEqual(self.sweep(*words).returncode, 0)
+        results = os.path.join(self.out, "results")
+        os.remove(os.path.join(results, min(os.listdir(results))))
+        told = self.sweep(self.out, env=os.environ | {"RETIRED": "501"})
+        self.assertEqual((told.returncode, told.stdout), (16, ""))
+        self.assertIn("exit 0 retired 501, and the instruction set: exit 0 retired 500. One program has one end", told.stderr)
+        told = self.sweep(*self.words("--set", "stt.model=off,futuristic"), env=os.environ | {"ISA": "499"})
+        self.assertEqual(told.returncode, 16)
+
+    def test_a_refused_description(self):
+        """It is a row, found before the first run, and the others are run."""
+        told = self.sweep(*self.words("--set", "core.bad=1,2", "--list"))
+        self.assertEqual((told.returncode, self.runs()), (2, 0), "nothing is left to run")
+        described = self.write("worse.toml", DESCRIPTION.replace("rob", "bad"))
+        told = self.sweep(self.out, "--programs", *self.images, "--descriptions", described, self.description, "--program", self.program)
+        self.assertEqual((told.returncode, self.runs()), (3, 2))
+        self.assertIn("worse: refused K2", told.stderr)
+        self.assertIn("2 of 4 runs are refused, and have no slowdown: one worse (refused K2)", told.stdout)
+        self.assertEqual([(row["description"], row["end"], row["cycles"]) for row in self.rows()], [
+            ("worse", "refused K2", ""), ("worse", "refused K2", ""), ("core", "exit 0", "844"), ("core", "exit 0", "844")])
+
+    def test_ends(self):
+        """A run that ended by a trap or its budget has no slowdown, and is told as such."""
+        self.write("two.elf", "trap")
+        told = self.sweep(*self.words("--set", "core.rob=25", "--defences"))
+        self.assertEqual(told.returncode, 12)
+        self.assertIn("5 of 10 runs end by a trap, and have no slowdown: two core core.rob=25", told.stdout)
+        self.assertIn("+12.5 % under spectre (n 1, ", told.stdout)
+        self.assertEqual({row["slowdown"] for row in self.rows() if row["program"] == "two"}, {""})
+        told = self.sweep(*self.words("--set", "core.rob=25", "--defences", "--cycles", "700"))
+        self.assertEqual(told.returncode, 3)
+        self.assertIn("5 of 10 runs were ended by the budget", told.stdout)
+        self.assertNotIn("mean slowdown", told.stdout)
+        self.assertEqual({row["slowdown"] for row in self.rows()}, {""})
+
+    def test_spread(self):
+        row = results.Row("p", "d", {}, "spectre", "exit 0", 10, 90, 0.1)
+        rows = [row._replace(program=str(at), slowdown=at / 10) for at in range(4)]
+        [line] = plots.summary(rows)
+        self.assertRegex(line, r"^d: mean slowdown \+14\.\d % under spectre \(n 4, median \+15\.0 %, 0\.0 % to \+30\.0 %\)$")
+        rows = [row._replace(values={"core.rob": size, "cache.sets": sets}) for size in (8, 16) for sets in (2, 4)]
+        self.assertIn("the mean of n = 2 runs that exited, over 1 programs and cache.sets 2, 4", plots.curves(rows, "core.rob"))
+
+    def test_cited(self):
+        self.assertEqual(self.sweep(*self.words()).returncode, 0)
+        sum_of = hashlib.sha256(self.read("stand_in").encode()).hexdigest()
+        self.assertEqual({row["made_by"].split(", ")[0] for row in self.rows()}, {f"stand_in sha256 {sum_of}"})
+        self.assertRegex(json.loads(self.read("out/plan.json"))["cited"], rf"^stand_in sha256 {sum_of}, kit \S.*, commit \S+")
 
     def test_refusals(self):
         self.write("cut", "")
@@ -197,8 +378,9 @@ class Sweeps(Folder):
         name = os.listdir(os.path.join(self.out, "results"))[0]
         self.write(os.path.join("out", "results", name), "nonsense\n")
         told = self.sweep(self.out, "--gather")
-        self.assertEqual(told.returncode, 2)
-        self.assertIn(name, told.stderr)
+        self.assertEqual((told.returncode, len(self.rows())), (3, 1))
+        self.assertRegex(told.stderr, rf"wadrelwy sweep: missing: \w+ core: its result is none: .*{name}")
+        self.assertEqual((self.sweep(self.out).returncode, len(self.rows()), self.runs()), (0, 2, 3))
 
 
 class Plots(Folder):
@@ -212,7 +394,7 @@ class Plots(Folder):
         bars = [tip for tip in tips if "," in tip]
         self.assertEqual(len(bars), 2 * 3 * 4)  # two sizes, two programs and the mean, four defences
         self.assertIn("one, spectre: +12.5 %", bars)
-        self.assertIn("mean, futuristic: +41.7 %", bars)
+        self.assertIn("mean, futuristic: +41.7 % (n 2, median +41.7 %, +41.7 % to +41.7 %)", bars)
         tips = [tip.text for tip in self.drawn("curve-core.rob.svg").iter("{http://www.w3.org/2000/svg}title") if "core.rob" in tip.text]
         self.assertEqual(len(tips), 2 * (5 + 4))
         self.assertIn("off, core.rob 50: 0.83", tips)

@@ -26,8 +26,16 @@ SHOWN = "shown 15 access 6 00010018\n"
 WORD = f"0x{SECRET:08x}:1"
 # lbu x6, 8(x2), which loads the secret; what follows uses it, and the run ends by an exit
 LOADS, EXITS = 0x00814303, (0x05d00893, 0x00000073)
+# sb x0, 8(x2), and then the load
+STORES = (0x00010423, LOADS, *EXITS)
 DOUBLES, BRANCHES = 0x006303b3, 0x00037463
 TEXT = "".join(support.worked_trace("Bounds check bypass")).splitlines(keepends=True)
+
+
+def loading(*numbers):
+    """An image that loads the secret, or does something else, and ends by an exit."""
+    numbers = numbers or (LOADS, DOUBLES, *EXITS)
+    return material.image_file(f"loading_{len(numbers)}_{numbers[0]:x}.elf", numbers, BOUND_0 + b"\x11")
 
 
 def program(said, status=0, name="stand_in", head=""):
@@ -93,27 +101,45 @@ class OneImage(unittest.TestCase):
 
     def told(self, said, status, *words, description=CORE):
         self.program = program(said.replace("\n", "\\n"), status)
-        image = support.example("bounds_check.elf")
-        return command("verdict", description, image, "--secret", WORD, *words, "--secrets-program", self.program)
+        self.image = loading()
+        return command("verdict", description, self.image, "--secret", WORD, *words, "--secrets-program", self.program)
 
     def test_certified(self):
         told = self.told(HIDDEN, 0, "--cycles", "500")
-        self.assertEqual((told.returncode, told.stderr), (7, ""))
+        self.assertEqual((told.returncode, told.stderr), (0, ""))
         self.assertRegex(told.stdout, r"(?m)^secret        1 byte, 0001fff8\b.*$")
+        self.assertIn("\npath          loads 1 of these 1 bytes\n", told.stdout)
         self.assertRegex(told.stdout, r"(?m)^run           end exit 0 retired 5 cycles 21\nshown         nothing ")
         self.assertRegex(told.stdout, r"\nverdict       certified: for every value of these bytes ")
-        self.assertEqual(asked_of(self.program), [f"{CORE} {support.example('bounds_check.elf')} --secret {WORD} --cycles 500"])
+        self.assertEqual(asked_of(self.program), [f"{CORE} {self.image} --secret {WORD} --cycles 500"])
 
     def test_cut(self):
         """A run that the budget ended has a status of its own, and the verdict says how far it was looked at."""
         told = self.told(CUT, 3)
-        self.assertEqual((told.returncode, told.stderr), (9, ""))
+        self.assertEqual((told.returncode, told.stderr), (3, ""))
         self.assertIn("\nverdict       certified in the first 12 cycles, of a run that goes on: ", told.stdout)
+
+    def test_other_ends(self):
+        """A run that didn't exit with 0, or whose path doesn't load the secret as it was, is never told as `certified` alone."""
+        for end, word, status in [("exit 1", "certified, exit 1", 11), ("trap 5 00010004", "certified, to a trap in cycle 21", 12)]:
+            told = self.told(f"hidden\nend {end} retired 5 cycles 21\n", 0)
+            self.assertEqual((told.returncode, told.stderr), (status, ""))
+            self.assertIn(f"\nverdict       {word}: for every value ", told.stdout)
+        for numbers, said, word, status, line in [
+                (STORES, HIDDEN, "vacuous", 13, "loads 0 of these 1 bytes; 1 is written over before"),
+                (EXITS, HIDDEN, "vacuous", 13, "loads 0 of these 1 bytes"),
+                (EXITS, CUT, "vacuous in the first 12 cycles, of a run that goes on", 3, "loads 0 of these 1 bytes"),
+                ((LOADS, *STORES), HIDDEN, "certified", 0, "loads 1 of these 1 bytes")]:
+            self.program = program(said.replace("\n", "\\n"), 0)
+            told = command("verdict", CORE, loading(*numbers), "--secret", WORD, "--secrets-program", self.program)
+            self.assertEqual((told.returncode, told.stderr), (status, ""))
+            self.assertIn(f"\nverdict       {word}: ", told.stdout)
+            self.assertIn(f"\npath          {line}\n", told.stdout)
 
     def test_exposed(self):
         told = self.told(SHOWN, 1)
-        self.assertEqual((told.returncode, told.stderr), (8, ""))
-        self.assertRegex(told.stdout, r"\nshown         00010018 (lw|load) .* <_start\+0x18>: its address, in cycle 15, entry 6\n")
+        self.assertEqual((told.returncode, told.stderr), (1, ""))
+        self.assertRegex(told.stdout, r"\nshown         00010018\b.*: its address, in cycle 15, entry 6\n")
         self.assertIn("\nverdict       exposed: ", told.stdout)
 
     def test_numbers(self):
@@ -190,7 +216,7 @@ class TwoImages(unittest.TestCase):
 
 # what answers for a description's model, and leaves a mark for each run
 TABLE = """#!/bin/sh
-echo "$2 $4" >> RAN
+[ "$6" = 1 ] || echo "$2 $4" >> RAN
 grep -q '^model = "off"' $1 && echo "shown 15 access 6 00010018" && exit 1
 grep -q '^rob = 24' $1 && printf 'hidden\\nend budget retired 3 cycles 12\\n' && exit 3
 printf 'hidden\\nend exit 0 retired 5 cycles 21\\n'
@@ -212,7 +238,7 @@ class Table(unittest.TestCase):
         self.program = self.stand_in("table_stand_in", TABLE.replace("RAN", self.ran))
 
     def stand_in(self, name, text):
-        path = support.file_of(name, text.encode())
+        path = support.file_of(name, text if isinstance(text, bytes) else text.encode())
         os.chmod(path, 0o755)
         return path
 
@@ -220,7 +246,10 @@ class Table(unittest.TestCase):
         return command("certify", self.folder, *words, "--secrets-program", self.program)
 
     def words(self, *more):
-        return "--programs", support.example("bounds_check.elf"), "--secret", WORD, "--descriptions", CORE, *more
+        return "--programs", loading(), "--secret", WORD, "--descriptions", CORE, *more
+
+    BUILD = os.path.basename(os.path.dirname(loading()))
+    NAME = os.path.splitext(os.path.basename(loading()))[0]
 
     def runs(self):
         with open(self.ran, encoding="utf-8") as file:
@@ -229,11 +258,14 @@ class Table(unittest.TestCase):
     def test_table(self):
         told = self.certify(*self.words("--set", "stt.model=off,spectre"))
         self.assertEqual((told.returncode, told.stderr), (1, ""))
-        self.assertEqual(told.stdout.splitlines(), [
+        lines = told.stdout.splitlines()
+        self.assertEqual(lines[:4] + lines[5:], [
             "| Program | Build | Secret | `off` | `spectre` |", "|---|---|---|---|---|",
-            "| `bounds_check` | examples | __DATA_BEGIN__+0x8, 1 byte | **address**, `_start+0x18`, cycle 15 | certified |", "",
+            f"| `{self.NAME}` | {self.BUILD} | 0001fff8, 1 byte | **address**, `00010018`, cycle 15 | certified |", "", "",
             "1 certified, 1 exposed"])
-        self.assertEqual(self.runs(), [f"{os.path.abspath(support.example('bounds_check.elf'))} {WORD}"] * 2)
+        self.assertRegex(lines[4], r"^By table_stand_in sha256 [0-9a-f]{64}, kit .*, commit \w+.*\.$")
+        self.assertEqual(len(set(self.runs())), 1)
+        self.assertRegex(self.runs()[0], rf"^{self.folder}/images/{self.NAME}_[0-9a-f]{{16}}\.elf {WORD}$")
         with open(os.path.join(self.folder, "table.csv"), encoding="utf-8") as file:
             rows = list(csv.DictReader(file))
         self.assertEqual([(row["stt.model"], row["verdict"], row["cycles"], row["what"], row["address"]) for row in rows],
@@ -253,6 +285,54 @@ class Table(unittest.TestCase):
         told = self.certify(*self.words("--set", "core.rob=24"))
         self.assertEqual((told.returncode, told.stdout.splitlines()[-1]), (3, "0 certified, 0 exposed, 1 certified in their first cycles alone"))
         self.assertIn("| certified in the first 12 cycles |", told.stdout)
+        for numbers, said, status, cell, counted in [
+                ((), "exit 1", 11, "certified, exit 1", "1 certified with another exit value than 0"),
+                ((), "trap 5 00010004", 12, "certified, to a trap in cycle 21", "1 to a trap"),
+                (STORES, "exit 0", 13, "vacuous; 1 of 1 bytes written over", "1 vacuous"), (EXITS, "exit 0", 13, "vacuous", "1 vacuous")]:
+            with self.subTest(cell=cell):
+                self.program = self.stand_in("ends", f"#!/bin/sh\nprintf 'hidden\\nend {said} retired 5 cycles 21\\n'\n")
+                told = self.certify("--programs", loading(*numbers), "--secret", WORD, "--descriptions", CORE)
+                self.assertEqual((told.returncode, told.stdout.splitlines()[-1]), (status, f"0 certified, 0 exposed, {counted}"))
+                self.assertIn(f"| {cell} |", told.stdout)
+
+    def test_nothing_stale(self):
+        """A table is of the files that were asked of, or there is none: image, description, program and the folder's own copies."""
+        image, description = self.stand_in("stale.elf", self.bytes(loading())), self.stand_in("stale.toml", material.read("examples", "core.toml"))
+        words = "--programs", image, "--secret", WORD, "--descriptions", description
+        self.assertEqual(self.certify(*words).returncode, 0)
+        for path in (image, description, self.program):
+            with self.subTest(path=path):
+                kept = self.bytes(path)
+                with open(path, "ab") as file:
+                    file.write(b"#")
+                told = self.certify()
+                self.assertEqual((told.returncode, told.stdout), (2, ""))
+                self.assertIn(f"{path} isn't what it was", told.stderr)
+                self.assertEqual(self.certify("--copies").returncode, 0)
+                self.stand_in(os.path.basename(path), kept)
+        [copy] = glob.glob(f"{self.folder}/images/*.elf")
+        with open(copy, "ab") as file:
+            file.write(b"#")
+        for more in ((), ("--copies",)):
+            told = self.certify(*more)
+            self.assertEqual((told.returncode, told.stdout), (2, ""))
+            self.assertIn("isn't what was asked of", told.stderr)
+
+    def bytes(self, path):
+        with open(path, "rb") as file:
+            return file.read()
+
+    def test_a_secret_that_no_image_has(self):
+        told = self.certify("--programs", support.example("bounds_check.elf"), "--secret", WORD, "nowhere", "--descriptions", CORE)
+        self.assertEqual((told.returncode, told.stdout), (2, ""))
+        self.assertIn("no symbol `nowhere`", told.stderr)
+
+    def test_a_refused_description(self):
+        self.program = self.stand_in("refuses", "#!/bin/sh\ngrep -q '^rob = 24' $1 && echo 'description K6 core.rob' >&2 && exit 4\n"
+                                                "printf 'hidden\\nend exit 0 retired 5 cycles 21\\n'\n")
+        told = self.certify(*self.words("--set", "core.rob=16,24"))
+        self.assertEqual((told.returncode, told.stdout.splitlines()[-1]), (3, "1 certified, 0 exposed, 1 refused"))
+        self.assertIn("| certified | refused K6 |", told.stdout)
 
     def test_refusals(self):
         for words, note in [((), "no plan"), (("--programs", "a.elf"), "a table has programs, secrets and descriptions"),
@@ -268,8 +348,8 @@ class Table(unittest.TestCase):
         told = command("draw", self.folder, "--draws", "3", "--program", self.stand_in("pairs", PAIRS))
         self.assertEqual((told.returncode, told.stderr), (0, ""))
         off, spectre = told.stdout.splitlines()
-        self.assertRegex(off, r"^bounds_check examples off: exposed; unequal in cycle 15, with the secrets [0-9a-f]{2} and [0-9a-f]{2}, pair 1 of those tried$")
-        self.assertEqual(spectre, "bounds_check examples spectre: certified; none of 3 values unequal")
+        self.assertRegex(off, rf"^{self.NAME} {self.BUILD} off: exposed; unequal in cycle 15, with the secrets [0-9a-f]{{2}} and [0-9a-f]{{2}}, pair 1 of those tried$")
+        self.assertEqual(spectre, f"{self.NAME} {self.BUILD} spectre: certified; none of 3 values unequal")
         asked = os.path.join(self.folder, "asked")
         logged = PAIRS.replace("\n", f'\nod -An -tx1 $3 $4 | md5sum >> {asked}\n', 1)
         for draws, pairs in [(1, 1), (2, 2), (3, 2), (4, 3)]:
@@ -285,7 +365,7 @@ class Table(unittest.TestCase):
         self.certify(*self.words("--set", "stt.model=off,spectre"))
         equal = self.stand_in("equal", "#!/bin/sh\nprintf 'premise no\\nequal\\nretired 5 cycles 21\\n'\n")
         told = command("draw", self.folder, "--draws", "3", "--only", " off", "--program", equal)
-        self.assertEqual(told.stdout, "bounds_check examples off: exposed; none of 4 values unequal: what shows may be conservative\n")
+        self.assertEqual(told.stdout, f"{self.NAME} {self.BUILD} off: exposed; none of 4 values unequal: what shows may be conservative\n")
 
 
 class Builds(unittest.TestCase):
@@ -319,8 +399,8 @@ class Program(unittest.TestCase):
         """The address behind a bounds check shows in cycle 15 without protection, and under a model that protects it doesn't; a store's
         tainted address on a wrong path shows in cycle 14, although it is hidden."""
         for name, description, status, shown in [
-                ("bounds_check", CORE, 7, None), ("bounds_check", UNPROTECTED, 8, r"00010018 .*: its address, in cycle 15, "),
-                ("tainted_store", CORE, 8, r"its address, in cycle 14, ")]:
+                ("bounds_check", CORE, 13, None), ("bounds_check", UNPROTECTED, 1, r"00010018 .*: its address, in cycle 15, "),
+                ("tainted_store", CORE, 1, r"its address, in cycle 14, ")]:
             with self.subTest(name=name, description=description):
                 told = command("verdict", description, support.example(f"{name}.elf"), "--secret", WORD)
                 self.assertEqual((told.returncode, told.stderr), (status, ""))
@@ -328,8 +408,8 @@ class Program(unittest.TestCase):
 
     def test_budget(self):
         told = command("verdict", CORE, support.example("bounds_check.elf"), "--secret", WORD, "--cycles", "12")
-        self.assertEqual(told.returncode, 9)
-        self.assertIn("\nverdict       certified in the first 12 cycles, of a run that goes on: ", told.stdout)
+        self.assertEqual(told.returncode, 3)
+        self.assertIn("\nverdict       vacuous in the first 12 cycles, of a run that goes on: ", told.stdout)
 
     def test_refusals(self):
         image = support.example("bounds_check.elf")
@@ -347,7 +427,7 @@ class Program(unittest.TestCase):
             told = command("certify", folder, "--build", support.example("crypto"), "--compilers", "gcc", "--only", "compare", "--secret", "secret",
                            "--descriptions", support.example("large_passing.toml"), "--defences")
         self.assertEqual((told.returncode, told.stderr), (1, ""))
-        rows = told.stdout.splitlines()[:-2]
+        rows = told.stdout.splitlines()[:-4]
         self.assertEqual(len(rows), 2 + 4)
         page = material.read("docs", "secrets.md").splitlines()
         self.assertEqual([row for row in rows if row not in page], [])

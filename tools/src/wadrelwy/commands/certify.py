@@ -11,19 +11,24 @@ wadrelwy verdict; of several each image takes those whose symbols it has, and it
 builds each NAME.c of it, as that of examples/crypto does, into FOLDER/build/COMPILER-OLEVEL; a compiler that isn't there is left out, with a
 word on standard error. NAME is a part of a program's name.
 
-A cell of the table says `certified` where nothing shows and the run ended: proved for every value of the secret. `certified in the first N
-cycles` says that the budget ended it. Else it has what shows first: an address, a time, where a branch or jump goes, or what a call is asked
-for; the source's line, or function and offset; and the cycle. The table is written to standard output and to FOLDER/table.md; FOLDER/table.csv
-has a row for each run. Where it was stopped, the command that began it, or `wadrelwy certify FOLDER` alone, goes on: only what is missing
-is asked.
+A cell of the table says `certified` where nothing shows and the run exited with 0: proved for every value of the secret. `certified in the
+first N cycles` says that the budget ended it, `certified, to a trap in cycle N` and `certified, exit 1` how else it ended; `vacuous` that the
+path loads none of the secret's bytes as they were before the run, as where it derives the key first. Else it has what shows first: an
+address, a time, where a branch or jump goes, or what a call is asked for; the source's line, or function and offset; and the cycle. A
+description that is refused is a cell `refused K6`. The table is written to standard output and to FOLDER/table.md; FOLDER/table.csv has a
+row for each run. Where it was stopped, the command that began it, or `wadrelwy certify FOLDER` alone, goes on: only what is missing is
+asked. FOLDER has copies of all that was asked of. FOLDER alone is refused where an image, a description or the program isn't what it was;
+--copies goes on with those that the folder has. --build builds all images anew.
 
 N of --cycles is 4294967295 without it, and as many --jobs as processors. P of --secrets-program is the program that is asked: without it the
-variable STT_SECRETS, else crates/stt_secrets/out/stt_secrets. The status is 0 where all is certified, 1 where something shows, 3 where nothing
-does and a budget ended a run; 2 for a refusal, and 130 if interrupted."""
+variable STT_SECRETS, else crates/stt_secrets/out/stt_secrets. The status is that of the worst cell: 0 certified, 1 something shows, 3 a
+budget ended a run or a description is refused, 12 a trap, 13 vacuous, 11 another exit value; 2 for a refusal, and 130 if interrupted."""
 import os
+import sys
 
-from wadrelwy import Fault, built_programs
-from wadrelwy.sweep.plan import write
+from wadrelwy import Fault, built_programs, statuses
+from wadrelwy.sweep import plan, results, running
+from wadrelwy.sweep.kept import write
 from wadrelwy.verdict import certificates, certifying
 
 
@@ -42,6 +47,7 @@ def words(parser):
     parser.add_argument("--cycles", type=int, default=4294967295, metavar="N")
     parser.add_argument("--jobs", type=int, default=len(os.sched_getaffinity(0)), metavar="N")
     parser.add_argument("--secrets-program", metavar="P")
+    parser.add_argument("--copies", action="store_true", help="go on with the folder's copies, whatever became of the files")
 
 
 def checked(asked):
@@ -55,7 +61,10 @@ def checked(asked):
 def planned(asked, program):
     """The plan of the words, or the one that the folder has."""
     if not asked.secret:
-        return certifying.read(asked.folder)
+        made = certifying.read(asked.folder)
+        if not asked.copies:
+            plan.check_sources(made, program)
+        return made
     if asked.build:
         folder = os.path.join(asked.folder, "build")
         asked.programs = certifying.built(asked.build, folder, asked.compilers, asked.levels, asked.only, asked.jobs)
@@ -65,13 +74,17 @@ def planned(asked, program):
 def main(asked):
     checked(asked)
     program = built_programs.secrets(asked.secrets_program)
-    if program is None:
+    if program is None and (asked.secret or asked.secrets_program):
         raise Fault("no program stt_secrets: build it (docs/secrets.md, \"Before you ask\"), or name it with --secrets-program")
     made = planned(asked, program)
-    certifying.Certifier(made, program, asked.jobs).all()
-    found, _ = certificates.rows(made)
-    table = certificates.as_markdown(found)
-    for path, text in zip(certificates.files(asked.folder), (table, certificates.as_csv(found, made.keys))):
+    try:
+        running.Runner(made, asked.jobs, certifying.ASKS).all()
+        found, _ = certificates.rows(made, certifying.ASKS)
+    except results.Refuted as refuted:
+        print(f"wadrelwy certify: refuted: {refuted}", file=sys.stderr)
+        return statuses.REFUTED
+    table = f"{certificates.as_markdown(found)}\nBy {made.cited}.\n"
+    for path, text in zip(certificates.files(asked.folder), (table, certificates.as_csv(found, made.keys, made.cited))):
         write(path, text.encode())
     print(f"{table}\n{certificates.summary(found)}")
     return certificates.status(found)

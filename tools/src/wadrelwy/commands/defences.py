@@ -28,7 +28,8 @@ from typing import NamedTuple
 
 from wadrelwy import Fault, built_programs, statuses
 from wadrelwy.sweep import settings
-from wadrelwy.sweep.plan import names_of, text
+from wadrelwy.sweep.kept import text
+from wadrelwy.sweep.plan import names_of
 from wadrelwy.verdict import simulator
 from wadrelwy.view.description import HOLD, OFF
 

@@ -19,6 +19,7 @@ import tempfile
 from concurrent.futures import ThreadPoolExecutor
 
 from wadrelwy import Fault, built_programs, statuses
+from wadrelwy.sweep.results import Store
 from wadrelwy.verdict import certificates, certifying, ranges, report, simulator
 from wadrelwy.verdict.patched import Patches
 
@@ -48,19 +49,20 @@ def changed(own):
 
 def name_of(plan, run):
     """The program, its folder and what is set: `chacha20 gcc-O2 spectre`."""
-    build, file = run.image.split("/")[-2:]
+    build, file = run.origin.split("/")[-2:]
     return " ".join([file.removesuffix(".elf"), build, *certificates.told_setting(plan, run)])
 
 
 class Drawing:
     """A run of the table, and the values that are tried of its secret."""
 
-    def __init__(self, plan, run, program):
-        self.row = certificates.row_of(plan, run)
+    def __init__(self, plan, run, program, store):
+        plan.check(run)
+        self.row = certificates.row_of(plan, run, store)
         self.name = name_of(plan, run)
         self.description, self.program = plan.path(run.description), program
-        self.patches = Patches(run.image)
-        self.secret = [ranges.named(certificates.image_of(run.image), word) for word in run.words[1::2]]
+        self.patches = Patches(self.row.image)
+        self.secret = [ranges.named(certificates.image_of(self.row.image), word) for word in run.words[1::2]]
         shown, end = self.row.answer.shown, self.row.answer.end
         self.cycles = plan.cycles if shown or end.how != "budget" else end.cycles
 
@@ -95,9 +97,10 @@ class Drawing:
 
 def drawings(asked, program):
     """The runs that are over and asked for."""
-    plan = certifying.read(asked.folder)
-    runs = [run for run in plan.runs if plan.is_done(run) and asked.only in name_of(plan, run)]
-    return [Drawing(plan, run, program) for run in runs if asked.left_out is None or asked.left_out not in name_of(plan, run)]
+    made = certifying.read(asked.folder)
+    store = Store(made, certifying.ASKS)
+    runs = [run for run in made.runs if run.id in store.found and asked.only in name_of(made, run)]
+    return [Drawing(made, run, program, store) for run in runs if asked.left_out is None or asked.left_out not in name_of(made, run)]
 
 
 def main(asked):

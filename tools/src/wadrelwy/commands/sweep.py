@@ -1,27 +1,40 @@
 """Runs programs under descriptions under settings, as many at once as there are processors, and tells what came of it.
 
     wadrelwy sweep FOLDER --programs IMAGE.. --descriptions DESCRIPTION.. [--set KEY=VALUE,..].. [--defences] [--cycles N] [--jobs N]
-    wadrelwy sweep FOLDER --programs .. --descriptions .. [..] --list
-    wadrelwy sweep FOLDER
+    wadrelwy sweep FOLDER --programs .. --descriptions .. [..] --list [--pack] [--tasks N] [--minutes N] [--memory MEGABYTES]
+    wadrelwy sweep FOLDER [--gather [--from FOLDER..]] [--copies]
 
 Each program is run under each description with each combination of the values that are set: --set core.rob=16,32,64 --set
-stt.model=off,spectre makes six runs of each. --defences is each model and defence: off, spectre, futuristic, and hold under both. FOLDER gets
-a description for each combination, a file for each run that is over, and at the end results.csv, results.json and the plots: bars.svg, the
-slowdown of each program under each defence, and curve-KEY.svg, the mean of the slowdowns over each size that is set. Where it was stopped, the
-command that began it, or `wadrelwy sweep FOLDER` alone, goes on: only what is missing is run.
+stt.model=off,spectre makes six runs of each. --defences is each model and defence: off, spectre, futuristic, and hold under both. Before the
+first run each description and image is shown to the simulator: what it refuses is a row `refused K6`, and the others are run. FOLDER gets
+copies of the simulator, the images and the descriptions, whose names have their digests; a file for each run that is over; and at the end
+results.csv, results.json and the plots: bars.svg, the slowdown of each program under each defence, and curve-KEY.svg, the mean of the
+slowdowns over each size that is set. Where it was stopped, the command that began it, or `wadrelwy sweep FOLDER` alone, goes on: only what
+is missing is run. FOLDER alone is refused where an image, a description or the simulator isn't what it was; --copies goes on with those
+that the folder has.
 
-With --list nothing is run. FOLDER/commands has a line of shell for each run that is missing, and FOLDER/array.sh a job array for Slurm:
+With --list nothing is run. FOLDER gets a list of the runs that are missing, in three forms. They need FOLDER under the name that was
+given here, and no other file; each goes on where it was stopped:
 
-    parallel < FOLDER/commands         or  parallel --sshlogin HOST,.. < FOLDER/commands, where FOLDER is shared
-    sbatch FOLDER/array.sh
-    wadrelwy sweep FOLDER           gathers what is there, and runs what is still missing; with --gather it runs nothing
+    parallel < FOLDER/commands         a line of shell for each run; or  parallel --sshlogin HOST,.. --workdir . < FOLDER/commands
+    sbatch FOLDER/array.sh             a job array for Slurm, of --tasks N tasks (1000) that get --minutes and --memory each
+    make -k -j N -f FOLDER/rules.mk    a rule for each run
+    wadrelwy sweep FOLDER --gather  makes the tables of what is there, and names what is missing; --from takes over the results of copies
 
-N cycles are 4294967295 without --cycles, and as many jobs as processors. P of --program is the simulator: without it the variable STT_CLI,
-else crates/stt_cli/out/stt_cli. The status is 0; 2 for a refusal; 3 where --gather finds that runs are missing; 130 if interrupted."""
+--pack makes FOLDER.tar.gz of all that the lists need, to be unpacked on another machine.
+
+N of --cycles is 4294967295 without it, and as many --jobs as processors. P of --program is the simulator: without it the variable STT_CLI,
+else crates/stt_cli/out/stt_cli. The status is 0 where all runs are there; 3 where runs are missing, were refused, or were ended by the budget,
+12 where one ended by a trap; 16 where the runs of one program retire unlike numbers, or end otherwise, which contradicts what is
+proved; 2 for a refusal; 130 if interrupted."""
 import os
+import sys
 
 from wadrelwy import Fault, built_programs, statuses
-from wadrelwy.sweep import plan, plots, results, running
+from wadrelwy.sweep import lists, plan, plots, results, running
+from wadrelwy.sweep.kept import write
+
+MOST_NAMED = 20
 
 
 def words(parser):
@@ -33,49 +46,94 @@ def words(parser):
     parser.add_argument("--cycles", type=int, default=4294967295, metavar="N")
     parser.add_argument("--jobs", type=int, default=len(os.sched_getaffinity(0)), metavar="N")
     parser.add_argument("--program", metavar="P")
+    parser.add_argument("--copies", action="store_true", help="go on with the folder's copies, whatever became of the files")
     only = parser.add_mutually_exclusive_group()
-    only.add_argument("--list", action="store_true", help="write the commands, run nothing")
+    only.add_argument("--list", action="store_true", help="write the lists, run nothing")
     only.add_argument("--gather", action="store_true", help="run nothing")
+    parser.add_argument("--pack", action="store_true", help="with --list: one archive of all that it needs")
+    parser.add_argument("--tasks", type=int, metavar="N", help="of a job array")
+    parser.add_argument("--minutes", type=int, metavar="N", help="that a task may take")
+    parser.add_argument("--memory", type=int, metavar="MEGABYTES", help="that a task gets")
+    parser.add_argument("--from", dest="others", nargs="+", default=[], metavar="FOLDER", help="with --gather: copies of the folder")
 
 
 def checked(asked):
     """Refuses words that don't go together."""
     if bool(asked.programs) != bool(asked.descriptions) or not asked.programs and (asked.set or asked.defences):
         raise Fault("a sweep has programs and descriptions")
-    if asked.jobs < 1 or asked.cycles < 1:
-        raise Fault("jobs and cycles are at least 1")
+    if min(asked.jobs, asked.cycles, *(number for number in (asked.tasks, asked.minutes, asked.memory) if number is not None)) < 1:
+        raise Fault("jobs, cycles, tasks, minutes and memory are at least 1")
+    if asked.pack and not asked.list or asked.others and not asked.gather:
+        raise Fault("--pack is asked for with --list, and --from with --gather")
 
 
-def planned(asked, program):
+def planned(asked):
     """The plan of the words, or the one that the folder has."""
-    if not asked.programs:
-        return plan.read(asked.folder)
-    if program is None:
-        raise Fault("no simulator: build it (docs/using.md, \"Before you start\"), or name it with --program")
-    return plan.make(asked.folder, program, asked)
+    program = built_programs.simulator(asked.program)
+    if asked.programs:
+        if program is None:
+            raise Fault("no simulator: build it (docs/using.md, \"Before you start\"), or name it with --program")
+        made = running.Checked(plan.make(asked.folder, program, asked), asked.jobs).checked()
+        for note in sorted({f"{run.base}: {run.refused}, {run.description}" for run in made.runs if run.refused}):
+            print(f"wadrelwy sweep: {note}", file=sys.stderr)
+        return plan.keep(made)
+    if asked.program and program is None:
+        raise Fault(f"no simulator {asked.program}")
+    made = plan.read(asked.folder)
+    if not asked.copies:
+        plan.check_sources(made, program)
+    return made
+
+
+def write_lists(made, asked):
+    """Writes the lists, and says how each is used."""
+    options = {"tasks": asked.tasks, "minutes": asked.minutes, "memory": asked.memory}
+    listed = lists.Lists(made, running.SWEEP, asked.folder, **options)
+    listed.write(made)
+    print(f"{len(listed.runs)} commands in {made.path('commands')}: parallel < {made.path('commands')}; or sbatch {made.path('array.sh')}; "
+          f"or make -k -j N -f {made.path('rules.mk')}; then wadrelwy sweep {asked.folder} --gather")
+    if asked.pack:
+        print(lists.pack(made, running.SWEEP, plan.PLAN, **options))
 
 
 def write_results(made):
-    """Writes what is there, and answers how many runs are missing."""
-    found, missing = results.rows(made)
-    files = {"results.csv": results.as_csv(found, made.keys), "results.json": results.as_json(found, made.keys)} | plots.all_of(found)
+    """Writes what is there, names what is missing, and answers the status."""
+    found, missing = results.rows(made, running.SWEEP)
+    files = {"results.csv": results.as_csv(found, made.keys, made.cited), "results.json": results.as_json(found, made.keys, made.cited)}
+    files |= plots.all_of(found)
     for name, text in files.items():
-        plan.write(made.path(name), text.encode())
-    print(f"{len(found)} runs in {made.path('results.csv')}" + (f", {missing} are missing" if missing else ""))
-    print(*plots.summary(found), *(made.path(name) for name in files if name.endswith(".svg")), sep="\n")
-    return missing
+        write(made.path(name), text.encode())
+    print(f"{len(found)} runs in {made.path('results.csv')}" + (f", {len(missing)} are missing" if missing else ""))
+    print(*plots.summary(found), *results.other_ends(found), f"by {made.cited}", sep="\n")
+    print(*(made.path(name) for name in files if name.endswith(".svg")), sep="\n")
+    tell_missing(made, missing)
+    ends = {row.end.split()[0] for row in found}
+    return statuses.CUT if missing or ends & {"budget", "refused"} else statuses.TRAPPED if "trap" in ends else statuses.HOLDS
+
+
+def tell_missing(made, missing):
+    """Names what is missing: the first on standard error, all in a file."""
+    lines = [f"{run.name}: {why} ({run.result})" for run, why in missing]
+    if lines:
+        write(made.path("missing"), "".join(f"{line}\n" for line in lines).encode())
+        more = [f"and {len(lines) - MOST_NAMED} more, in {made.path('missing')}"] if len(lines) > MOST_NAMED else []
+        print(*(f"wadrelwy sweep: missing: {line}" for line in lines[:MOST_NAMED] + more), sep="\n", file=sys.stderr)
+    elif os.path.exists(made.path("missing")):
+        os.remove(made.path("missing"))
 
 
 def main(asked):
     checked(asked)
-    program = built_programs.simulator(asked.program)
-    made = planned(asked, program)
-    if asked.list:
-        listed, array, count = running.write_lists(made, program)
-        print(f"{count} commands in {listed}: parallel < {listed}; or sbatch {array}; then wadrelwy sweep {asked.folder}")
-        return 0
-    if not asked.gather and any(not made.is_done(run) for run in made.runs):
-        if program is None:
-            raise Fault("no simulator: build it (docs/using.md, \"Before you start\"), or name it with --program")
-        running.Runner(made, program, asked.jobs).all()
-    return statuses.CUT if write_results(made) else statuses.HOLDS
+    made = planned(asked)
+    try:
+        if asked.list:
+            write_lists(made, asked)
+            return statuses.HOLDS
+        if asked.others:
+            print(f"{results.brought(made, running.SWEEP, asked.others)} results came from {', '.join(asked.others)}")
+        if not asked.gather:
+            running.Runner(made, asked.jobs).all()
+        return write_results(made)
+    except results.Refuted as refuted:
+        print(f"wadrelwy sweep: refuted: {refuted}", file=sys.stderr)
+        return statuses.REFUTED

@@ -2,8 +2,10 @@
 ask; the modules are
 
     settings   a description with other values
+    kept       copies of what the runs are made of, by names that tell what they have
     plan       which runs there are, and where each result stands
-    running    the runs, as many at once as there are processors; or a list of commands for other machines
+    running    all checked before the first run; and the runs, as many at once as there are processors
+    lists      the runs as commands for other machines
     results    what came of them: rows, CSV, JSON, means
     plots      bars and curves as SVG
 """

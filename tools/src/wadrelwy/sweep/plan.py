@@ -1,59 +1,64 @@
 """Which runs there are: each program under each description under each combination of settings.
 
-A plan is a folder. `plan.json` has the runs; `descriptions/` a description for each combination; `results/` the last line of each run that
-is over, in a file whose name has a digest of all that the run depends on: so a run isn't done twice, and none is taken for another."""
-import hashlib
+A plan is a folder. `plan.json` has the runs, and a line by which they are cited; `images`, `programs` and `descriptions` have copies of all
+that they are made of (module `kept`); `results` has a file for each run that is over. Its name has a digest of all that the run depends on:
+so a run isn't done twice, and none is taken for another."""
 import itertools
 import json
 import os
-from typing import NamedTuple
+from typing import NamedTuple, Optional
 
 from wadrelwy.view import Fault
 
 from . import settings
+from .kept import Source, check, changed, cited, content, copied, plain, sha256, source, text, write
 
 PLAN = "plan.json"
+GIVE_ANEW = "give the whole command again, or --copies to go on with what the folder has"
 
 
 class Run(NamedTuple):
-    """A run: the program's name and image, the description's name and the file made of it, what is set, the file of its result, and what else
-    is asked of the image. Files of the plan are named within its folder."""
+    """A run: the program's name, its image and the file of which that is a copy; the description's name and the file made of it; what is set;
+    the file of its result; what else is asked of the image; and why it is refused, if it is. Files of the plan are named within its folder.
+    `cost` is about how many instructions it takes, 0 where that isn't known; `end` is how it ends by the instruction set, if that was seen."""
     program: str
     image: str
+    origin: str
     base: str
     description: str
     values: dict
     result: str
     words: list = []
+    refused: Optional[str] = None
+    cost: int = 0
+    end: Optional[str] = None
+
+    @property
+    def name(self):
+        """As a line names it: the program, the description and what is set."""
+        return " ".join([self.program, self.base, *(f"{key}={value}" for key, value in self.values.items())])
+
+    @property
+    def id(self):
+        return os.path.basename(self.result)
 
 
 class Plan(NamedTuple):
-    """All runs of a folder, and for how many cycles each may go."""
+    """All runs of a folder, for how many cycles each may go, the program that makes them, and what all that was made of."""
     folder: str
     cycles: int
     keys: list
+    program: str
+    cited: str
+    sources: list
     runs: list
 
     def path(self, name):
         return os.path.join(self.folder, name)
 
-    def is_done(self, run):
-        return os.path.exists(self.path(run.result))
-
-
-def content(path):
-    try:
-        with open(path, "rb") as file:
-            return file.read()
-    except OSError as error:
-        raise Fault(f"{path}: {error.strerror}") from None
-
-
-def text(path):
-    try:
-        return content(path).decode()
-    except UnicodeDecodeError:
-        raise Fault(f"{path}: no text, and so no description") from None
+    def check(self, run):
+        """What a run is made of is what was planned."""
+        check(self.folder, [self.program, run.description, run.image])
 
 
 def names_of(paths):
@@ -72,45 +77,67 @@ def combinations(sets, defences):
     return [row | defence for row in rows for defence in settings.DEFENCES] if defences else rows
 
 
-def make(folder, simulator, words, file=PLAN, more=lambda image: []):
-    """The plan of these words, kept in this file; its descriptions are written. `more` has further words for an image."""
+def sets_of(words):
+    """The keys and values of --set, and all keys that are set."""
     sets = [settings.asked(word) for word in words.set]
     keys = [key for key, _ in sets] + ([settings.MODEL, settings.DEFENCE] if words.defences else [])
     twice = [key for key in keys if keys.count(key) > 1]
     if twice:
         raise Fault(f"{twice[0]} is set twice")
-    simulator = hashlib.sha256(content(simulator)).digest()
-    images = [(name, path, content(path), more(path)) for name, path in zip(names_of(words.programs), words.programs)]
-    for name in ("descriptions", "results"):
-        os.makedirs(os.path.join(folder, name), exist_ok=True)
-    runs = []
+    return sets, keys
+
+
+def described(folder, words, sets):
+    """The descriptions: each one's name, what is set, and the file made of it, with its text."""
     for base, path in zip(names_of(words.descriptions), words.descriptions):
         for values in combinations(sets, words.defences):
             made = settings.with_values(text(path), values, path).encode()
             label = "_".join([base.replace("/", "-")] + [f"{key}={value}" for key, value in values.items()])
-            described = os.path.join("descriptions", f"{label}.toml")
-            write(os.path.join(folder, described), made)
-            for program, image, data, further in images:
-                parts = [simulator, hashlib.sha256(data).digest(), made, str(words.cycles).encode(), *map(str.encode, further)]
-                digest = hashlib.sha256(b"".join(parts)).hexdigest()
-                result = os.path.join("results", f"{program.replace('/', '-')}_{digest[:16]}")
-                runs.append(Run(program, os.path.abspath(image), base, described, values, result, further))
-    plan = Plan(folder, words.cycles, keys, runs)
-    write(plan.path(file), json.dumps(plan._replace(folder="", runs=[run._asdict() for run in runs])._asdict(), indent=1).encode())
+            yield base, values, copied(folder, "descriptions", label, ".toml", made), made
+
+
+def make(folder, simulator, words, file=PLAN, more=lambda image: []):
+    """The plan of these words, kept in this file with copies of all that it is made of. `more` has further words for an image."""
+    sets, keys = sets_of(words)
+    program, name = content(simulator), os.path.basename(simulator)
+    sources = [source(path) for path in [simulator, *words.programs, *words.descriptions]]
+    images = [(name, path, content(path), more(path)) for name, path in zip(names_of(words.programs), words.programs)]
+    for path in words.descriptions:
+        settings.parsed(text(path), path)
+    images = [(name, path, copied(folder, "images", name.replace("/", "-"), ".elf", data), sha256(data), further)
+              for name, path, data, further in images]
+    copy = copied(folder, "programs", name, "", program, executable=True)
+    os.makedirs(os.path.join(folder, "results"), exist_ok=True)
+    runs = []
+    for base, values, description, made in described(folder, words, sets):
+        for program_name, path, image, digest, further in images:
+            parts = [sources[0].sha256, digest, sha256(made), str(words.cycles), *further]
+            name = f"{plain(program_name.replace('/', '-'))}_{sha256(' '.join(parts).encode())[:16]}"
+            runs.append(Run(program_name, image, os.path.abspath(path), base, description, values, os.path.join("results", name), further))
+    return Plan(folder, words.cycles, keys, copy, cited(simulator, os.path.basename(simulator)), sources, runs)
+
+
+def keep(plan, file=PLAN):
+    """Writes a plan into its folder."""
+    kept = plan._replace(folder="", sources=[each._asdict() for each in plan.sources], runs=[run._asdict() for run in plan.runs])
+    write(plan.path(file), json.dumps(kept._asdict(), indent=1).encode())
     return plan
-
-
-def write(path, data):
-    """A file as a whole or not at all."""
-    with open(f"{path}.part", "wb") as file:
-        file.write(data)
-    os.replace(f"{path}.part", path)
 
 
 def read(folder, file=PLAN):
     """The plan that a folder has in this file."""
     try:
         found = json.loads(content(os.path.join(folder, file)))
-        return Plan(folder, found["cycles"], found["keys"], [Run(**run) for run in found["runs"]])
+        sources, runs = [Source(**each) for each in found["sources"]], [Run(**run) for run in found["runs"]]
+        return Plan(folder, found["cycles"], found["keys"], found["program"], found["cited"], sources, runs)
     except (ValueError, KeyError, TypeError):
-        raise Fault(f"{os.path.join(folder, file)}: no plan") from None
+        raise Fault(f"{os.path.join(folder, file)}: no plan of these tools: give the whole command again") from None
+
+
+def check_sources(plan, program=None):
+    """What the plan was made of is as it was then, where it is there, and so is the program that is named now."""
+    other = changed(plan.sources)
+    if other is not None:
+        raise Fault(f"{other.path} isn't what it was when {plan.folder} was planned: {GIVE_ANEW}")
+    if program is not None and sha256(content(program)) != plan.sources[0].sha256:
+        raise Fault(f"{program} isn't the program by which {plan.folder} was planned: {GIVE_ANEW}")

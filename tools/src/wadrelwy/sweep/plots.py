@@ -1,5 +1,6 @@
 """Plots as SVG: the slowdown of each program under each defence, and curves over a size. Lengths are in pixels."""
 import math
+from collections import Counter
 from html import escape
 
 from wadrelwy.view.description import OFF
@@ -56,6 +57,17 @@ def percent(value):
     return f"{100 * value:+.1f} %".replace("+0.0", "0.0").replace("-0.0", "0.0")
 
 
+def told(spread):
+    """How many slowdowns a mean is of, and how far apart they lie."""
+    return f"n {spread.n}, median {percent(spread.median)}, {percent(spread.least)} to {percent(spread.most)}"
+
+
+def heading(drawing, x, y, title, size=13, more='font-weight="bold"'):
+    """A title, for which the picture is wide enough."""
+    drawing.text(x, y, title, "start", size, more)
+    drawing.width = max(drawing.width, x + 0.62 * size * len(title) + RIGHT)
+
+
 def axis(drawing, scale, left, right, told):
     for mark in scale.marks():
         drawing.line(left, scale.y(mark), right, scale.y(mark), "#888" if abs(mark) < 1e-12 else "#ddd")
@@ -82,18 +94,22 @@ def bars(found):
     for title, rows in results.groups([row for row in found if row.slowdown is not None]).items():
         top = drawing.height + TOP
         programs = list(dict.fromkeys(row.program for row in rows))
-        slowdowns = {(row.program, row.defence): row.slowdown for row in rows}
+        slowdowns, tips = {(row.program, row.defence): row.slowdown for row in rows}, {}
         for defence in defences:
             each = [slowdowns[program, defence] for program in programs if (program, defence) in slowdowns]
-            slowdowns |= {("mean", defence): results.mean(each)} if each else {}
+            if each:
+                spread = results.spread(each)
+                slowdowns["mean", defence] = spread.mean
+                tips["mean", defence] = f" ({told(spread)})"
         scale, step = Scale(slowdowns.values(), top), BAR * len(defences) + BETWEEN
         right = LEFT + step * (len(programs) + 1)
         drawing.width, drawing.height = max(drawing.width, right + RIGHT), top + HEIGHT + BOTTOM
-        drawing.text(LEFT, top - 26, f"slowdown against no protection: {title}", "start", 13, 'font-weight="bold"')
+        heading(drawing, LEFT, top - 26, f"slowdown against no protection: {title}; mean of n = {len(programs)}")
         legend(drawing, defences, colours, LEFT, top - 10)
         axis(drawing, scale, LEFT, right, percent)
         for place, program in enumerate([*programs, "mean"]):
-            group(drawing, scale, LEFT + step * place + BETWEEN / 2, program, [(it, slowdowns.get((program, it))) for it in defences], colours)
+            group(drawing, scale, LEFT + step * place + BETWEEN / 2, program,
+                  [(it, slowdowns.get((program, it)), tips.get((program, it), "")) for it in defences], colours)
     return drawing.svg()
 
 
@@ -103,11 +119,11 @@ def group(drawing, scale, x, program, values, colours):
     middle = x + BAR * len(values) / 2
     drawing.text(middle, scale.top + HEIGHT + 14, program, "end", 11,
                  f'{weight} transform="rotate(-28 {middle:.1f} {scale.top + HEIGHT + 14:.1f})"')
-    for place, (defence, value) in enumerate(values):
+    for place, (defence, value, more) in enumerate(values):
         if value is not None:
             length = max(abs(scale.y(value) - scale.y(0)), 1)
             drawing.box(x + BAR * place, scale.y(0) - (length if value >= 0 else 0), BAR - 1, length, colours[defence],
-                        f"{program}, {defence}: {percent(value)}")
+                        f"{program}, {defence}: {percent(value)}{more}")
 
 
 def curves(found, key):
@@ -115,15 +131,28 @@ def curves(found, key):
     drawing, defences = Drawing(), results.defences_of(found)
     free = [OFF] if any(row.defence == OFF for row in found) else []
     for description in dict.fromkeys(row.description for row in found):
-        rows = [row for row in found if row.description == description]
-        top, left = drawing.height + TOP, LEFT
+        rows = [row for row in found if row.description == description and row.exits]
+        top, left = drawing.height + TOP + 16, LEFT
         speeds = series(rows, key, [*free, *defences], lambda row: row.retired / row.cycles, geometric)
         left = panel(drawing, left, top, f"{description}: instructions a cycle", key, speeds, lambda value: f"{value:.2f}")
         costs = series([row for row in rows if row.slowdown is not None], key, defences, lambda row: row.slowdown, results.mean)
         if costs:
             panel(drawing, left + LEFT + RIGHT, top, f"{description}: slowdown", key, costs, percent)
+        heading(drawing, LEFT, top - 42, of_what(rows, key), 11, "")
         drawing.height = top + HEIGHT + BOTTOM
     return drawing.svg()
+
+
+def of_what(rows, key):
+    """Of what each point of the curves is the mean."""
+    programs, others = {row.program for row in rows}, {}
+    for row in rows:
+        for other, value in row.rest.items():
+            others.setdefault(other, {})[value] = None
+    several = [f"{other} {', '.join(map(str, values))}" for other, values in others.items() if other != key and len(values) > 1]
+    counts = Counter((row.defence, row.values[key]) for row in rows).values()
+    n = f"{min(counts, default=0)}" + (f" to {max(counts)}" if len(set(counts)) > 1 else "")
+    return f"each point: the mean of n = {n} runs that exited, over {len(programs)} programs" + "".join(f" and {each}" for each in several)
 
 
 def geometric(values):
@@ -173,17 +202,17 @@ def all_of(found):
     if any(row.slowdown is not None and row.defence != OFF for row in found):
         files["bars.svg"] = bars(found)
     for key in found[0].rest if found else ():
-        sizes = {row.values[key] for row in found}
+        sizes = {row.values[key] for row in found if row.exits}
         if len(sizes) > 1 and all(isinstance(size, int) for size in sizes):
             files[f"curve-{key}.svg"] = curves(found, key)
     return files
 
 
 def summary(found):
-    """A line for each description and what is set besides: the mean slowdown under each defence."""
+    """A line for each description and what is set besides: the mean slowdown under each defence, of how many programs, and their spread."""
     for title, rows in results.groups([row for row in found if row.slowdown is not None]).items():
-        means = [(defence, [row.slowdown for row in rows if row.defence == defence]) for defence in results.defences_of(rows)]
+        means = [(defence, results.spread([row.slowdown for row in rows if row.defence == defence])) for defence in results.defences_of(rows)]
         if means:
-            yield f"{title}: mean slowdown " + ", ".join(f"{percent(results.mean(each))} under {defence}" for defence, each in means)
+            yield f"{title}: mean slowdown " + ", ".join(f"{percent(each.mean)} under {defence} ({told(each)})" for defence, each in means)
     if any(row.slowdown is not None and row.slowdown < 0 for row in found):
         yield f"Some are faster than without protection. {settings.FASTER}"

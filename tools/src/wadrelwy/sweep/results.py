@@ -3,76 +3,171 @@ import csv
 import io
 import json
 import math
-from typing import NamedTuple
+import os
+import statistics
+from typing import NamedTuple, Optional
 
 from wadrelwy.view import Fault
 from wadrelwy.view.description import OFF
-from wadrelwy.view.trace import read_end
+from wadrelwy.view.trace import END, read_end
 
 from . import settings
-from .plan import text
+from .kept import text, write
+from .plan import check
+
+TASK = "task_"
+
+
+class Refuted(Exception):
+    """Results that can't be of one program: what is proved says otherwise."""
 
 
 class Row(NamedTuple):
-    """A run that is over. `slowdown` is how much longer it takes than the same without protection, 0.1 for a tenth; none where no such run
-    is there."""
+    """A run that is over, or that is refused. `slowdown` is how much longer it takes than the same without protection, 0.1 for a tenth; none
+    where no such run is there, or one of the two didn't end by an exit."""
     program: str
     description: str
     values: dict
     defence: str
     end: str
-    retired: int
-    cycles: int
-    slowdown: float | None
+    retired: Optional[int]
+    cycles: Optional[int]
+    slowdown: Optional[float]
 
     @property
     def rest(self):
         """What is set besides model and defence."""
         return {key: value for key, value in self.values.items() if key not in (settings.MODEL, settings.DEFENCE)}
 
+    @property
+    def exits(self):
+        return self.end.startswith("exit ")
 
-def rows(plan):
-    """The rows of all runs that are over, and how many there aren't yet."""
-    ended = [(run, settings.parsed(text(plan.path(run.description)), run.description), ended_as(plan, run))
-             for run in plan.runs if plan.is_done(run)]
-    found = [Row(run.program, run.base, run.values, settings.told(values), end.how, end.retired, end.cycles, None)
-             for run, values, end in ended]
-    free = {key_of(row): row.cycles for row in found if row.defence == OFF}
-    return [row._replace(slowdown=row.cycles / free[key_of(row)] - 1 if key_of(row) in free else None)
-            for row in found], len(plan.runs) - len(found)
+    @property
+    def name(self):
+        return " ".join([self.program, self.description, *(f"{key}={value}" for key, value in self.values.items())])
+
+
+def line_of(run, said):
+    """A result as its file has it: whole, as it ends with the run's own name."""
+    return f"{said.rstrip()}\nof {run.id}\n" if "\n" in said.rstrip() else f"{said.rstrip()} of {run.id}\n"
+
+
+class Store:
+    """The results that a folder has: of each run what was said, and why what else stands there is none. A run's result is a file of its name,
+    or a line of a task's file."""
+
+    def __init__(self, plan, asks, folder=None):
+        self.plan, self.asks, self.found, self.faults = plan, asks, {}, {}
+        self.names = {run.id for run in plan.runs if not run.refused}
+        self.folder = os.path.join(folder or plan.folder, "results")
+        there = set(os.listdir(self.folder)) if os.path.isdir(self.folder) else set()
+        for name in self.names & there:
+            self.take(name, text(os.path.join(self.folder, name)))
+        for name in sorted(there):
+            if name.startswith(TASK) and name not in self.names and not name.endswith(".part"):
+                self.take_lines(text(os.path.join(self.folder, name)))
+
+    def take_lines(self, lines):
+        for line in lines.splitlines(keepends=True):
+            name = line.strip().rpartition(" of ")[2]
+            if name in self.names:
+                self.take(name, line)
+
+    def take(self, name, said):
+        """A result, where it is whole and this run's."""
+        body, space, of = said.rstrip("\n").rpartition("of ")
+        kept = self.asks.kept(body.rstrip(" ")) if space and of == name and said.endswith("\n") else None
+        if kept is None:
+            self.faults.setdefault(name, "its result is none: it was cut, or is another's")
+        elif self.found.setdefault(name, kept) != kept:
+            raise Refuted(f"{name} has two results, `{self.found[name].strip()}` and `{kept.strip()}`, and a run has one")
+
+    def why(self, run):
+        return self.faults.get(run.id, "no result") if run.id not in self.found else None
+
+
+def brought(plan, asks, folders):
+    """Takes over the results of other folders of the same plan; answers how many came."""
+    here, came = Store(plan, asks), 0
+    by_name = {run.id: run for run in plan.runs}
+    for folder in folders:
+        if not os.path.isdir(os.path.join(folder, "results")):
+            raise Fault(f"{folder} has no folder `results`")
+        for name, said in Store(plan, asks, folder).found.items():
+            if here.found.setdefault(name, said) != said:
+                raise Refuted(f"{name} has two results, `{here.found[name].strip()}` and in {folder} `{said.strip()}`, and a run has one")
+            if not os.path.exists(plan.path(by_name[name].result)):
+                write(plan.path(by_name[name].result), line_of(by_name[name], said).encode())
+                came += 1
+    return came
+
+
+def rows(plan, asks):
+    """The rows of all runs that are over or refused, and those that are missing, each with why."""
+    check(plan.folder, {plan.program} | {name for run in plan.runs for name in (run.description, run.image)})
+    store, found, missing = Store(plan, asks), [], []
+    values = {name: settings.parsed(text(plan.path(name)), name) for name in {run.description for run in plan.runs}}
+    for run in plan.runs:
+        told = settings.told(values[run.description]) if settings.MODEL in values[run.description] else "?"
+        if run.refused:
+            found.append((run, Row(run.program, run.base, run.values, told, run.refused, None, None, None)))
+        elif run.id in store.found:
+            end = read_end(store.found[run.id].strip())
+            found.append((run, Row(run.program, run.base, run.values, told, end.how, end.retired, end.cycles, None)))
+        else:
+            missing.append((run, store.why(run)))
+    agree(found, values)
+    return with_slowdowns([row for _, row in found]), missing
+
+
+def with_slowdowns(found):
+    free = {key_of(row): row.cycles for row in found if row.defence == OFF and row.exits}
+    return [row._replace(slowdown=row.cycles / free[key_of(row)] - 1) if row.exits and key_of(row) in free else row for row in found]
 
 
 def key_of(row):
     return row.program, row.description, tuple(row.rest.items())
 
 
-def ended_as(plan, run):
-    """How a run ended, by its result's one line."""
-    try:
-        return read_end(text(plan.path(run.result)).strip())
-    except Fault as fault:
-        raise Fault(f"{plan.path(run.result)}: {fault}. Remove it, and run again") from None
+def agree(found, values):
+    """The runs of one image in one memory end alike and retire as many, under every description, and as on the instruction set: that is
+    proved. A run that its budget ended retires no more."""
+    first = {}
+    for run, row in found:
+        if run.refused:
+            continue
+        ram = tuple(values[run.description].get(f"ram.{key}") for key in ("base", "size", "misaligned"))
+        told = f"{row.end} retired {row.retired}"
+        if row.end != "budget":
+            other = first.setdefault((run.image, ram), (run.end or told, "the instruction set" if run.end else run.name))
+            if told != other[0]:
+                raise Refuted(f"{run.name}: {told}, and {other[1]}: {other[0]}. One program has one end and one number, and that is "
+                              f"proved; so these results aren't of one image, or the simulator isn't what was proved")
+    for run, row in found:
+        if row.end == "budget" and run.end and row.retired > int(run.end.split()[-1]):
+            raise Refuted(f"{run.name}: retired {row.retired}, and the instruction set ends after {run.end.split()[-1]}")
 
 
-def records(found, keys):
+def records(found, keys, cited):
     """The rows as records, with a name for each value."""
     for row in found:
         yield ({"program": row.program, "description": row.description} | {key: row.values[key] for key in keys}
                | {"defence": row.defence, "end": row.end, "retired": row.retired, "cycles": row.cycles,
-                  "instructions_per_cycle": round(row.retired / row.cycles, 4),
-                  "slowdown": None if row.slowdown is None else round(row.slowdown, 6)})
+                  "instructions_per_cycle": round(row.retired / row.cycles, 4) if row.cycles else None,
+                  "slowdown": None if row.slowdown is None else round(row.slowdown, 6), "made_by": cited})
 
 
-def as_csv(found, keys):
-    out, given = io.StringIO(), list(records(found, keys))
+def as_csv(found, keys, cited):
+    out, given = io.StringIO(), list(records(found, keys, cited))
     writer = csv.DictWriter(out, list(given[0]) if given else ["program"], lineterminator="\n")
     writer.writeheader()
     writer.writerows(given)
     return out.getvalue()
 
 
-def as_json(found, keys):
-    return json.dumps(list(records(found, keys)), indent=1) + "\n"
+def as_json(found, keys, cited):
+    return json.dumps(list(records(found, keys, cited)), indent=1) + "\n"
 
 
 def mean(slowdowns):
@@ -80,10 +175,23 @@ def mean(slowdowns):
     return math.exp(sum(math.log1p(it) for it in slowdowns) / len(slowdowns)) - 1
 
 
+class Spread(NamedTuple):
+    """Of some slowdowns: how many they are, their geometric mean, and the median, the least and the most."""
+    n: int
+    mean: float
+    median: float
+    least: float
+    most: float
+
+
+def spread(slowdowns):
+    return Spread(len(slowdowns), mean(slowdowns), statistics.median(slowdowns), min(slowdowns), max(slowdowns))
+
+
 def defences_of(found):
     """The defences that there are, in the order of their table, and those that protect."""
     order = [settings.told(values) for values in settings.DEFENCES]
-    there = sorted({row.defence for row in found}, key=order.index)
+    there = sorted({row.defence for row in found} & set(order), key=order.index)
     return [defence for defence in there if defence != OFF]
 
 
@@ -94,3 +202,12 @@ def groups(found):
         title = ", ".join([row.description] + [f"{key} {value}" for key, value in row.rest.items()])
         parts.setdefault(title, []).append(row)
     return parts
+
+
+def other_ends(found):
+    """How many rows have no slowdown, as they end by a trap or a budget, or are refused: a line of each kind with their names."""
+    for what, told in [("budget", "were ended by the budget"), ("trap", "end by a trap"), ("refused", "are refused")]:
+        some = [row for row in found if row.end.split()[0] == what]
+        if some:
+            names = "; ".join(f"{row.name} ({row.end})" for row in some[:4]) + (f" and {len(some) - 4} more" if len(some) > 4 else "")
+            yield f"{len(some)} of {len(found)} runs {told}, and have no slowdown: {names}"

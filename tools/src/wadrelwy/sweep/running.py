@@ -1,54 +1,124 @@
-"""The runs of a plan: here, as many at once as there are processors; or as a list of commands for other machines."""
-import os
-import shlex
-import stat
+"""The runs of a plan, here, as many at once as there are processors. Before the first one all is checked."""
 import subprocess
 import sys
 import time
 from concurrent.futures import ThreadPoolExecutor, as_completed
 
 from wadrelwy.view import Fault
-from wadrelwy.view.trace import END
+from wadrelwy.view.trace import END, read_end
 
-from .plan import write
+from . import kept, settings
+from .results import Store, line_of
 
 RAN = (0, 1, 3)
-MOST_TASKS = 1000  # of a Slurm array: its own limit is 1001 without a word of the administrator
-
-ARRAY = """#!/bin/sh
-#SBATCH --job-name=sweep
-#SBATCH --array=1-{tasks}
-#SBATCH --ntasks=1
-#SBATCH --output=/dev/null
-# {runs} runs in {tasks} tasks of {each} at most. The folder and the images have to be there on each machine under these names.
-first=$(( (SLURM_ARRAY_TASK_ID - 1) * {each} + 1 ))
-sed -n "$first,$(( first + {each} - 1 ))p" {commands} | sh
-"""
+DESCRIPTION, IMAGE = 4, 5
+# so many steps of the instruction set, of about a second, tell what a run costs
+MOST_STEPS = 100000000
 
 
-def words_of(plan, run, simulator):
-    return [simulator, "run", plan.path(run.description), run.image, "--cycles", str(plan.cycles)]
+class Sweep:
+    """What is run, and what of it is kept; a table of other runs says otherwise."""
 
-
-class Runner:
-    """Runs what has no result yet. `screen` is where progress is told, if it is a terminal. What is run, and what of it is kept, another
-    table of runs may say otherwise: `words` and `kept`."""
-
-    def __init__(self, plan, simulator, jobs, screen=sys.stderr):
-        self.plan, self.simulator, self.jobs, self.screen = plan, simulator, jobs, screen
-        self.children, self.stopped = set(), False
-
-    def words(self, run):
-        return words_of(self.plan, run, self.simulator)
+    def words(self, plan, run):
+        return ["run", plan.path(run.description), plan.path(run.image)]
 
     def kept(self, said):
         """The last line, which tells how the run ended; none where it doesn't."""
         last = said.splitlines()[-1] if said else ""
-        return f"{last}\n" if END.fullmatch(last) else None
+        return last if END.fullmatch(last) else None
+
+
+SWEEP = Sweep()
+
+
+def said_of(words):
+    """What a command writes, its note, and its status."""
+    ran = subprocess.run(words, capture_output=True, text=True, errors="replace", check=False)
+    return ran.stdout, ran.stderr.strip().split("\n")[0], ran.returncode
+
+
+def refusal(status, note):
+    """Why a run is refused, as a table tells it: `refused K6`."""
+    words = note.split()
+    return "refused " + (words[1] if words[:1] in (["description"], ["image"]) and len(words) > 1 else note or f"status {status}")
+
+
+def ram_of(plan, description):
+    values = settings.parsed(kept.text(plan.path(description)), description)
+    return tuple(values.get(f"ram.{key}") for key in ("base", "size", "misaligned"))
+
+
+class Checked:
+    """A plan of which each description and each image is shown to the program, for one cycle, before the first run: a description that is
+    refused, and an image that its memory doesn't hold, are told, and make no runs. Of what is run it is asked, on the instruction set, what
+    it costs and how it ends, where `steps` is such a command."""
+
+    def __init__(self, plan, jobs, asks=SWEEP, steps=True):
+        self.plan, self.asks, self.rams, self.notes = plan, asks, {}, {}
+        self.rams = {name: ram_of(plan, name) for name in {run.description for run in plan.runs}}
+        with ThreadPoolExecutor(jobs) as pool:
+            self.look(pool, {run.description: run for run in reversed(plan.runs)}, DESCRIPTION)
+            there = [run for run in plan.runs if run.description not in self.notes]
+            self.look(pool, {self.key(run): run for run in reversed(there)}, IMAGE)
+            there = {self.key(run): run for run in there if self.key(run) not in self.notes}
+            self.counts = dict(zip(there, pool.map(self.steps, there.values()))) if steps else {}
+        if not there and plan.runs:
+            raise Fault(f"{plan.runs[0].name}: {next(iter(self.notes.values()))} (docs/using.md, \"Refusals\")")
+
+    def key(self, run):
+        return run.image, *run.words, self.rams[run.description]
+
+    def look(self, pool, runs, refusing):
+        """Shows these runs to the program; the notes of those that are refused stand under their keys."""
+        for key, note in zip(runs, pool.map(lambda run: self.refused(run, refusing), runs.values())):
+            if note is not None:
+                self.notes[key] = note
+
+    def refused(self, run, refusing):
+        words = [self.plan.path(self.plan.program), *self.asks.words(self.plan, run), "--cycles", "1"]
+        said, note, status = said_of(words)
+        if status in RAN and self.asks.kept(said) is not None or refusing == DESCRIPTION and status in (IMAGE, 2) and note:
+            return None
+        if status == refusing or refusing == IMAGE and status == 2 and note:
+            return note
+        raise Fault(f"{run.name}: status {status}, {note or said[-60:].strip()} (docs/using.md, \"Refusals\")")
+
+    def steps(self, run):
+        """How many instructions a program takes and how it ends, on the instruction set."""
+        words = [self.plan.path(self.plan.program), "isa", self.plan.path(run.image), "--desc", self.plan.path(run.description),
+                 "--steps", str(MOST_STEPS)]
+        said, _, status = said_of(words)
+        found = END.fullmatch((said.splitlines() or [""])[-1] + " cycles 0")
+        return read_end(found[0]) if status in RAN and found else None
+
+    def runs(self):
+        """The plan's runs, each with why it is refused, if it is, what it costs, and how it ends."""
+        for run in self.plan.runs:
+            note = self.notes.get(run.description) or self.notes.get(self.key(run))
+            if note is not None:
+                yield run._replace(refused=refusal(2, note))
+                continue
+            end = self.counts.get(self.key(run))
+            known = end is not None and end.how != "budget"
+            yield run._replace(cost=end.retired if end else 0, end=f"{end.how} retired {end.retired}" if known else None)
+
+    def checked(self):
+        return self.plan._replace(runs=list(self.runs()))
+
+
+class Runner:
+    """Runs what has no result yet. `screen` is where progress is told, if it is a terminal."""
+
+    def __init__(self, plan, jobs, asks=SWEEP, screen=sys.stderr):
+        self.plan, self.jobs, self.asks, self.screen = plan, jobs, asks, screen
+        self.children, self.stopped = set(), False
 
     def all(self):
-        """Answers how many runs were done now."""
-        left = [run for run in self.plan.runs if not self.plan.is_done(run)]
+        """Answers how many runs were done now: those that cost most first."""
+        store = Store(self.plan, self.asks)
+        left = sorted((run for run in self.plan.runs if not run.refused and run.id not in store.found), key=lambda run: -run.cost)
+        for run in left:
+            self.plan.check(run)
         begun = time.monotonic()
         with ThreadPoolExecutor(self.jobs) as pool:
             waiting = [pool.submit(self.one, run) for run in left]
@@ -64,20 +134,22 @@ class Runner:
         return len(left)
 
     def one(self, run):
+        """Makes a run, of what was planned and of nothing else, and keeps its result."""
         if self.stopped:
             return
-        child = subprocess.Popen(self.words(run), stdout=subprocess.PIPE, stderr=subprocess.PIPE, text=True,
-                                 errors="replace", start_new_session=True)
+        self.plan.check(run)
+        words = [self.plan.path(self.plan.program), *self.asks.words(self.plan, run), "--cycles", str(self.plan.cycles)]
+        child = subprocess.Popen(words, stdout=subprocess.PIPE, stderr=subprocess.PIPE, text=True, errors="replace", start_new_session=True)
         self.children.add(child)
         said, note = child.communicate()
         self.children.discard(child)
         if self.stopped:
             return
-        kept = self.kept(said)
-        if child.returncode not in RAN or kept is None:
-            raise Fault(f"{run.description} {run.image}: status {child.returncode}, {note.strip() or said[-60:].strip()} "
-                        f"(docs/using.md, \"Refusals\")")
-        write(self.plan.path(run.result), kept.encode())
+        found = self.asks.kept(said)
+        if child.returncode not in RAN or found is None:
+            raise Fault(f"{run.name}: status {child.returncode}, {note.strip() or said[-60:].strip()} (docs/using.md, \"Refusals\")")
+        self.plan.check(run)
+        kept.write(self.plan.path(run.result), line_of(run, found).encode())
 
     def stop(self, waiting):
         """Ends what goes on; what waits doesn't begin."""
@@ -96,24 +168,3 @@ class Runner:
         if self.screen.isatty():
             self.screen.write(f"\r{'':50}\r")
             self.screen.flush()
-
-
-def commands(plan, simulator):
-    """A shell command for each run that has no result: it writes the result as a whole or not at all."""
-    for run in plan.runs:
-        if not plan.is_done(run):
-            result = shlex.quote(os.path.abspath(plan.path(run.result)))
-            words = [os.path.abspath(word) if os.path.exists(word) else word for word in words_of(plan, run, simulator)]
-            yield f"{shlex.join(words)} | tail -n 1 > {result}.part && mv {result}.part {result}"
-
-
-def write_lists(plan, simulator):
-    """Writes the commands, and a job array for Slurm that runs them. Answers the names of the two files, and how many commands there are."""
-    lines = list(commands(plan, simulator))
-    listed, array = plan.path("commands"), plan.path("array.sh")
-    write(listed, "".join(f"{line}\n" for line in lines).encode())
-    each = -(-len(lines) // MOST_TASKS) or 1
-    text = ARRAY.format(tasks=-(-len(lines) // each) or 1, runs=len(lines), each=each, commands=shlex.quote(os.path.abspath(listed)))
-    write(array, text.encode())
-    os.chmod(array, os.stat(array).st_mode | stat.S_IXUSR)
-    return listed, array, len(lines)

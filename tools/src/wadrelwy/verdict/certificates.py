@@ -2,19 +2,26 @@
 import csv
 import io
 import os
+from collections import Counter
 from functools import cache
-from typing import NamedTuple
+from typing import NamedTuple, Optional
 
+from wadrelwy import statuses
 from wadrelwy.sweep import settings
-from wadrelwy.sweep.plan import text
-from wadrelwy.view import Fault
+from wadrelwy.sweep.kept import text
+from wadrelwy.sweep.results import Store
+from wadrelwy.view.description import read_description
 from wadrelwy.view.disassembly import Disassembler
 from wadrelwy.view.image import Image
 
-from . import ranges, report, secrecy
+from . import answered, certificate, ranges, report, secrecy
+from .loaded import Loaded
+from .touched import Touched, look
 
 SHORT = {secrecy.ACCESS: "address", secrecy.DIVISION: "time", secrecy.BRANCH: "branch", secrecy.CALL: "call"}
-CERTIFIED, EXPOSED = "certified", "exposed"
+REFUSED = "refused"
+KINDS = {statuses.CUT: "certified in their first cycles alone", statuses.TRAPPED: "to a trap", statuses.VACUOUS: "vacuous",
+         statuses.EXIT_VALUE: "certified with another exit value than 0", REFUSED: "refused"}
 
 
 class Row(NamedTuple):
@@ -25,14 +32,17 @@ class Row(NamedTuple):
     secret: str
     setting: tuple
     values: dict
-    answer: secrecy.Answer
+    answer: Optional[secrecy.Answer]
     image: str
+    touched: Optional[Touched] = None
+    refused: Optional[str] = None
 
     def verdict(self):
-        """`certified`, `certified in the first 1000 cycles` or `exposed`."""
-        if self.answer.shown:
-            return EXPOSED
-        return CERTIFIED + (f" in the first {report.plural(self.answer.end.cycles, 'cycle')}" if self.answer.is_cut else "")
+        """`certified`, `certified in the first 1000 cycles`, `certified, exit 1`, `vacuous`, `exposed`, or `refused K6`."""
+        return self.refused or answered.word(self.answer, self.touched)
+
+    def status(self):
+        return statuses.CUT if self.refused else answered.status(self.answer, self.touched)
 
 
 @cache
@@ -45,10 +55,13 @@ def texts_of(path):
     return Disassembler(image_of(path))
 
 
-def rows(plan):
-    """The rows of all runs that are over, and how many there aren't yet."""
-    done = [run for run in plan.runs if plan.is_done(run)]
-    return [row_of(plan, run) for run in done], len(plan.runs) - len(done)
+def rows(plan, asks):
+    """The rows of all runs that are over, and those that are missing, each with why."""
+    for run in plan.runs:
+        plan.check(run)
+    store = Store(plan, asks)
+    done = [run for run in plan.runs if run.refused or run.id in store.found]
+    return [row_of(plan, run, store) for run in done], [(run, store.why(run)) for run in plan.runs if run not in done]
 
 
 def told_setting(plan, run):
@@ -58,21 +71,33 @@ def told_setting(plan, run):
     return [settings.told(values), *more]
 
 
-def row_of(plan, run):
-    build, program = run.image.split("/")[-2:]
-    try:
-        answer = secrecy.read_answer(text(plan.path(run.result)))
-    except Fault:
-        raise Fault(f"{plan.path(run.result)} is no answer. Remove it, and run again") from None
+def row_of(plan, run, store):
+    build, program = run.origin.split("/")[-2:]
+    answer = None if run.refused else secrecy.read_answer(store.found[run.id])
+    image = plan.path(run.image)
     setting = (run.base, *told_setting(plan, run))
-    return Row(os.path.splitext(program)[0], build, secret_of(run), setting, run.values, answer, run.image)
+    found = None if run.refused else touched_in(image, plan.path(run.description), tuple(run.words[1::2]), certificate.steps_of(answer))
+    return Row(os.path.splitext(program)[0], build, secret_of(image, run.words), setting, run.values, answer, image, found, run.refused)
 
 
-def secret_of(run):
+@cache
+def touched_in(path, description, words, steps):
+    """What the path does first with the bytes of these words: one walk for one memory."""
+    machine = read_description(description)
+    return touched_of(path, machine.base, machine.size, machine.misaligned, words, steps)
+
+
+@cache
+def touched_of(path, base, size, misaligned, words, steps):
+    image = Loaded(path, base, size, misaligned)
+    return look(image, [ranges.named(image, word) for word in words], steps)
+
+
+def secret_of(path, words):
     """The ranges with their symbols: `key, 16 bytes`."""
-    found = [ranges.named(image_of(run.image), word) for word in run.words[1::2]]
-    return "; ".join(f"{image_of(run.image).symbol(each.address) or f'{each.address:08x}'}, {report.plural(each.size, 'byte')}"
-                     for each in found)
+    image = image_of(path)
+    found = [ranges.named(image, word) for word in words[1::2]]
+    return "; ".join(f"{image.symbol(each.address) or f'{each.address:08x}'}, {report.plural(each.size, 'byte')}" for each in found)
 
 
 def where(row):
@@ -81,20 +106,21 @@ def where(row):
     return image.sources.told(pc) or image.symbol(pc) or f"{pc:08x}"
 
 
-def record(row, keys):
+def record(row, keys, cited):
     """A row with a name for each value."""
-    shown, end = row.answer.shown, row.answer.end
+    shown, end = row.answer or (None, None)
     image = image_of(row.image)
     return ({"program": row.program, "build": row.build, "secret": row.secret, "description": row.setting[0]}
             | {key: row.values[key] for key in keys}
-            | {"defence": row.setting[1], "verdict": row.verdict(), "cycles": shown.cycle if shown else end.cycles,
-               "end": "" if shown else end.how, "what": SHORT[shown.what] if shown else "",
+            | {"defence": row.setting[1], "verdict": row.verdict(), "cycles": shown.cycle if shown else end.cycles if end else "",
+               "end": end.how if end else row.refused or "", "loaded": row.touched.loaded if row.touched else "",
+               "overwritten": row.touched.overwritten if row.touched else "", "what": SHORT[shown.what] if shown else "",
                "address": f"{shown.pc:08x}" if shown else "", "instruction": texts_of(row.image).text(shown.pc) if shown else "",
-               "symbol": image.symbol(shown.pc) if shown else "", "line": image.sources.told(shown.pc) if shown else ""})
+               "symbol": image.symbol(shown.pc) if shown else "", "line": image.sources.told(shown.pc) if shown else "", "made_by": cited})
 
 
-def as_csv(found, keys):
-    out, given = io.StringIO(), [record(row, keys) for row in found]
+def as_csv(found, keys, cited):
+    out, given = io.StringIO(), [record(row, keys, cited) for row in found]
     writer = csv.DictWriter(out, list(given[0]) if given else ["program"], lineterminator="\n")
     writer.writeheader()
     writer.writerows(given)
@@ -102,9 +128,12 @@ def as_csv(found, keys):
 
 
 def cell(row):
-    """`certified`, `certified in the first 1000 cycles`, or what shows: ``address, `table.c:9`, cycle 106``."""
-    shown = row.answer.shown
-    return f"**{SHORT[shown.what]}**, `{where(row)}`, cycle {shown.cycle}" if shown else row.verdict()
+    """The verdict, with how many of the bytes are written over before they are loaded; or what shows: ``address, `table.c:9`, cycle 106``."""
+    shown = row.answer and row.answer.shown
+    if shown:
+        return f"**{SHORT[shown.what]}**, `{where(row)}`, cycle {shown.cycle}"
+    over = row.touched and row.touched.overwritten
+    return row.verdict() + (f"; {over} of {row.touched.size} bytes written over" if over else "")
 
 
 def heading(setting, several):
@@ -132,16 +161,19 @@ def line(cells):
 
 def summary(found):
     """How many of each kind."""
-    exposed = sum(row.answer.shown is not None for row in found)
-    cut = sum(row.answer.is_cut for row in found)
-    return f"{len(found) - exposed - cut} certified, {exposed} exposed" + f", {cut} certified in their first cycles alone" * bool(cut)
+    kinds = Counter(kind(row) for row in found)
+    more = [f"{kinds[name]} {text}" for name, text in KINDS.items() if kinds[name]]
+    return ", ".join([f"{kinds[statuses.HOLDS]} certified", f"{kinds[statuses.SHOWS]} exposed", *more])
+
+
+def kind(row):
+    """What a row is counted as: its status, or that it is refused."""
+    return REFUSED if row.refused else row.status()
 
 
 def status(found):
-    """1 where something shows, 3 where nothing does and a budget ended a run, else 0."""
-    if any(row.answer.shown for row in found):
-        return 1
-    return 3 if any(row.answer.is_cut for row in found) else 0
+    """That of the worst row."""
+    return statuses.worst(row.status() for row in found)
 
 
 def files(folder):

@@ -55,7 +55,19 @@ def secrets_of(image, words):
 
 def make(folder, program, asked):
     """The plan of these words."""
-    return plan.make(folder, program, asked, PLAN, lambda image: secrets_of(Image(image), asked.secret))
+    for word in asked.secret:
+        if not any(has(Image(image), word) for image in asked.programs):
+            ranges.named(Image(asked.programs[0]), word)
+    made = plan.make(folder, program, asked, PLAN, lambda image: secrets_of(Image(image), asked.secret))
+    return plan.keep(running.Checked(made, asked.jobs, ASKS, steps=False).checked(), PLAN)
+
+
+def has(image, word):
+    """Whether an image has the symbol of a word."""
+    try:
+        return ranges.named(image, word) is not None
+    except Fault:
+        return False
 
 
 def read(folder):
@@ -63,15 +75,19 @@ def read(folder):
     return plan.read(folder, PLAN)
 
 
-class Certifier(running.Runner):
-    """Asks what isn't answered yet, and keeps the whole answer."""
+class Asks:
+    """The question about secrets, and its whole answer."""
 
-    def words(self, run):
-        return [self.simulator, self.plan.path(run.description), run.image, *run.words, "--cycles", str(self.plan.cycles)]
+    def words(self, made, run):
+        return [made.path(run.description), made.path(run.image), *run.words]
 
     def kept(self, said):
+        text = f"{said.rstrip()}\n"
         try:
-            secrecy.read_answer(said)
+            secrecy.read_answer(text)
         except Fault:
             return None
-        return said
+        return text
+
+
+ASKS = Asks()

@@ -1,12 +1,14 @@
 """The verdict on two images, as text."""
 from typing import NamedTuple
 
+from wadrelwy import statuses
 from wadrelwy.view import difference
 from wadrelwy.view.description import HOLD, OFF, Description
 from wadrelwy.view.disassembly import CALLERS, Disassembler
 from wadrelwy.view.replay import Replay
 from wadrelwy.view.trace import Trace
 
+from . import answered
 from .loaded import Loaded
 from .premises import Premises
 from .simulator import Pair
@@ -16,9 +18,8 @@ from .telling import Telling
 WIDTH = 14
 MOST_LINES = 6
 
-STATUS = {"hidden": 0, "differs": 1, "vacuous": 3, "same": 4, "refuted": 5, "leaks": 6, "certified": 7, "exposed": 8}
-# certified in the first cycles alone
-CUT = 9
+STATUS = {"hidden": statuses.HOLDS, "differs": statuses.SHOWS, "vacuous": statuses.VACUOUS, "same": statuses.SAME, "refuted": statuses.REFUTED,
+          "leaks": statuses.SHOWS, "certified": statuses.HOLDS, "exposed": statuses.SHOWS}
 MEANING = {
     "hidden": "the traces are equal, and proved to be for every two images of this code whose memories agree on what the path loads; "
               "what would have told them apart was held",
@@ -33,11 +34,6 @@ MEANING = {
     "leaks": "the traces aren't equal, though the path loads nothing that differs: under the model `off` an attack shows it, and nothing "
              "promises that it doesn't",
 }
-
-
-def status_of(word, is_cut):
-    """The status of a verdict, where the budget ended a run or didn't."""
-    return CUT if word == "certified" and is_cut else STATUS[word]
 
 
 class Case(NamedTuple):
@@ -73,7 +69,11 @@ class Case(NamedTuple):
         return "same" if answer is None else "exposed" if answer.shown else "certified"
 
     def status(self):
-        return status_of(self.word(), self.pair.is_cut)
+        """That of the word; what is told of runs that their budget ended is told of their first cycles alone."""
+        word = self.word()
+        certified = answered.status(self.asked.answer, None) if word == "certified" else statuses.HOLDS
+        cut = statuses.CUT if self.pair.is_cut and STATUS[word] not in (statuses.SHOWS, statuses.REFUTED) else statuses.HOLDS
+        return statuses.worst([STATUS[word], certified, cut])
 
 
 def lines(case, notation=CALLERS):
@@ -95,7 +95,9 @@ def lines(case, notation=CALLERS):
 
 def within(case):
     """Of how much of the runs the verdict speaks, where it isn't the whole."""
-    return f", in the first {plural(max(end.cycles for end in case.pair.ends), 'cycle')}, of runs that go on" if case.pair.is_cut else ""
+    if case.pair.is_cut:
+        return f", in the first {plural(max(end.cycles for end in case.pair.ends), 'cycle')}, of runs that go on"
+    return answered.how_far(case.asked.answer.end) if case.word() == "certified" else ""
 
 
 def row(name, text):

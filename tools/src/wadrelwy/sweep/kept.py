@@ -1,0 +1,116 @@
+"""What the runs of a folder are made of: copies of the program, of images and of descriptions, each with the first digits of its sha256 in its
+name. So none is taken for another, here or on another machine; and where each comes from is kept, with what it had."""
+import hashlib
+import os
+import re
+import shutil
+import subprocess
+from functools import cache
+from typing import NamedTuple
+
+from wadrelwy import built_programs
+from wadrelwy.view import Fault
+
+DIGITS = 16
+UNUSUAL = re.compile(r"[^A-Za-z0-9._=,+-]+")
+
+
+class Source(NamedTuple):
+    """A file that the plan was made of, and its sha256 then."""
+    path: str
+    sha256: str
+
+
+def content(path):
+    try:
+        with open(path, "rb") as file:
+            return file.read()
+    except OSError as error:
+        raise Fault(f"{path}: {error.strerror}") from None
+
+
+def text(path):
+    try:
+        return content(path).decode()
+    except UnicodeDecodeError:
+        raise Fault(f"{path}: no text, and so no description") from None
+
+
+def write(path, data):
+    """A file as a whole or not at all."""
+    part = f"{path}.{os.getpid()}.part"
+    with open(part, "wb") as file:
+        file.write(data)
+    os.replace(part, path)
+
+
+def sha256(data):
+    return hashlib.sha256(data).hexdigest()
+
+
+def plain(name):
+    """A name that a shell, make and a file system take as it is."""
+    return UNUSUAL.sub("-", name)
+
+
+def source(path):
+    return Source(os.path.abspath(path), sha256(content(path)))
+
+
+def copied(folder, kind, name, ending, data, executable=False):
+    """A copy in the folder, by the name that tells what it has: `images/sort_0123456789abcdef.elf`."""
+    os.makedirs(os.path.join(folder, kind), exist_ok=True)
+    file = os.path.join(kind, f"{plain(name)}_{sha256(data)[:DIGITS]}{ending}")
+    path = os.path.join(folder, file)
+    if not os.path.exists(path) or content(path) != data:
+        write(path, data)
+        if executable:
+            os.chmod(path, 0o755)
+    return file
+
+
+@cache
+def digest_as_it_was(path, *state):
+    return sha256(content(path))
+
+
+def digest(path):
+    """The sha256 of a file, read anew where it isn't as it was when it was read."""
+    try:
+        state = os.stat(path)
+    except OSError as error:
+        raise Fault(f"{path}: {error.strerror}") from None
+    return digest_as_it_was(path, state.st_ino, state.st_size, state.st_mtime_ns, state.st_ctime_ns)
+
+
+def check(folder, files):
+    """Each of these files of the folder has what its name says."""
+    for file in files:
+        told = os.path.splitext(file)[0] if not file.startswith("programs") else file
+        if not digest(os.path.join(folder, file)).startswith(told[-DIGITS:]):
+            raise Fault(f"{os.path.join(folder, file)} isn't what was asked of: its sha256 doesn't begin as its name says. Give the whole "
+                        f"command again")
+
+
+def changed(sources):
+    """The first of these files that is there and isn't as it was; none where each is, or is gone."""
+    return next((each for each in sources if os.path.exists(each.path) and digest(each.path) != each.sha256), None)
+
+
+def said_by(*words, folder=None):
+    """The one line that a command says; none where there is no such command, or it fails."""
+    if shutil.which(words[0]) is None:
+        return None
+    ran = subprocess.run(words, cwd=folder, capture_output=True, text=True, errors="replace", check=False)
+    return ran.stdout.strip().splitlines()[0] if not ran.returncode and ran.stdout.strip() else None
+
+
+def cited(program, name):
+    """The line by which a table is cited: the program by its sha256, the kit's line, and the commit of this tree, where there is one."""
+    commit = said_by("git", "-C", built_programs.ROOT, "rev-parse", "--short=12", "HEAD")
+    edited = commit and said_by("git", "-C", built_programs.ROOT, "status", "--porcelain", "--untracked-files=no")
+    kit = said_by("rt", "version")
+    if kit is None:
+        found = re.search(r"(?m)^Handles: .*`(rattle-\S+ [^`]*)`", text(os.path.join(built_programs.ROOT, "README.md")))
+        kit = found[1] if found else "unknown"
+    return f"{name} sha256 {sha256(content(program))}, kit {kit}, commit {commit or 'none'}" + (" with edits" if edited else "")
