@@ -9,6 +9,9 @@ from material import needs_program, support
 # what answers `pair` by the model and the defence of a description; `{spectre}` is the answer under spectre
 STAND_IN = """#!/usr/bin/python3
 import re, sys
+if sys.argv[1] == "isa":
+    print("end {end} retired 5")
+    sys.exit(0 if "{end}".startswith("exit") else 1)
 text = open(sys.argv[2]).read()
 key = tuple(re.findall(r'^(?:model|defence) = "(\\w+)"', text, re.M))
 assert sys.argv[1] == "pair" and sys.argv[5:] == ["--cycles", "500"], sys.argv
@@ -22,8 +25,8 @@ sys.exit(0 if "\\nequal" in said[key] else 1)
 HEADING = ["| Victim | Promised | `off` | `spectre` | `futuristic` | `spectre`, `hold` | `futuristic`, `hold` |", "|---|---|---|---|---|---|---|"]
 
 
-def stand_in(spectre):
-    path = support.file_of("stand_in", STAND_IN.replace("{spectre}", spectre.replace("\n", "\\n")).encode())
+def stand_in(spectre, end="exit 0"):
+    path = support.file_of("stand_in", STAND_IN.replace("{spectre}", spectre.replace("\n", "\\n")).replace("{end}", end).encode())
     os.chmod(path, 0o755)
     return path
 
@@ -34,8 +37,8 @@ def rows(told):
 
 
 class Table(unittest.TestCase):
-    def table(self, spectre):
-        words = "--program", stand_in(spectre), "--compiler", "none", "--cycles", "500", "--only", "tainted_divisor"
+    def table(self, spectre, end="exit 0"):
+        words = "--program", stand_in(spectre, end), "--compiler", "none", "--cycles", "500", "--only", "tainted_divisor"
         return material.command("defences", *words)
 
     def test_text(self):
@@ -43,6 +46,19 @@ class Table(unittest.TestCase):
         row = ("| `tainted_divisor.s` | `spectre` | **unequal**, 20 | equal, 20 (+0) | **unequal**, 30 (+10) | equal, 19 (-1) | "
                "equal, 20 (+0) |")
         self.assertEqual((told.returncode, told.stdout.splitlines()[:3], told.stderr), (0, [*HEADING, row], ""))
+
+    def test_other_ends(self):
+        """A run that its budget or a trap ended is told as such, and never as one that costs nothing."""
+        told = self.table("premise yes\nequal\nretired 4 cycles 500\n")
+        row = ("| `tainted_divisor.s` | `spectre` | **unequal**, 20 | equal, cut at 500 | **unequal**, 30 (+10) | equal, 19 (-1) | "
+               "equal, 20 (+0) |")
+        self.assertEqual((told.returncode, told.stdout.splitlines()[2], told.stderr), (3, row, ""))
+        self.assertIn("\n`cut at N`: the budget ended the run in cycle N.", told.stdout)
+        told = self.table("premise yes\nequal\nretired 5 cycles 20\n", "trap 3 00010010")
+        row = "| `tainted_divisor.s` | `spectre` | **unequal**, trap in 20 | equal, trap in 20 | **unequal**, trap in 30 | equal, trap in 19 | "
+        self.assertEqual((told.returncode, told.stderr), (12, ""))
+        self.assertTrue(told.stdout.splitlines()[2].startswith(row))
+        self.assertNotIn("Faster", told.stdout)
 
     def test_images_of_ones_own(self):
         """A row for each pair under one description, in which a value is set; what is faster than without protection is explained."""

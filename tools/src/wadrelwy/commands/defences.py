@@ -6,18 +6,19 @@ or for each pair of images of your own.
 
 Each victim is run with two secrets under five settings: the model off; the defence stt under spectre and under futuristic; and the defence
 hold under both. A cell says whether the two traces are equal, and in how many cycles the first run ends; behind it stands how many more that
-are than under off. `Promised` is where the premises of noninterference are met: yes, no, or under which models alone; off promises nothing.
+are than under off. `cut at N` says that the budget ended the run in cycle N, and `trap in N` that a trap did: what such a run costs isn't
+known. `Promised` is where the premises of noninterference are met: yes, no, or under which models alone; off promises nothing.
 The programs in C that are no victims have rows too, of their cycles alone.
 
 The victims in assembly are run under the description of --assembly, examples/core_passing.toml without it; their second secret is written into
 a copy of the image. Those in C are built by make with the compiler, and run under that of --large, examples/large_passing.toml. Of either
-description model and defence are replaced. NAME is a part of a victim's name. N is 1000000 without --cycles. P is the simulator, as
+description model and defence are replaced. NAME is a part of a victim's name. N is 4294967295 without --cycles, so runs go to their end. P is the simulator, as
 wadrelwy verdict finds it. Without make or the compiler the victims in C are left out, with a word on standard error.
 
 A and B are two images that differ in nothing but a secret; an image without one is given twice. They are run under the description of --large
 alone. --set gives a key of the descriptions another value, as --set core.rob=64.
 
-The status is 0; 16 where a defence that promises equal traces doesn't keep it, which contradicts what is proved; 2 for a refusal."""
+The status is 0; 3 where the budget ended a run, 12 where a trap did; 16 where a defence that promises equal traces doesn't keep it, which contradicts what is proved; 2 for a refusal."""
 import os
 import re
 import shutil
@@ -32,6 +33,7 @@ from wadrelwy.sweep.kept import text
 from wadrelwy.sweep.plan import names_of
 from wadrelwy.verdict import simulator
 from wadrelwy.view.description import HOLD, OFF
+from wadrelwy.view.trace import read_end
 
 EXAMPLES = os.path.join(built_programs.ROOT, "examples")
 SETTINGS = [(setting[settings.MODEL], setting[settings.DEFENCE]) for setting in settings.DEFENCES]
@@ -56,7 +58,7 @@ def words(parser):
     parser.add_argument("--large", default=os.path.join(EXAMPLES, "large_passing.toml"))
     parser.add_argument("--compiler", choices=[*COMPILERS, "none"], default="gcc")
     parser.add_argument("--only", default="")
-    parser.add_argument("--cycles", type=int, default=1000000)
+    parser.add_argument("--cycles", type=int, default=4294967295)
     parser.add_argument("--program")
 
 
@@ -130,11 +132,44 @@ def set_values(words):
     return {key: value for key, [value] in values.items()}
 
 
+class Run(NamedTuple):
+    """What the simulator says of two images under a setting, and how the first one's run ended."""
+    answer: simulator.Answer
+    end: str
+
+    @property
+    def cycles(self):
+        return self.answer.cycles
+
+    @property
+    def exits(self):
+        return self.end.startswith("exit ")
+
+    def status(self):
+        return statuses.CUT if self.end == "budget" else statuses.HOLDS if self.exits else statuses.TRAPPED
+
+
 def compared(program, victim, values, cycles, folder):
-    """What the simulator says of the two images under each setting."""
+    """The runs of the two images under each setting."""
+    answers = []
     for setting in settings.DEFENCES:
         described = with_setting(victim.description, values | setting, folder)
-        yield simulator.answer(simulator.run(program, "pair", described, *victim.images, "--cycles", str(cycles)))
+        try:
+            answers.append(simulator.answer(simulator.run(program, "pair", described, *victim.images, "--cycles", str(cycles))))
+        except Fault as fault:
+            raise Fault(str(fault).replace(described, victim.description)) from None
+    steps = min(max(answer.retired for answer in answers) + 1, 4294967295)
+    said = simulator.run(program, "isa", victim.images[0], "--steps", str(steps), "--desc", described)
+    *_, last = said.splitlines() or [""]
+    end = read_end(f"{last} cycles 0")
+    return [Run(answer, ended(answer, end, cycles)) for answer in answers]
+
+
+def ended(answer, end, cycles):
+    """How a run ended: as on the instruction set, unless its budget ended it before. One that traps retires as much before that cycle as in
+    it, so what fills its budget is taken as ended by that."""
+    cut = answer.retired < end.retired or end.how == "budget" or end.how.startswith("trap ") and answer.cycles == cycles
+    return "budget" if cut else end.how
 
 
 # ---- The table
@@ -149,34 +184,46 @@ def row(cells):
     return "| " + " | ".join(cells) + " |"
 
 
-def line(victim, answers):
+def line(victim, runs):
     """The row of a victim."""
-    base, secret = answers[0].cycles, len(set(victim.images)) > 1
-    cells = [told(answer) * secret + f"{answer.cycles}" + (f" ({answer.cycles - base:+})" if place else "")
-             for place, answer in enumerate(answers)]
-    return row([f"`{victim.name}`", promised(answers) if secret else "no secret", *cells])
+    secret = len(set(victim.images)) > 1
+    cells = [told(run.answer) * secret + took(run, runs[0] if place else None) for place, run in enumerate(runs)]
+    return row([f"`{victim.name}`", promised(runs) if secret else "no secret", *cells])
+
+
+def took(run, base):
+    """How long a run took, and how much longer than without protection, where both exited."""
+    if not run.exits:
+        return f"{'cut at' if run.end == 'budget' else 'trap in'} {run.cycles}"
+    return f"{run.cycles}" + (f" ({run.cycles - base.cycles:+})" if base is not None and base.exits else "")
 
 
 def told(answer):
     return "equal, " if answer.unequal is None else "**unequal**, "
 
 
-def promised(answers):
+def promised(runs):
     """Under which of the models that protect the premises are met."""
-    models = {model: answer.premise for (model, _), answer in zip(SETTINGS, answers) if model != OFF}
+    models = {model: run.answer.premise for (model, _), run in zip(SETTINGS, runs) if model != OFF}
     met = [model for model, premise in models.items() if premise]
     return "yes" if len(met) == len(models) else " ".join(f"`{model}`" for model in met) or "no"
 
 
-def broken(answers):
+def broken(runs):
     """Whether traces that are proved equal aren't."""
-    return any(answer.premise and answer.unequal is not None and model != OFF for (model, _), answer in zip(SETTINGS, answers))
+    return any(run.answer.premise and run.answer.unequal is not None and model != OFF for (model, _), run in zip(SETTINGS, runs))
 
 
-def faster(rows):
-    """What explains a defence that takes fewer cycles than none, where the table has one."""
-    named = [victim.name for victim, answers in rows if any(answer.cycles < answers[0].cycles for answer in answers)]
-    return [f"\nFaster than without protection: {', '.join(named)}. {settings.FASTER}"] if named else []
+def notes(rows):
+    """What has to be said of the table: of a defence that takes fewer cycles than none, and of runs that didn't exit."""
+    named = [victim.name for victim, runs in rows if runs[0].exits and any(run.exits and run.cycles < runs[0].cycles for run in runs)]
+    found = [f"\nFaster than without protection: {', '.join(named)}. {settings.FASTER}"] if named else []
+    ends = {run.status() for _, runs in rows for run in runs}
+    if statuses.CUT in ends:
+        found.append("\n`cut at N`: the budget ended the run in cycle N. What comes behind isn't looked at, and what it costs isn't known.")
+    if statuses.TRAPPED in ends:
+        found.append("\n`trap in N`: a trap ended the run in cycle N. What comes behind isn't looked at, and what it costs isn't known.")
+    return found
 
 
 def victims_of(asked, folder):
@@ -188,18 +235,20 @@ def victims_of(asked, folder):
 
 def table(asked, program, folder):
     """Writes the table row by row, and answers the status."""
-    values, rows, status = set_values(asked.set), [], statuses.HOLDS
+    values, rows, found = set_values(asked.set), [], [statuses.HOLDS]
     victims = victims_of(asked, folder)
-    print(*heading(), sep="\n", flush=True)
+    if not victims:
+        raise Fault(f"no victim has `{asked.only}` in its name")
     for victim in victims:
-        rows.append((victim, list(compared(program, victim, values, asked.cycles, folder))))
-        print(line(*rows[-1]), flush=True)
-        if broken(rows[-1][1]):
+        runs = compared(program, victim, values, asked.cycles, folder)
+        print(*([] if rows else heading()), line(victim, runs), sep="\n", flush=True)
+        rows.append((victim, runs))
+        found += [run.status() for run in runs]
+        if broken(runs):
             print(f"wadrelwy defences: {victim.name}: traces that are proved equal aren't: please report it", file=sys.stderr)
-            status = statuses.REFUTED
-    for told in faster(rows):
-        print(told)
-    return status
+            found.append(statuses.REFUTED)
+    print(*notes(rows), sep="\n", end="\n" * bool(notes(rows)))
+    return statuses.worst(found)
 
 
 def main(asked):

@@ -9,7 +9,7 @@ from wadrelwy.view import Fault
 from wadrelwy.view.trace import read_end
 
 RAN = (0, 1, 3)
-ANSWER = re.compile(r"premise (yes|no)\n(?:equal|unequal (end|\d+))\nretired \d+ cycles (\d+)\n")
+ANSWER = re.compile(r"premise (yes|no)\n(?:equal|unequal (end|\d+))\nretired (\d+) cycles (\d+)\n")
 TAIL = 200
 
 
@@ -57,10 +57,11 @@ class Pair(NamedTuple):
 
 
 class Answer(NamedTuple):
-    """The three lines of `pair`: the premises, the first unequal cycle or none, and the cycles of the first run."""
+    """The three lines of `pair`: the premises, the first unequal cycle or none, and what the first run retired in how many cycles."""
     premise: bool
     unequal: Optional[int]
     cycles: int
+    retired: int = 0
 
 
 def started(program, words, out):
@@ -85,9 +86,9 @@ def run(program, *words):
 
 def compare(program, description, one, two, cycles):
     """What the simulator says of two images: how they compare, and their traces."""
-    premise, unequal, _ = answer(run(program, "pair", description, one, two, "--cycles", str(cycles)), program)
+    said = answer(run(program, "pair", description, one, two, "--cycles", str(cycles)), program)
     traces = (Written(program, "trace", description, image, "--cycles", str(cycles)) for image in (one, two))
-    return Pair(*traces, premise, unequal)
+    return Pair(*traces, said.premise, said.unequal)
 
 
 def answer(text, program="the program"):
@@ -95,6 +96,6 @@ def answer(text, program="the program"):
     said = ANSWER.fullmatch(text)
     if said is None:
         raise Fault(f"{program} doesn't answer `pair` as the simulator does: is it the simulator?")
-    premise, first, cycles = said.groups()
+    premise, first, retired, cycles = said.groups()
     unequal = None if first is None else int(cycles if first == "end" else first)
-    return Answer(premise == "yes", unequal, int(cycles))
+    return Answer(premise == "yes", unequal, int(cycles), int(retired))
