@@ -15,6 +15,20 @@ static inline void put_word(u8 *bytes, u32 word) {
     bytes[i] = word >> 8 * i;
 }
 
+/* All ones of the bit 1, and 0 of 0. The empty instruction keeps from the compiler that it is one bit: clang makes a branch of that. */
+static inline u32 mask_of(u32 bit) {
+  asm("" : "+r"(bit));
+  return -bit;
+}
+
+/* 1 where two texts are equal, else 0: all differences are gathered, and 0 less 1 alone has a bit above the eighth. */
+static inline u32 are_equal(const u8 *a, const u8 *b, u32 count) {
+  u32 unequal = 0;
+  for (u32 i = 0; i < count; i++)
+    unequal |= a[i] ^ b[i];
+  return (unequal - 1) >> 8 & 1;
+}
+
 /* Puts out the bytes of a result by one call, which makes one `out` line of the report, and answers main's value: 0. */
 static inline int told(const u8 *bytes, u32 count) {
   write(1, bytes, count);
