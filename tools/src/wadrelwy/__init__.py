@@ -10,4 +10,12 @@
 
 
 class Fault(Exception):
-    """Something that the user has to be told; the command ends with it."""
+    """Something that the user has to be told; the command ends with it, and with this status (statuses.py): refused."""
+
+    status = 2
+
+
+class Unwritten(Fault):
+    """Standard output couldn't be written whole."""
+
+    status = 7

@@ -6,11 +6,19 @@ import sys
 import traceback
 from typing import NoReturn, Optional, Sequence
 
-from wadrelwy import Fault, statuses
+from wadrelwy import Fault, Unwritten, statuses
 from wadrelwy.view import faster
 
 # the commands by what one wants, each in a line
 GROUPS = {
+    "Run a program": {
+        "run": "on a core of a description: what it puts out, how it ends, and in how many cycles",
+        "trace": "the same, with all that happens in each cycle",
+        "isa": "by the instruction set alone, which is a hundred times as fast",
+        "bench": "`run` on an image that is made of a seed",
+        "pair": "two images: are their traces equal, and proved to be",
+        "secrets": "one image: does something show that may depend on secret bytes",
+    },
     "Does the trace tell the secret?": {
         "verdict": "of two images, or of one and its secret: may the traces differ, and do they",
         "certify": "a table of programs by compilers, levels and defences: certified, or what shows first",
@@ -65,6 +73,8 @@ def top() -> argparse.ArgumentParser:
 
 def done(words: Sequence[str]) -> int:
     """Does what the words ask for, and answers the status."""
+    if not words:
+        raise Fault("which command? `wadrelwy --help` lists them")
     name = top().parse_args(words[:1]).command
     if name in LONG:
         faster.by_compiled(words[1:])
@@ -77,10 +87,10 @@ def name_of(words: Sequence[str]) -> str:
     return f"wadrelwy {words[0]}" if words and words[0] in COMMANDS else "wadrelwy"
 
 
-def told(name: str, text: str) -> int:
-    """Tells a refusal, and answers its status."""
-    print(f"{name}: {text}", file=sys.stderr)
-    return statuses.REFUSED
+def told(name: str, fault: Fault) -> int:
+    """Tells a refusal in one line, and answers its status."""
+    print(f"{name}: {' '.join(str(fault).split())}", file=sys.stderr)
+    return fault.status
 
 
 def answered(words: Sequence[str]) -> int:
@@ -94,11 +104,13 @@ def answered(words: Sequence[str]) -> int:
         sys.stdout.flush()
         return int(ended.code or 0)
     except Fault as fault:
-        return told(name, str(fault))
+        return told(name, fault)
     except BrokenPipeError:
         raise
     except OSError as error:
-        return told(name, f"{error.filename}: {error.strerror}" if error.filename else str(error.strerror or error))
+        if error.filename:
+            return told(name, Fault(f"{error.filename}: {error.strerror}"))
+        return told(name, Unwritten(f"standard output: {error.strerror}"))
 
 
 def main(words: Optional[Sequence[str]] = None) -> int:
@@ -117,8 +129,9 @@ def main(words: Optional[Sequence[str]] = None) -> int:
         if os.environ.get(TRACEBACK):
             traceback.print_exc()
         place = traceback.extract_tb(error.__traceback__)[-1]
-        return told("wadrelwy", f"an error of the tool itself, {type(error).__name__}: {error}, in {os.path.basename(place.filename)}, line "
-                                f"{place.lineno}; please report it, with what {TRACEBACK}=1 shows")
+        return told(name_of(words), Fault(f"an error of the tool itself, {type(error).__name__}: {error}, in "
+                                          f"{os.path.basename(place.filename)}, line {place.lineno}; please report it, with what "
+                                          f"{TRACEBACK}=1 shows"))
 
 
 if __name__ == "__main__":

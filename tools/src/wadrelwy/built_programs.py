@@ -1,22 +1,54 @@
-"""The built programs, which the tools ask."""
+"""The built programs, which the tools ask, and where they are looked for."""
 import os
+from typing import Iterator, Optional
+
+from wadrelwy import Fault
 
 ROOT = os.path.dirname(os.path.dirname(os.path.dirname(os.path.dirname(os.path.realpath(__file__)))))
 SIMULATOR, SECRETS = "stt_cli", "stt_secrets"
+OTHER = {SIMULATOR: SECRETS, SECRETS: SIMULATOR}
+BUILD = {SIMULATOR: 'docs/using.md, "Before you start"', SECRETS: 'docs/secrets.md, "Before you ask"'}
 
 
-def program(name, named=None):
-    """The program named, or that of its variable (STT_CLI, STT_SECRETS), or the built one of this repository; none where there is no such
-    file."""
-    path = named or os.environ.get(name.upper()) or os.path.join(ROOT, "crates", name, "out", name)
-    return path if os.path.isfile(path) and os.access(path, os.X_OK) else None
+def beside(name: str, other: str) -> Iterator[str]:
+    """Where a program may stand beside the other: in its folder, or where a tree builds each in a folder of its own."""
+    yield os.path.join(os.path.dirname(other), name)
+    crate = os.path.dirname(os.path.dirname(other))
+    if os.path.basename(crate) == OTHER[name]:
+        yield os.path.join(os.path.dirname(crate), name, "out", name)
 
 
-def simulator(named=None):
+def places(name: str, named: Optional[str]) -> Iterator[str]:
+    """Where a program is looked for: the one that is named alone; else that of its variable (STT_CLI, STT_SECRETS) alone; else beside
+    that of the other's variable, and the built one of this tree."""
+    if named or os.environ.get(name.upper()):
+        yield named or os.environ[name.upper()]
+        return
+    other = os.environ.get(OTHER[name].upper())
+    if other:
+        yield from beside(name, os.path.abspath(other))
+    yield os.path.join(ROOT, "crates", name, "out", name)
+
+
+def program(name: str, named: Optional[str] = None) -> Optional[str]:
+    """The program of this name, in the first place that has it; none where none has."""
+    return next((path for path in places(name, named) if os.path.isfile(path) and os.access(path, os.X_OK)), None)
+
+
+def simulator(named: Optional[str] = None) -> Optional[str]:
     """The simulator: `program` of stt_cli."""
     return program(SIMULATOR, named)
 
 
-def secrets(named=None):
+def secrets(named: Optional[str] = None) -> Optional[str]:
     """What looks for secrets: `program` of stt_secrets."""
     return program(SECRETS, named)
+
+
+def needed(name: str, named: Optional[str] = None) -> str:
+    """The program of this name; a refusal where there is none, with the places where it was looked for."""
+    found = program(name, named)
+    if found is None:
+        raise Fault(f"no program {name} at {' or '.join(places(name, named))}: build it ({BUILD[name]}), or name it by --program or "
+                    f"{name.upper()}")
+    return found

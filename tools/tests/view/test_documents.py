@@ -50,7 +50,7 @@ class Page(unittest.TestCase):
 class Pictures(unittest.TestCase):
     def test_they_are_drawn_as_they_stand(self):
         with tempfile.TemporaryDirectory() as folder:
-            command = [sys.executable, os.path.join(support.ROOT, "tools", "pictures"), support.PROGRAM, folder]
+            command = [sys.executable, os.path.join(support.ROOT, "tools", "pictures"), folder, "--program", support.PROGRAM]
             subprocess.run(command, check=True, capture_output=True, timeout=120)
             self.assertEqual(sorted(os.listdir(folder)), sorted(os.listdir(PICTURES)))
             for name in os.listdir(folder):

@@ -5,7 +5,7 @@ import os
 import sys
 from itertools import islice
 
-from wadrelwy import Fault
+from wadrelwy import Fault, Unwritten
 from wadrelwy.view import annotate, compare, difference, drawing, index, konata, listing, numbers, o3, page, stack, stats, why
 from wadrelwy.view.description import read_description
 from wadrelwy.view.disassembly import CALLERS, KINDS, MANUAL, Disassembler
@@ -223,7 +223,7 @@ def chained(held, lines):
     return (yield from lines)
 
 
-def write(lines, file, name="standard output"):
+def write(lines, file, name=""):
     """Writes the lines, and answers the status that stands behind them."""
     try:
         while True:
@@ -236,4 +236,4 @@ def write(lines, file, name="standard output"):
     except BrokenPipeError:
         raise
     except OSError as error:
-        raise Fault(f"{name}: {error.strerror}") from None
+        raise (Fault(f"{name}: {error.strerror}") if name else Unwritten(f"standard output: {error.strerror}")) from None

@@ -1,6 +1,5 @@
 """An image as the simulator loads it: besides code and symbols its entry and all of memory (docs/formats.md, "Images")."""
-from elftools.elf.elffile import ELFFile
-
+from wadrelwy.elf import ELFFile
 from wadrelwy.view import Fault
 from wadrelwy.view.image import Image
 

@@ -1,6 +1,5 @@
 """Copies of an image with other bytes: other values of a secret."""
-from elftools.elf.elffile import ELFFile
-
+from wadrelwy.elf import ELFFile
 from wadrelwy.view import Fault
 
 

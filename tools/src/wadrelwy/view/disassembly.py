@@ -8,11 +8,6 @@ import shutil
 import subprocess
 import tempfile
 
-try:
-    import capstone
-except ModuleNotFoundError:
-    capstone = None
-
 OBJDUMPS = ("riscv64-unknown-elf-objdump", "riscv32-unknown-elf-objdump", "riscv64-linux-gnu-objdump")
 CALLERS, MANUAL, KINDS = "abi", "manual", "kinds"
 
@@ -103,7 +98,11 @@ class Disassembler:
 
 
 def riscv_engine():
-    """Capstone for RV32, if this capstone knows it."""
+    """Capstone for RV32, if it is there and knows it. It is asked for only where it is needed, as it takes a second to come in."""
+    try:
+        import capstone
+    except ModuleNotFoundError:
+        return None
     if not hasattr(capstone, "CS_ARCH_RISCV"):
         return None
     engine = capstone.Cs(capstone.CS_ARCH_RISCV, capstone.CS_MODE_RISCV32)

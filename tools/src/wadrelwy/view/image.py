@@ -2,10 +2,7 @@
 import bisect
 from functools import cached_property
 
-from elftools.common.exceptions import ELFError
-from elftools.elf.constants import P_FLAGS
-from elftools.elf.elffile import ELFFile
-
+from wadrelwy.elf import ELFError, ELFFile, P_FLAGS
 from wadrelwy.riscv.kinds import instruction_of
 
 from . import Fault

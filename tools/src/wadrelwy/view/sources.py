@@ -7,9 +7,7 @@ import bisect
 import os
 from typing import NamedTuple
 
-from elftools.common.exceptions import DWARFError, ELFError
-from elftools.construct import Array, ConstructError
-from elftools.elf.elffile import ELFFile
+from wadrelwy.elf import Array, ConstructError, DWARFError, ELFError, ELFFile
 
 from . import Fault
 

@@ -1,0 +1,160 @@
+"""The one door: what it lists, the help and the refusals of each command, where the built programs are looked for, and the statuses."""
+import os
+import re
+import subprocess
+import sys
+import tempfile
+import unittest
+from unittest import mock
+
+import support
+from wadrelwy import built_programs, statuses
+from wadrelwy.__main__ import COMMANDS, main
+from wadrelwy.commands.view import SUBCOMMANDS
+
+# the developers' commands, which have a help of their own
+DEVELOPERS = [os.path.join(support.ROOT, "tools", *name.split("/")) for name in (
+    "compile", "pictures", "test", "documents/believed", "documents/calls", "documents/check", "documents/pipeline", "documents/premises",
+    "documents/wrap", "evaluate/write", "generate/generate", "hostile/run", "refuse-memory/run", "speed/measure", "speed/table",
+    "unaligned/run")]
+TWO_FILES = [support.example("core.toml"), support.example("bounds_check.elf")]
+WRONG = [[], ["nothing"], ["run"], ["run", "a"], ["run", "a", "b", "c"], ["run", *TWO_FILES, "--cycles", "0"],
+         ["run", *TWO_FILES, "--cycles", "4294967296"], ["run", *TWO_FILES, "--cycles", "x"], ["isa", TWO_FILES[1], "--steps", "-1"],
+         ["bench", TWO_FILES[0], "--seed", "x", "--blocks", "1"], ["secrets", *TWO_FILES], ["verdict", *TWO_FILES],
+         ["verdict", *TWO_FILES, "--cycles", "x"], ["certify"], ["certify", "f", "--levels", "9"], ["draw", "/nowhere/at/all"],
+         ["draw", "f", "--draws", "0"], ["defences", "one"], ["defences", "--set", "x"], ["sweep", "/nowhere/at/all"],
+         ["sweep", "f", "--jobs", "0"], ["sweep", "f", "--programs", "x"], ["view"], ["view", "list"], ["view", "list", "x"],
+         ["view", "nothing"], ["path", "log"], ["path", "log", "/nowhere/at/all"], ["path", "log", support.ROOT], ["-x"]]
+
+
+def run(*words, program=support.TOOL, **more):
+    return subprocess.run([sys.executable, program, *words], capture_output=True, text=True, timeout=60, **more)
+
+
+class Help(unittest.TestCase):
+    def test_all_are_listed_in_a_line(self):
+        told = run("--help")
+        self.assertEqual((told.returncode, told.stderr), (0, ""))
+        for name in COMMANDS:
+            self.assertEqual(len(re.findall(rf"(?m)^  {name} +\S", told.stdout)), 1, name)
+
+    def test_each_command_has_one(self):
+        for words in [[name] for name in COMMANDS] + [["view", name] for name in SUBCOMMANDS]:
+            with self.subTest(words=words):
+                told = run(*words, "--help")
+                self.assertEqual((told.returncode, told.stderr), (0, ""))
+                self.assertTrue(told.stdout.startswith(f"usage: wadrelwy {' '.join(words)} "), told.stdout)
+
+    def test_each_of_the_developers_has_one(self):
+        for program in DEVELOPERS:
+            with self.subTest(program=program):
+                told = run("--help", program=program)
+                self.assertEqual((told.returncode, told.stderr), (0, ""))
+                self.assertTrue(told.stdout.startswith("usage: "), told.stdout)
+
+    def test_without_the_package_that_reads_images(self):
+        """The help is there; an image is refused in one line, which says what to install."""
+        with tempfile.TemporaryDirectory() as folder:
+            os.mkdir(os.path.join(folder, "elftools"))
+            with open(os.path.join(folder, "elftools", "__init__.py"), "w", encoding="utf-8") as file:
+                file.write("raise ModuleNotFoundError(name='elftools')\n")
+            with_none = {"env": os.environ | {"PYTHONPATH": folder}}
+            self.assertEqual(run("verdict", "--help", **with_none).returncode, 0)
+            told = run("path", "log", TWO_FILES[1], **with_none)
+        self.assertEqual((told.returncode, told.stdout, told.stderr.count("\n")), (2, "", 1))
+        self.assertIn("apt-get install python3-pyelftools", told.stderr)
+
+
+class Refusals(unittest.TestCase):
+    def test_wrong_words(self):
+        """One line, status 2, nothing on standard output, and no traceback."""
+        for words in WRONG:
+            with self.subTest(words=words):
+                told = run(*words)
+                self.assertEqual((told.returncode, told.stdout, told.stderr.count("\n")), (2, "", 1), told.stderr)
+                self.assertTrue(told.stderr.startswith("wadrelwy"), told.stderr)
+
+    def test_an_error_of_the_tool_is_one_line(self):
+        with mock.patch("wadrelwy.__main__.done", side_effect=TypeError("a\nb")), mock.patch("sys.stderr") as screen:
+            self.assertEqual(main(["run"]), statuses.REFUSED)
+        told = "".join(call.args[0] for call in screen.write.call_args_list)
+        self.assertRegex(told, r"^wadrelwy run: an error of the tool itself, TypeError: a b, in .*, line \d+; please report it, .*\n$")
+
+    def test_a_text_that_cant_be_written(self):
+        for words in (["--help"], ["verdict", "--help"], ["path", "log", TWO_FILES[1]]):
+            with open("/dev/full", "w", encoding="ascii") as full:
+                told = subprocess.run([sys.executable, support.TOOL, *words], stdout=full, stderr=subprocess.PIPE, text=True, timeout=60)
+            self.assertEqual((told.returncode, told.stderr.count("\n")), (statuses.UNWRITTEN, 1), told.stderr)
+            self.assertIn("standard output: No space left on device", told.stderr)
+
+    def test_a_reader_that_goes_away(self):
+        reading, writing = os.pipe()
+        os.close(reading)
+        with os.fdopen(writing, "w") as gone:
+            told = subprocess.run([sys.executable, support.TOOL, "path", "log", TWO_FILES[1]], stdout=gone, stderr=subprocess.PIPE, text=True,
+                                  timeout=60)
+        self.assertEqual((told.returncode, told.stderr), (statuses.UNWRITTEN, ""))
+
+
+class Programs(unittest.TestCase):
+    """--program, then the variable, then beside the other's, then the one that is built here."""
+
+    def setUp(self):
+        folder = tempfile.TemporaryDirectory()
+        self.addCleanup(folder.cleanup)
+        self.folder = folder.name
+        self.here = self.made("here/crates/stt_cli/out/stt_cli")
+        self.made("here/crates/stt_secrets/out/stt_secrets")
+        patched = mock.patch.object(built_programs, "ROOT", os.path.join(self.folder, "here"))
+        patched.start()
+        self.addCleanup(patched.stop)
+
+    def made(self, name):
+        path = os.path.join(self.folder, name)
+        os.makedirs(os.path.dirname(path), exist_ok=True)
+        with open(path, "w", encoding="ascii") as file:
+            file.write("#!/bin/sh\n")
+        os.chmod(path, 0o755)
+        return path
+
+    def found(self, name, named=None, **variables):
+        with mock.patch.dict(os.environ, variables):
+            for variable in {"STT_CLI", "STT_SECRETS"} - set(variables):
+                os.environ.pop(variable, None)
+            return built_programs.program(name, named)
+
+    def test_in_turn(self):
+        named, by_variable = self.made("named/other"), self.made("there/stt_cli")
+        self.assertEqual(self.found("stt_cli", named, STT_CLI=by_variable), named)
+        self.assertEqual(self.found("stt_cli", STT_CLI=by_variable), by_variable)
+        self.assertEqual(self.found("stt_cli"), self.here)
+
+    def test_beside_the_other(self):
+        for other, wanted in (("there/stt_cli", "there/stt_secrets"), ("tree/crates/stt_cli/out/stt_cli", "tree/crates/stt_secrets/out/stt_secrets")):
+            other, wanted = self.made(other), self.made(wanted)
+            self.assertEqual(self.found("stt_secrets", STT_CLI=other), wanted)
+            self.assertEqual(self.found("stt_cli", STT_SECRETS=wanted), other)
+
+    def test_one_that_is_named_and_not_there_is_no_other(self):
+        self.assertIsNone(self.found("stt_cli", "/nowhere/at/all"))
+        self.assertIsNone(self.found("stt_cli", STT_CLI="/nowhere/at/all"))
+        with self.assertRaisesRegex(Exception, r"^no program stt_cli at /nowhere/at/all: build it .* by --program or STT_CLI$"):
+            built_programs.needed("stt_cli", "/nowhere/at/all")
+
+
+class Statuses(unittest.TestCase):
+    def test_worst(self):
+        self.assertEqual(statuses.worst([]), 0)
+        self.assertEqual(statuses.worst([statuses.HOLDS, statuses.PUBLISHED, statuses.CUT, statuses.SAME]), statuses.CUT)
+        self.assertEqual(statuses.worst([statuses.SHOWS, statuses.REFUTED]), statuses.REFUTED)
+
+    def test_the_documents_table(self):
+        """docs/using.md has a row for each number of the module, and for no other."""
+        with open(os.path.join(support.ROOT, "docs", "using.md"), encoding="utf-8") as file:
+            section = file.read().split("\n## Statuses of the tools\n")[1].split("\n## ")[0]
+        rows = {int(number) for row in re.findall(r"(?m)^\| (\d[^|]*) \|", section) for number in re.findall(r"\d+", row)}
+        self.assertEqual(rows, {value for name, value in vars(statuses).items() if name.isupper() and isinstance(value, int)})
+
+
+if __name__ == "__main__":
+    unittest.main()
