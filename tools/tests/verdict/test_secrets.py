@@ -12,7 +12,7 @@ from types import SimpleNamespace
 import material  # finds the modules below
 from wadrelwy import built_programs
 from material import BOUND_0, CORE, SECRET, command, gadget, support
-from wadrelwy.verdict import certifying, judge, premises, ranges, report, secrecy, simulator
+from wadrelwy.verdict import certifying, judge, premises, ranges, report, secrecy, simulator, wrong_path
 from wadrelwy.verdict.ranges import Range
 from wadrelwy.view import Fault
 from wadrelwy.view.description import read_description
@@ -173,6 +173,65 @@ class OneImage(unittest.TestCase):
             told = command("verdict", CORE, *words)
             self.assertEqual((told.returncode, told.stdout), (2, ""))
             self.assertIn(note, told.stderr)
+
+
+# a branch of serial 3, entries behind it, and a load that passes a store
+LINES = """1 fet:00010000
+2 ren:2:00010000 ren:3:00010004 ren:4:00010020
+3 ren:5:00010024 alu:2
+4 ld:5:0001f000:m done:3
+5 RES
+6 CLR
+7 ret:2 ret:3 ret:4 ret:5
+end exit 0 retired 6 cycles 7
+"""
+
+
+class Fates(unittest.TestCase):
+    """On the path or on a wrong one, and what led there."""
+
+    def fate(self, serial=5, cycle=4, pc=0x10024, **lines):
+        text = LINES
+        for name in ("RES", "CLR"):
+            text = text.replace(name, lines.get(name, "alu:4"))
+        return wrong_path.Scan(serial, cycle, pc).fate(text.splitlines(keepends=True))
+
+    def test_kinds(self):
+        self.assertEqual(self.fate(), ("path", None, None))
+        self.assertEqual(self.fate(RES="res:3:T bp:1:2 sq:7"), ("mispredicted", 0x10004, 0x10020))
+        self.assertEqual(self.fate(serial=3, cycle=5, pc=0x10004, RES="res:3:T bp:1:2 sq:7"), ("path", None, None))
+        self.assertEqual(self.fate(CLR="clr:2 vio:4 dp:1:1 sq:2"), ("passed", 0x10020, 0x10000))
+        self.assertEqual(self.fate(CLR="clr:2 vio:5 dp:1:1 sq:1"), ("passed", 0x10024, 0x10000))
+        self.assertEqual(self.fate(RES="res:3:T bp:1:2", CLR="res:5:T bp:1:2 sq:7"), ("path", None, None))
+        self.assertEqual(self.fate(serial=4, cycle=4, pc=0x10020, CLR="clr:2 vio:5 dp:1:1 sq:1"), ("path", None, None))
+
+    def test_ends(self):
+        for end, kind in [("trap 5 00010004", "trapped"), ("budget", "untold")]:
+            lines = LINES.splitlines(keepends=True)[:4] + [f"end {end} retired 2 cycles 4\n"]
+            self.assertEqual(wrong_path.Scan(5, 4, 0x10024).fate(lines).kind, kind)
+        with self.assertRaises(Fault):
+            self.fate(pc=0x10028)
+
+    def test_lines(self):
+        """The verdict tells it of the worked trace, and --all lists what takes effect on the secret: there nothing does."""
+        image, secrets = support.example("bounds_check.elf"), program(SHOWN.replace("\n", "\\n"), 1)
+        text = support.file_of("worked", "".join(TEXT).encode())
+        traces = support.file_of("traces", f"#!/bin/sh\ncat {text}\n".encode())
+        os.chmod(traces, 0o755)
+        words = "--secret", WORD, "--secrets-program", secrets, "--program", traces
+        told = command("verdict", CORE, image, *words)
+        self.assertEqual((told.returncode, told.stderr), (1, ""))
+        self.assertRegex(told.stdout, r"\n              on a wrong path, behind 0001[0-9a-f]{4} b\w+ .*, which was predicted to go on at 0001[0-9a-f]{4}")
+        told = command("verdict", CORE, image, *words, "--all")
+        self.assertIn("0 instructions, by marks on whole values: a list without a claim", told.stdout)
+        told = command("verdict", CORE, loading(), "--secret", WORD, "--secrets-program", secrets, "--program", "/nowhere", "--all")
+        self.assertEqual((told.returncode, told.stdout), (2, ""))
+
+    def test_cells(self):
+        place = "line {:x}".format
+        self.assertEqual([wrong_path.short(wrong_path.Fate(*fate), place) for fate in [
+            ("path",), ("mispredicted", 16, 20), ("passed", 17, 18), ("untold",)]], [
+            ", on the path", ", wrong path behind `line 10`", ", wrong path: `line 11` passed the store `line 12`", ""])
 
 
 class TwoImages(unittest.TestCase):

@@ -56,7 +56,7 @@ class Worked(unittest.TestCase):
     def test_fault_shadow(self):
         """Under `spectre` a fault casts no shadow: the load behind it shows the secret, in 16."""
         found = fault_shadow()
-        self.assertEqual((held(found), found.shown), ({}, {(CODE + 0x14, "access"): (1, 16)}))
+        self.assertEqual((held(found), found.shown), ({}, {(CODE + 0x14, "access"): (1, 16, 0)}))
 
     def test_other_bytes(self):
         """Where what differs isn't loaded, nothing is held on it."""
@@ -65,7 +65,7 @@ class Worked(unittest.TestCase):
 
     def test_bytes_of_the_path(self):
         """The bound is loaded on the path: the branch on it shows it, in 17."""
-        self.assertEqual(bounds_check(differing=[DATA]).shown, {(CODE + 8, "direction"): (1, 17)})
+        self.assertEqual(bounds_check(differing=[DATA]).shown, {(CODE + 8, "direction"): (1, 17, 1)})
 
     def test_forwarding_and_wrong_paths(self):
         """What is computed agrees with the trace: a wholly forwarded load, one that isn't, misses of a wrong path."""

@@ -49,8 +49,8 @@ class Words(unittest.TestCase):
 
     def test_answer(self):
         """The three lines of the simulator: docs/formats.md, "The comparison"."""
-        for lines, told in [("premise yes\nequal\n", (True, None, 28)), ("premise no\nequal\n", (False, None, 28)),
-                            ("premise no\nunequal 17\n", (False, 17, 28)), ("premise no\nunequal end\n", (False, 28, 28))]:
+        for lines, told in [("premise yes\nequal\n", (True, None, 28, 9)), ("premise no\nequal\n", (False, None, 28, 9)),
+                            ("premise no\nunequal 17\n", (False, 17, 28, 9)), ("premise no\nunequal end\n", (False, 28, 28, 9))]:
             self.assertEqual(simulator.answer(lines + "retired 9 cycles 28\n"), told)
 
     def test_lines(self):

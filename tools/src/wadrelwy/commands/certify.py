@@ -14,8 +14,9 @@ word on standard error. NAME is a part of a program's name.
 A cell of the table says `certified` where nothing shows and the run exited with 0: proved for every value of the secret. `certified in the
 first N cycles` says that the budget ended it, `certified, to a trap in cycle N` and `certified, exit 1` how else it ended; `vacuous` that the
 path loads none of the secret's bytes as they were before the run, as where it derives the key first. Else it has what shows first: an
-address, a time, where a branch or jump goes, or what a call is asked for; the source's line, or function and offset; and the cycle. A
-description that is refused is a cell `refused K6`. The table is written to standard output and to FOLDER/table.md; FOLDER/table.csv has a
+address, a time, where a branch or jump goes, or what a call is asked for; the source's line, or function and offset; the cycle; and, where
+the simulator is there (--program, STT_CLI), whether the instruction is on the path, or on a wrong one and behind which branch, return or
+load that passed a store. A description that is refused is a cell `refused K6`. The table is written to standard output and to FOLDER/table.md; FOLDER/table.csv has a
 row for each run. Where it was stopped, the command that began it, or `wadrelwy certify FOLDER` alone, goes on: only what is missing is
 asked. FOLDER has copies of all that was asked of. FOLDER alone is refused where an image, a description or the program isn't what it was;
 --copies goes on with those that the folder has. --build builds all images anew.
@@ -47,6 +48,7 @@ def words(parser):
     parser.add_argument("--cycles", type=int, default=4294967295, metavar="N")
     parser.add_argument("--jobs", type=int, default=len(os.sched_getaffinity(0)), metavar="N")
     parser.add_argument("--secrets-program", metavar="P")
+    parser.add_argument("--program", metavar="P")
     parser.add_argument("--copies", action="store_true", help="go on with the folder's copies, whatever became of the files")
 
 
@@ -80,6 +82,9 @@ def main(asked):
     try:
         running.Runner(made, asked.jobs, certifying.ASKS).all()
         found, _ = certificates.rows(made, certifying.ASKS)
+        simulator = built_programs.simulator(asked.program)
+        if simulator is not None:
+            found = certificates.with_fates(made, found, simulator, asked.jobs)
     except results.Refuted as refuted:
         print(f"wadrelwy certify: refuted: {refuted}", file=sys.stderr)
         return statuses.REFUTED

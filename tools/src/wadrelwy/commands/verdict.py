@@ -1,7 +1,7 @@
 """May the traces of two images differ, and do they? Or of one image: is its trace one for every value of some bytes?
 
     wadrelwy verdict DESCRIPTION A B [--cycles N] [--program P] [--secrets-program P2] [--notation abi|manual]
-    wadrelwy verdict DESCRIPTION A --secret SYMBOL[+OFFSET][:BYTES].. [--cycles N] [--secrets-program P2] [--notation abi|manual]
+    wadrelwy verdict DESCRIPTION A --secret SYMBOL[+OFFSET][:BYTES].. [--all] [--cycles N] [--program P] [--secrets-program P2]
 
 Says of two images under a machine description: do their codes and memories differ, and in which bytes; does the path load such a byte;
 are the premises of noninterference met (docs/theorems.md); are the traces equal, and if not, in which event they part; which
@@ -9,22 +9,27 @@ instructions were held by taint on an operand made of these bytes, or showed one
 differ. Of one image with --secret it says that alone: whether something shows in its run that may depend on these bytes (docs/secrets.md).
 The last line is the verdict, and so is the status:
 
-    0  hidden     two images: premises met, traces equal, and something was held
-    1  differs    two images: premises not met, traces unequal
-    3  vacuous    two images: premises met, traces equal, but nothing was ever held on these bytes
-    4  same       two images: premises not met, traces equal, and no certificate was asked for
-    5  refuted    two images: traces unequal that are proved equal: contradicts what is proved
-    6  leaks      two images: premises met, traces unequal, under the model off, which promises nothing
-    7  certified  nothing shows, and the run ended: proved for every value of the bytes; of two images premises not met, traces equal
-    8  exposed    something shows, and is named; of two images premises not met, traces equal
-    9  certified in the first N cycles, of a run that goes on: the budget ended it
-    2             no verdict: a refusal, told on standard error
+     0  certified  nothing shows, and the run exited with 0: proved for every value of the bytes; of two images premises not met, traces equal
+     0  hidden     two images: premises met, traces equal, and something was held
+     1  exposed    something shows, and is named; of two images premises not met, traces equal
+     1  differs    two images: premises not met, traces unequal
+     1  leaks      two images: premises met, traces unequal, under the model off, which promises nothing
+     3  certified in the first N cycles, of a run that goes on: the budget ended it; so of other words
+    11  certified, exit V                the run exited with another value than 0
+    12  certified, to a trap in cycle N  a trap ended the run
+    13  vacuous    the path loads none of the bytes as they were before the run; two images: premises met, traces equal, but nothing was
+                   ever held on these bytes
+    14  same       two images: premises not met, traces equal, and no certificate was asked for
+    16  refuted    two images: traces unequal that are proved equal: contradicts what is proved
+     2             no verdict: a refusal, told on standard error
 
 Under the model off equal traces are as where the premises aren't met. Where the budget ends a run the verdict says of how many cycles it
 speaks. An interrupt ends it with status 130.
 
 --secret may stand several times. A SYMBOL is one of the image's; without OFFSET it is meant from its first byte on, without BYTES to its
-last. ADDRESS:BYTES is a secret without a name, as 0x10080:16.
+last. ADDRESS:BYTES is a secret without a name, as 0x10080:16. Of what shows first it says whether it is on the path, or on a wrong one and
+since which branch, return, or load that passed a store, where the simulator is there. --all goes on behind it, and lists all that may show:
+by marks of its own, without a claim.
 
 N is 1000000 without --cycles. P is the simulator: without --program the variable STT_CLI, else crates/stt_cli/out/stt_cli. P2 is the program
 that looks for secrets: without --secrets-program the variable STT_SECRETS, else crates/stt_secrets/out/stt_secrets; where there is none, two
@@ -40,6 +45,7 @@ def words(parser):
     parser.add_argument("one", metavar="A")
     parser.add_argument("two", metavar="B", nargs="?")
     parser.add_argument("--secret", action="append", default=[], metavar="SYMBOL[+OFFSET][:BYTES]")
+    parser.add_argument("--all", action="store_true", help="of one image: list all that may show, without a claim")
     parser.add_argument("--cycles", type=int, default=1000000)
     parser.add_argument("--program")
     parser.add_argument("--secrets-program")
@@ -51,7 +57,10 @@ def of_one(asked):
     program = built_programs.secrets(asked.secrets_program)
     if program is None:
         raise Fault("no program stt_secrets: build it (docs/secrets.md, \"Before you ask\"), or name it with --secrets-program")
-    case = certificate.case_of(program, asked.description, asked.one, asked.secret, asked.cycles)
+    simulator = built_programs.simulator(asked.program)
+    if simulator is None and (asked.all or asked.program):
+        raise Fault("no simulator: build it (docs/using.md, \"Before you start\"), or name it with --program")
+    case = certificate.case_of(program, asked.description, asked.one, asked.secret, asked.cycles, simulator, asked.all)
     print("\n".join(certificate.lines(case, asked.notation)))
     return case.status()
 
@@ -70,4 +79,6 @@ def of_two(asked):
 def main(asked):
     if (asked.two is None) != bool(asked.secret):
         raise Fault("two images are asked for, or one with --secret")
+    if asked.all and asked.two:
+        raise Fault("--all is of one image and its secret")
     return of_two(asked) if asked.two else of_one(asked)

@@ -1,13 +1,17 @@
 """The verdict on one image and its secret bytes, as text."""
-from typing import NamedTuple
+from typing import NamedTuple, Optional
 
 from wadrelwy.view.description import HOLD, Description, read_description
 from wadrelwy.view.disassembly import CALLERS, Disassembler
+from wadrelwy.view.trace import Trace
 
-from . import answered, ranges, report, secrecy, touched
+from . import answered, ranges, report, secrecy, touched, wrong_path
 from .loaded import Loaded, load
 from .secrecy import Answer
+from .simulator import Written
+from .telling import Telling
 from .touched import Touched
+from .wrong_path import Fate, fate_of
 
 # in a cycle, of any description (docs/formats.md, "Keys")
 MOST_RETIRED = 4
@@ -20,6 +24,8 @@ class Case(NamedTuple):
     secret: list
     answer: Answer
     touched: Touched
+    fate: Optional[Fate] = None
+    all: Optional[dict] = None
 
     def word(self):
         return answered.word(self.answer, self.touched)
@@ -28,13 +34,24 @@ class Case(NamedTuple):
         return answered.status(self.answer, self.touched)
 
 
-def case_of(program, description, image, words, cycles):
-    """What the program says of an image's secrets, by these words."""
+def case_of(program, description, image, words, cycles, simulator=None, goes_on=False):
+    """What the program says of an image's secrets, by these words. The simulator, if there is one, tells whether what shows is of the path; and
+    where it `goes_on`, what else may show."""
     machine = read_description(description)
     loaded = load(image, machine)
     secret = [ranges.named(loaded, word) for word in words]
     answer = secrecy.ask(program, description, image, secret, cycles)
-    return Case(description, machine, loaded, secret, answer, touched.look(loaded, secret, steps_of(answer)))
+    found = touched.look(loaded, secret, steps_of(answer))
+    fate = fate_of(simulator, description, image, answer.shown, cycles) if simulator and answer.shown else None
+    return Case(description, machine, loaded, secret, answer, found, fate, all_of(simulator, description, loaded, machine, secret, cycles)
+                if goes_on else None)
+
+
+def all_of(simulator, description, image, machine, secret, cycles):
+    """All instructions that take effect on a value made of these bytes, by the marks of this tool: as `Telling` has them."""
+    lines = Written(simulator, "trace", description, image.name, "--cycles", str(cycles))
+    marks = [address for each in secret for address in each.addresses]
+    return Telling(Trace(lines), image, machine, marks, thorough=False).shown
 
 
 def steps_of(answer):
@@ -55,8 +72,22 @@ def lines(case, notation=CALLERS):
     yield report.row("run", end.text if end else f"looked at up to cycle {shown.cycle}, in which something shows")
     texts = Disassembler(case.image, notation)
     yield report.row("shown", secrecy.place(shown, texts) if shown else "nothing that may depend on these bytes")
+    if case.fate is not None:
+        yield report.row("", wrong_path.sentence(case.fate, texts))
+    yield from listed(case, texts)
     goes_on = ", of a run that goes on" if case.answer.is_cut else ""
     yield report.row("verdict", f"{case.word()}{goes_on}: {answered.MEANING[answered.kind(case.answer, case.touched)]}")
+
+
+def listed(case, texts):
+    """All that may show, along the path and on wrong ones, as a list of which nothing is proved."""
+    for number, ((pc, what), shown) in enumerate(case.all.items() if case.all is not None else ()):
+        where = "on the path" if shown.retired == shown.times else "on wrong paths" if not shown.retired else f"{shown.retired} on the path"
+        yield report.row("" if number else "list",
+                         f"{texts.place(pc)}: its {what}, {report.plural(shown.times, 'time')}, first in cycle {shown.cycle}, {where}")
+    if case.all is not None:
+        yield report.row("" if case.all else "list", f"{report.plural(len(case.all), 'instruction')}, by marks on whole values: a list without a "
+                                                     f"claim, of what may be no secret, and not proved to be all")
 
 
 def told(image, secret):

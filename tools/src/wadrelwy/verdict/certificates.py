@@ -1,22 +1,26 @@
 """What came of a table's runs: certificates and what shows first, as rows, CSV and Markdown."""
 import csv
 import io
+import json
 import os
 from collections import Counter
+from concurrent.futures import ThreadPoolExecutor
 from functools import cache
 from typing import NamedTuple, Optional
 
 from wadrelwy import statuses
 from wadrelwy.sweep import settings
-from wadrelwy.sweep.kept import text
+from wadrelwy.sweep.kept import digest, text, write
 from wadrelwy.sweep.results import Store
+from wadrelwy.view import Fault
 from wadrelwy.view.description import read_description
 from wadrelwy.view.disassembly import Disassembler
 from wadrelwy.view.image import Image
 
-from . import answered, certificate, ranges, report, secrecy
+from . import answered, certificate, ranges, report, secrecy, wrong_path
 from .loaded import Loaded
 from .touched import Touched, look
+from .wrong_path import Fate, fate_of
 
 SHORT = {secrecy.ACCESS: "address", secrecy.DIVISION: "time", secrecy.BRANCH: "branch", secrecy.CALL: "call"}
 REFUSED = "refused"
@@ -36,6 +40,8 @@ class Row(NamedTuple):
     image: str
     touched: Optional[Touched] = None
     refused: Optional[str] = None
+    fate: Optional[Fate] = None
+    id: str = ""
 
     def verdict(self):
         """`certified`, `certified in the first 1000 cycles`, `certified, exit 1`, `vacuous`, `exposed`, or `refused K6`."""
@@ -64,6 +70,30 @@ def rows(plan, asks):
     return [row_of(plan, run, store) for run in done], [(run, store.why(run)) for run in plan.runs if run not in done]
 
 
+def with_fates(plan, found, simulator, jobs):
+    """The rows, each exposure with what became of its instruction; a walk that was made is kept."""
+    done = [run for run in plan.runs if run.id in {row.id for row in found}]
+    rows_of = {row.id: row for row in found}
+    with ThreadPoolExecutor(jobs) as pool:
+        fates = pool.map(lambda run: fate_of_run(plan, run, rows_of[run.id], simulator), done)
+        return [rows_of[run.id]._replace(fate=fate) for run, fate in zip(done, fates)]
+
+
+def fate_of_run(plan, run, row, simulator):
+    """What became of what shows, as it was kept, or by a walk."""
+    if row.answer is None or row.answer.shown is None:
+        return None
+    path = plan.path(os.path.join("fates", f"{run.id}_{digest(simulator)[:16]}"))
+    if not os.path.exists(path):
+        found = fate_of(simulator, plan.path(run.description), row.image, row.answer.shown, plan.cycles)
+        os.makedirs(plan.path("fates"), exist_ok=True)
+        write(path, json.dumps([*row.answer.shown, *found]).encode())
+    kept = json.loads(text(path))
+    if kept[:4] != [*row.answer.shown]:
+        raise Fault(f"{path} is of another answer. Remove it, and ask again")
+    return Fate(*kept[4:])
+
+
 def told_setting(plan, run):
     """The defence of a run, and what else is set."""
     values = settings.parsed(text(plan.path(run.description)), run.description)
@@ -77,7 +107,8 @@ def row_of(plan, run, store):
     image = plan.path(run.image)
     setting = (run.base, *told_setting(plan, run))
     found = None if run.refused else touched_in(image, plan.path(run.description), tuple(run.words[1::2]), certificate.steps_of(answer))
-    return Row(os.path.splitext(program)[0], build, secret_of(image, run.words), setting, run.values, answer, image, found, run.refused)
+    return Row(os.path.splitext(program)[0], build, secret_of(image, run.words), setting, run.values, answer, image, found, run.refused,
+               None, run.id)
 
 
 @cache
@@ -100,10 +131,10 @@ def secret_of(path, words):
     return "; ".join(f"{image.symbol(each.address) or f'{each.address:08x}'}, {report.plural(each.size, 'byte')}" for each in found)
 
 
-def where(row):
-    """Where something shows: the source's line, else the function and offset, else the address."""
-    pc, image = row.answer.shown.pc, image_of(row.image)
-    return image.sources.told(pc) or image.symbol(pc) or f"{pc:08x}"
+def where(row, pc):
+    """Where an instruction stands: the source's line, else the function and offset, else the address."""
+    image = image_of(row.image)
+    return (image.sources.told(pc) or image.symbol(pc) or f"{pc:08x}") if pc is not None else "?"
 
 
 def record(row, keys, cited):
@@ -116,7 +147,8 @@ def record(row, keys, cited):
                "end": end.how if end else row.refused or "", "loaded": row.touched.loaded if row.touched else "",
                "overwritten": row.touched.overwritten if row.touched else "", "what": SHORT[shown.what] if shown else "",
                "address": f"{shown.pc:08x}" if shown else "", "instruction": texts_of(row.image).text(shown.pc) if shown else "",
-               "symbol": image.symbol(shown.pc) if shown else "", "line": image.sources.told(shown.pc) if shown else "", "made_by": cited})
+               "symbol": image.symbol(shown.pc) if shown else "", "line": image.sources.told(shown.pc) if shown else "", "path": row.fate.kind if row.fate else "",
+               "behind": f"{row.fate.pc:08x}" if row.fate and row.fate.pc is not None else "", "made_by": cited})
 
 
 def as_csv(found, keys, cited):
@@ -131,7 +163,8 @@ def cell(row):
     """The verdict, with how many of the bytes are written over before they are loaded; or what shows: ``address, `table.c:9`, cycle 106``."""
     shown = row.answer and row.answer.shown
     if shown:
-        return f"**{SHORT[shown.what]}**, `{where(row)}`, cycle {shown.cycle}"
+        fate = wrong_path.short(row.fate, lambda pc: where(row, pc)) if row.fate else ""
+        return f"**{SHORT[shown.what]}**, `{where(row, shown.pc)}`, cycle {shown.cycle}{fate}"
     over = row.touched and row.touched.overwritten
     return row.verdict() + (f"; {over} of {row.touched.size} bytes written over" if over else "")
 

@@ -12,7 +12,7 @@ cdef class Telling(Replay):
     cdef public Valued valued
     cdef public Reasons rules
     cdef public bint thorough, was_empty, differs
-    cdef public dict held, shown, holding
+    cdef public dict held, shown, holding, showing
     cdef public object wrong_loads
     cdef public long long wrong_values
     cdef public set loads

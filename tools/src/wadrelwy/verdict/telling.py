@@ -35,8 +35,9 @@ class Held:
         self.times = self.cycles = self.dropped = self.retired = 0
 
 
-class Shown(namedtuple("Shown", "times cycle")):
-    """An instruction that took effect on an operand made of the differing bytes: how often, and first in which cycle."""
+class Shown(namedtuple("Shown", "times cycle retired", defaults=(0,))):
+    """An instruction that took effect on an operand made of the differing bytes: how often, first in which cycle, and how many of these entries
+    retired."""
 
     __slots__ = ()
 
@@ -45,7 +46,7 @@ class Telling(Replay):
     """`differs` says whether any byte does: else nothing is marked. `held` and `shown`, by an instruction's address and what of it shows;
     `wrong_loads` are the loads of differing bytes on wrong paths, by
     their addresses, and `wrong_values` how many of their values came. `holding` are the entries in flight that were held, by their serials,
-    each with what it is counted in, and `loads` the serials of the loads of these bytes in flight. Values are compared with
+    each with what it is counted in, `showing` those that showed something, and `loads` the serials of the loads of these bytes in flight. Values are compared with
     what the trace tells in any case; only where it is `thorough` also all that tools/src/wadrelwy/view checks of a trace, and the reason of each wait. `rules`
     are the rules of docs/machine.md by which a load waits for stores."""
 
@@ -54,6 +55,7 @@ class Telling(Replay):
         super().__init__(trace, image, description, self.valued, asked=thorough)
         self.rules, self.thorough = Reasons(self.pipeline), thorough
         self.held, self.shown, self.wrong_loads, self.wrong_values = {}, {}, Counter(), 0
+        self.showing = {}
         self.holding, self.loads, self.held_now, self.was_empty, self.skips = {}, set(), [], False, False
         self.only_counts()
         for batch in self.batches():
@@ -79,6 +81,9 @@ class Telling(Replay):
         for held in self.holding.pop(item.serial, ()):
             held.dropped += item.squashed is not None
             held.retired += item.retired is not None
+        for key in self.showing.pop(item.serial, ()):
+            times, first, retired = self.shown[key]
+            self.shown[key] = Shown(times, first, retired + (item.retired is not None))
         if item.serial in self.loads:
             self.loads.remove(item.serial)
             if item.squashed is not None:
@@ -269,5 +274,6 @@ class Telling(Replay):
     def shows(self, item, marked, what=None):
         if marked:
             key = item.pc, what or SHOWS[item.kind]
-            times, first = self.shown.get(key, (0, self.pipeline.cycle))
-            self.shown[key] = Shown(times + 1, first)
+            times, first, retired = self.shown.get(key, (0, self.pipeline.cycle, 0))
+            self.shown[key] = Shown(times + 1, first, retired)
+            self.showing.setdefault(item.serial, set()).add(key)
