@@ -18,7 +18,7 @@ from types import SimpleNamespace
 TOOLS = os.path.dirname(os.path.dirname(os.path.dirname(os.path.abspath(__file__))))
 ROOT = os.path.dirname(TOOLS)
 from wadrelwy import built_programs
-from wadrelwy.sweep import lists, plots, results, settings
+from wadrelwy.sweep import kept, lists, plots, results, settings
 from wadrelwy.view import Fault
 
 PROGRAM = built_programs.simulator()
@@ -119,6 +119,19 @@ class Settings(unittest.TestCase):
         for word in ("core.rob", "core.rob=", "=3", "core.rob=1,,2", "Core=1", "core.rob=" + "9" * 5000, "core.rob=\udcff", "core.rob=\u0661"):
             with self.subTest(word=word), self.assertRaises(Fault):
                 settings.asked(word)
+
+
+class Files(Folder):
+    def test_no_longer_than_it_may_be(self):
+        path = os.path.join(self.out, "long")
+        os.makedirs(self.out, exist_ok=True)
+        with open(path, "wb") as file:
+            file.write(b"# " + b"." * 65533 + b"\n")
+        self.assertEqual(len(kept.text(path)), 65536)
+        for read in (lambda: kept.content(path, 65535), lambda: kept.text("/dev/full"), lambda: kept.content("/dev/full", kept.IMAGE_MAX)):
+            with self.assertRaises(Fault) as told:
+                read()
+            self.assertIn("more than", str(told.exception))
 
 
 class Sweeps(Folder):

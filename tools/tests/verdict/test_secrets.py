@@ -149,6 +149,12 @@ class OneImage(unittest.TestCase):
         self.assertEqual(command("verdict", *words).returncode, 7)
         self.assertIn(f"--secret {WORD} ", asked_of(self.program)[-1])
 
+    def test_endless(self):
+        """A file without end is read no further than a description may go."""
+        told = self.told(HIDDEN, 0, description="/dev/full")
+        self.assertEqual((told.returncode, told.stdout), (2, ""))
+        self.assertEqual(told.stderr, "wadrelwy verdict: /dev/full: more than 65536 bytes\n")
+
     def test_full(self):
         """What can't be written is a refusal of one line."""
         said = program(HIDDEN.replace("\n", "\\n"))

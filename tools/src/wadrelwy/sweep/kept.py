@@ -10,8 +10,11 @@ from typing import NamedTuple
 
 from wadrelwy import built_programs
 from wadrelwy.view import Fault
+from wadrelwy.view.description import DESCRIPTION_MAX
 
 DIGITS = 16
+# the most bytes of an image (docs/formats.md, "Words")
+IMAGE_MAX = 33554432
 UNUSUAL = re.compile(r"[^A-Za-z0-9._=,+-]+")
 
 
@@ -21,17 +24,21 @@ class Source(NamedTuple):
     sha256: str
 
 
-def content(path):
+def content(path, most=None):
+    """The bytes of a file, at most so many: one more is read, and refused."""
     try:
         with open(path, "rb") as file:
-            return file.read()
+            found = file.read(-1 if most is None else most + 1)
     except OSError as error:
         raise Fault(f"{path}: {error.strerror}") from None
+    if most is not None and len(found) > most:
+        raise Fault(f"{path}: more than {most} bytes")
+    return found
 
 
 def text(path):
     try:
-        return content(path).decode()
+        return content(path, DESCRIPTION_MAX).decode()
     except UnicodeDecodeError:
         raise Fault(f"{path}: no text, and so no description") from None
 

@@ -11,7 +11,7 @@ from typing import NamedTuple, Optional
 from wadrelwy.view import Fault
 
 from . import settings
-from .kept import Source, check, changed, cited, content, copied, plain, sha256, source, text, write
+from .kept import IMAGE_MAX, Source, check, changed, cited, content, copied, plain, sha256, source, text, write
 
 PLAN = "plan.json"
 GIVE_ANEW = "give the whole command again, or --copies to go on with what the folder has"
@@ -101,7 +101,7 @@ def make(folder, simulator, words, file=PLAN, more=lambda image: []):
     sets, keys = sets_of(words)
     program, name = content(simulator), os.path.basename(simulator)
     sources = [source(path) for path in [simulator, *words.programs, *words.descriptions]]
-    images = [(name, path, content(path), more(path)) for name, path in zip(names_of(words.programs), words.programs)]
+    images = [(name, path, content(path, IMAGE_MAX), more(path)) for name, path in zip(names_of(words.programs), words.programs)]
     for path in words.descriptions:
         settings.parsed(text(path), path)
     images = [(name, path, copied(folder, "images", name.replace("/", "-"), ".elf", data), sha256(data), further)

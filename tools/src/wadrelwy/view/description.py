@@ -9,6 +9,8 @@ from . import Fault
 
 SPECTRE, FUTURISTIC, OFF = "spectre", "futuristic", "off"
 STT, HOLD = "stt", "hold"
+# the most bytes of a description (docs/formats.md, "Words")
+DESCRIPTION_MAX = 65536
 
 KEYS = {
     "fetch_width": "core", "retire_width": "core", "rob": "core", "stations": "core", "loads": "core", "stores": "core",
@@ -61,7 +63,10 @@ def read_description(name):
     """The description of a file."""
     try:
         with open(name, "rb") as file:
-            tables = tomllib.loads(file.read().decode())
+            found = file.read(DESCRIPTION_MAX + 1)
+        if len(found) > DESCRIPTION_MAX:
+            raise Fault(f"{name}: more than {DESCRIPTION_MAX} bytes")
+        tables = tomllib.loads(found.decode())
     except OSError as error:
         raise Fault(f"{name}: {error.strerror}") from None
     except ValueError as error:
