@@ -12,7 +12,7 @@ from types import SimpleNamespace
 import material  # finds the modules below
 from wadrelwy import built_programs
 from material import BOUND_0, CORE, SECRET, command, gadget, support
-from wadrelwy.verdict import certifying, judge, premises, ranges, report, secrecy, simulator, wrong_path
+from wadrelwy.verdict import certifying, drawing, judge, premises, ranges, report, secrecy, simulator, wrong_path
 from wadrelwy.verdict.ranges import Range
 from wadrelwy.view import Fault
 from wadrelwy.view.description import read_description
@@ -414,10 +414,10 @@ class Table(unittest.TestCase):
         self.assertEqual((told.returncode, told.stderr), (0, ""))
         off, spectre = told.stdout.splitlines()
         self.assertRegex(off, rf"^{self.NAME} {self.BUILD} off: exposed; unequal in cycle 15, with the secrets [0-9a-f]{{2}} and [0-9a-f]{{2}}, pair 1 of those tried$")
-        self.assertEqual(spectre, f"{self.NAME} {self.BUILD} spectre: certified; none of 3 values unequal")
+        self.assertEqual(spectre, f"{self.NAME} {self.BUILD} spectre: certified; none of 5 values unequal")
         asked = os.path.join(self.folder, "asked")
         logged = PAIRS.replace("\n", f'\nod -An -tx1 $3 $4 | md5sum >> {asked}\n', 1)
-        for draws, pairs in [(1, 1), (2, 2), (3, 2), (4, 3)]:
+        for draws, pairs in [(1, 2), (2, 3), (3, 3), (4, 4)]:
             command("draw", self.folder, "--draws", str(draws), "--only", " spectre", "--program", self.stand_in("logged", logged))
             with open(asked, encoding="ascii") as file:
                 self.assertEqual(len(set(file)), pairs, "two values at a time, each once and the image's own to begin with and where one is left")
@@ -430,7 +430,52 @@ class Table(unittest.TestCase):
         self.certify(*self.words("--set", "stt.model=off,spectre"))
         equal = self.stand_in("equal", "#!/bin/sh\nprintf 'premise no\\nequal\\nretired 5 cycles 21\\n'\n")
         told = command("draw", self.folder, "--draws", "3", "--only", " off", "--program", equal)
-        self.assertEqual(told.stdout, f"{self.NAME} {self.BUILD} off: exposed; none of 4 values unequal: what shows may be conservative\n")
+        self.assertEqual(told.stdout, f"{self.NAME} {self.BUILD} off: exposed; none of 6 values unequal: what shows may be conservative, or is "
+                         "hardly ever met: of the 3 drawn none is, so too few to say how many are; one byte that is compared is met by 1 value in "
+                         "256, an address within this memory by 1 in 65536, and --draws N looks further\n")
+        told = command("draw", self.folder, "--draws", "256", "--only", " off", "--program", equal)
+        self.assertEqual(told.stdout, f"{self.NAME} {self.BUILD} off: exposed; none of 255 values unequal, and there are no others: what shows is "
+                                      "conservative\n")
+        told = command("draw", self.folder, "--only", "neverthere", "--program", equal)
+        self.assertEqual((told.returncode, told.stdout), (2, ""))
+        self.assertIn("has no answer of such a name", told.stderr)
+
+    def test_values(self):
+        """Such as a drawn one hardly is: an address within memory, in each word, and what a branch compares."""
+        own = bytes(range(1, 9))
+        found = drawing.telling(own, 0x10000, 0x100000, 1)
+        self.assertEqual(found[:2], [bytes(8), b"\xff" * 8])
+        words = [[int.from_bytes(value[at:at + 4], "little") for at in (0, 4)] for value in found[2:]]
+        self.assertTrue(all(0x10000 <= word < 0x110000 and word % 4 == 0 for pair in words[:4] for word in pair))
+        alone = [tuple(0x10000 <= word < 0x110000 for word in pair) for pair in words[4:]]
+        self.assertEqual(alone, [(True, False)] * 2 + [(False, True)] * 2)
+        image = material.loaded("branches.elf", [material.segment(material.CODE, material.words(
+            0x00700293, 0x00814303, 0x00530463, *EXITS), True), material.segment(material.DATA, BOUND_0 + b"\x11")])
+        self.assertEqual(drawing.operands_at(image, material.CODE + 8, 100), [0x11, 7])
+        self.assertIn(b"\x01\x07" + own[2:], drawing.of_operands(own, [7]))
+        self.assertEqual(drawing.with_part(b"abc", 2, b"wxyz"), b"abw")
+
+    def test_one_address_in_many(self):
+        """A pair is found where only a value that is an address within memory has another trace."""
+        self.program = self.stand_in("shows", "#!/bin/sh\nprintf 'shown 15 access 6 00010018\\n'\nexit 1\n")
+        image = material.image_file("word.elf", (LOADS, *EXITS), BOUND_0 + b"\1\2\3\xf4")
+        self.certify("--programs", image, "--secret", f"0x{SECRET:08x}:4", "--descriptions", CORE)
+        within = self.stand_in("within", "#!/bin/sh\n[ $(tail -c 2 $4 | od -An -tx1 | tr -d ' ') = 0100 ] && printf 'premise no\\nunequal 15\\n"
+                                         "retired 5 cycles 21\\n' && exit 1\nprintf 'premise no\\nequal\\nretired 5 cycles 21\\n'\n")
+        told = command("draw", self.folder, "--program", within)
+        self.assertRegex(told.stdout, r"exposed; unequal in cycle 15, with the secrets 010203f4 and [0-9a-f]{4}0100, pair 3 of those tried")
+
+    def test_what_can_not_be_patched(self):
+        """A secret without bytes in the file is skipped, and the others are tried."""
+        flags, address, data, _ = material.segment(material.DATA, BOUND_0)
+        image = support.file_of("bss.elf", support.elf([material.segment(material.CODE, material.words(LOADS, *EXITS), True),
+                                                        (flags, address, data, 16)]))
+        self.certify("--programs", image, loading(), "--secret", WORD, "--descriptions", CORE)
+        told = command("draw", self.folder, "--draws", "3", "--program", self.stand_in("pairs", PAIRS))
+        lines = sorted(told.stdout.splitlines())
+        self.assertEqual((told.returncode, told.stderr, len(lines)), (3, "", 2))
+        self.assertRegex(lines[0], r"^bss .*; skipped: .*the file has no byte for 0001fff8")
+        self.assertIn("none of 5 values unequal", lines[1])
 
 
 class Builds(unittest.TestCase):

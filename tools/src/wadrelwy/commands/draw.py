@@ -2,26 +2,32 @@
 
     wadrelwy draw FOLDER [--draws N] [--seed S] [--only NAME] [--except NAME] [--jobs N] [--program P]
 
-FOLDER is that of wadrelwy certify. Of each certified run N values of the secret are drawn, and `pair` is asked of two at a time, of the first
-and the image's own to begin with, whether they have one trace: two that haven't contradict what is proved. Of each run in which something
-shows it is asked until a value with another trace than the image's own is found: first those that are drawn, then the image's own with one
-byte changed. Where none is found, what shows may be conservative: docs/secrets.md, "What stays conservative". A secret of which there are no
-more than N values is tried with each. A line is written for each run; its NAME, of --only and --except, is a part of `chacha20 gcc-O2
-spectre`. The cycles are those that the run was looked at.
+FOLDER is that of wadrelwy certify. Of each certified run `pair` is asked of values of the secret, of two at a time, of the first and the
+image's own to begin with, whether they have one trace: two that haven't contradict what is proved. Of each run in which something shows it
+is asked until a value with another trace than the image's own is found. The values are zeros and ones; words that are addresses within memory,
+all of them and one at a time; where a branch shows, what it compares on the path, at each place of the secret; N that are drawn; and for what
+shows the image's own with one byte changed. Where none is found, what shows may be conservative (docs/secrets.md, "What stays conservative"), or
+is met by few values only, and the line says by how few. A secret of which there are no more than N values is tried with each. A secret that
+the file has no bytes for (.bss) is skipped, and told. A line is written for each run; its NAME, of --only and --except, is a part of
+`chacha20 gcc-O2 spectre`, with the description behind the second word where there are several. The cycles are those that the run was looked at.
 
 N is 20 and S is 1 without them, and as many --jobs as processors; P is the simulator: without --program the variable STT_CLI, else
-crates/stt_cli/out/stt_cli. The status is 0; 16 where traces that are proved equal aren't; 2 for a refusal, and 130 if interrupted."""
+crates/stt_cli/out/stt_cli. The status is 0; 16 where traces that are proved equal aren't; 3 where a run was skipped; 2 for a refusal, and 130
+if interrupted."""
 import itertools
 import os
-import random
 import sys
 import tempfile
 from concurrent.futures import ThreadPoolExecutor
 
 from wadrelwy import Fault, built_programs, statuses
 from wadrelwy.sweep.results import Store
-from wadrelwy.verdict import certificates, certifying, ranges, report, simulator
+from wadrelwy.verdict import certificates, certifying, drawing, ranges, report, simulator
+from wadrelwy.verdict.certificate import MOST_RETIRED
+from wadrelwy.verdict.loaded import load
 from wadrelwy.verdict.patched import Patches
+from wadrelwy.verdict.secrecy import BRANCH
+from wadrelwy.view.description import read_description
 
 
 def words(parser):
@@ -34,23 +40,11 @@ def words(parser):
     parser.add_argument("--program", metavar="P")
 
 
-def drawn(own, draws, seed):
-    """Values of as many bytes as the secret's own: all there are, where they are no more than the draws."""
-    if 256 ** len(own) <= draws:
-        return [bytes(value) for value in itertools.product(range(256), repeat=len(own)) if bytes(value) != own]
-    found = random.Random(seed)
-    return [found.randbytes(len(own)) for _ in range(draws)]
-
-
-def changed(own):
-    """The secret's own value with one byte changed, at each place."""
-    return [own[:at] + bytes([own[at] ^ 0xff]) + own[at + 1:] for at in range(len(own))]
-
-
 def name_of(plan, run):
-    """The program, its folder and what is set: `chacha20 gcc-O2 spectre`."""
+    """The program, its folder, the description where there are several, and what is set: `chacha20 gcc-O2 spectre`."""
     build, file = run.origin.split("/")[-2:]
-    return " ".join([file.removesuffix(".elf"), build, *certificates.told_setting(plan, run)])
+    several = len({other.base for other in plan.runs}) > 1
+    return " ".join([file.removesuffix(".elf"), build, *[run.base] * several, *certificates.told_setting(plan, run)])
 
 
 class Drawing:
@@ -72,27 +66,44 @@ class Drawing:
         words = "pair", self.description, *images, "--cycles", str(self.cycles)
         return simulator.answer(simulator.run(self.program, *words), self.program).unequal
 
-    def pairs(self, draws, seed):
-        """How many values are tried, and which two at a time: where something shows each beside the image's own, else one beside another."""
-        own = self.patches.value(self.secret)
-        values = drawn(own, draws, seed)
-        if self.row.answer.shown:
-            values += changed(own)
-            return len(values), [(own, value) for value in values]
-        return len(values), list(itertools.zip_longest([own, *values][::2], values[::2], fillvalue=own))
+    def values(self, own, draws, seed):
+        """The values that are tried: those that are drawn, and such as show what hardly one of them does."""
+        machine = read_description(self.description)
+        found = drawing.telling(own, machine.base, machine.size, seed)
+        shown = self.row.answer.shown
+        if shown and shown.what == BRANCH:
+            image = load(self.row.image, machine)
+            found += drawing.of_operands(own, drawing.operands_at(image, shown.pc, MOST_RETIRED * shown.cycle))
+        found += drawing.drawn(own, draws, seed) + (drawing.changed(own) if shown else [])
+        return drawing.others(own, found), machine.size
 
     def told(self, draws, seed):
-        """The line of this run, and whether it contradicts what is proved."""
+        """The line of this run, and its status: whether it contradicts what is proved, or can't be tried."""
         shown = self.row.answer.shown
-        count, pairs = self.pairs(draws, seed)
+        try:
+            own = self.patches.value(self.secret)
+        except Fault as fault:
+            return f"{self.name}: {self.row.verdict()}; skipped: {fault}", statuses.CUT
+        values, size = self.values(own, draws, seed)
+        pairs = [(own, value) for value in values] if shown else list(itertools.zip_longest([own, *values][::2], values[::2], fillvalue=own))
         with tempfile.TemporaryDirectory() as folder:
-            for tried, values in enumerate(pairs, 1):
-                cycle = self.unequal(values, folder)
+            for tried, two in enumerate(pairs, 1):
+                cycle = self.unequal(two, folder)
                 if cycle is not None:
-                    secrets = " and ".join(value.hex() for value in values)
-                    return f"{self.name}: {self.row.verdict()}; unequal in cycle {cycle}, with the secrets {secrets}, pair {tried} of those tried", not shown
-        conservative = ": what shows may be conservative" if shown else ""
-        return f"{self.name}: {self.row.verdict()}; none of {report.plural(count, 'value')} unequal{conservative}", False
+                    secrets = " and ".join(value.hex() for value in two)
+                    line = f"unequal in cycle {cycle}, with the secrets {secrets}, pair {tried} of those tried"
+                    return f"{self.name}: {self.row.verdict()}; {line}", statuses.HOLDS if shown else statuses.REFUTED
+        return f"{self.name}: {self.row.verdict()}; {self.none_of(len(values), min(draws, 256 ** len(own)), size)}", statuses.HOLDS
+
+    def none_of(self, count, draws, size):
+        """What it says that no value has another trace."""
+        line = f"none of {report.plural(count, 'value')} unequal"
+        if not self.row.answer.shown:
+            return line
+        whole = 256 ** sum(each.size for each in self.secret)
+        if count >= whole - 1:
+            return f"{line}, and there are no others: what shows is conservative"
+        return f"{line}: what shows may be conservative, or is hardly ever met: of the {draws} drawn none is, so {drawing.odds(draws, size)}"
 
 
 def drawings(asked, program):
@@ -100,7 +111,10 @@ def drawings(asked, program):
     made = certifying.read(asked.folder)
     store = Store(made, certifying.ASKS)
     runs = [run for run in made.runs if run.id in store.found and asked.only in name_of(made, run)]
-    return [Drawing(made, run, program, store) for run in runs if asked.left_out is None or asked.left_out not in name_of(made, run)]
+    found = [Drawing(made, run, program, store) for run in runs if asked.left_out is None or asked.left_out not in name_of(made, run)]
+    if not found:
+        raise Fault(f"{asked.folder} has no answer of such a name: names are as `chacha20 gcc-O2 spectre`")
+    return found
 
 
 def main(asked):
@@ -109,11 +123,11 @@ def main(asked):
     program = built_programs.simulator(asked.program)
     if program is None:
         raise Fault("no simulator: build it (docs/using.md, \"Before you start\"), or name it with --program")
-    status = statuses.HOLDS
+    found = [statuses.HOLDS]
     with ThreadPoolExecutor(asked.jobs) as pool:
-        for line, refuted in pool.map(lambda each: each.told(asked.draws, asked.seed), drawings(asked, program)):
+        for line, status in pool.map(lambda each: each.told(asked.draws, asked.seed), drawings(asked, program)):
             print(line, flush=True)
-            if refuted:
+            found.append(status)
+            if status == statuses.REFUTED:
                 print("wadrelwy draw: traces that are proved equal aren't: please report it", file=sys.stderr)
-                status = statuses.REFUTED
-    return status
+    return statuses.worst(found)
