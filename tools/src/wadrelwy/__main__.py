@@ -76,8 +76,8 @@ def done(words: Sequence[str]) -> int:
     if not words:
         raise Fault("which command? `wadrelwy --help` lists them")
     name = top().parse_args(words[:1]).command
-    if name in LONG:
-        faster.by_compiled(words[1:])
+    if name in LONG and not faster.by_compiled(words[1:]):
+        faster.advise(words[1:])
     asked = parser_of(name).parse_args(words[1:])
     return asked.main(asked)
 

@@ -8,6 +8,9 @@
 writes what the simulator's `isa` writes. `loads` writes each byte that is loaded with the first load's pc. Without --desc memory is that
 of `isa`: 1 MiB from 0x00010000 on. --model spectre and --model off pass over loads and stores that would trap, as the path of these
 models does; without --model they trap."""
+from argparse import ArgumentParser, Namespace
+from typing import Iterator
+
 from wadrelwy import statuses
 from wadrelwy.verdict import hart, path
 from wadrelwy.verdict.loaded import Loaded, load
@@ -17,7 +20,7 @@ from wadrelwy.view.disassembly import Disassembler
 ISA_BASE, ISA_SIZE = 0x00010000, 1 << 20
 
 
-def words(parser):
+def words(parser: ArgumentParser) -> None:
     parser.add_argument("what", choices=["log", "report", "loads"])
     parser.add_argument("image", metavar="IMAGE")
     parser.add_argument("--steps", type=int, default=1000000)
@@ -25,19 +28,19 @@ def words(parser):
     parser.add_argument("--model", choices=[SPECTRE, FUTURISTIC, OFF], default=FUTURISTIC)
 
 
-def log(image, run, steps):
+def log(image: Loaded, run: hart.Hart, steps: int) -> Iterator[str]:
     texts = Disassembler(image)
     for step in run.run(steps):
         yield path.log_line(step, texts)
     yield hart.end_text(run.end, run.retired)
 
 
-def loads(image, model, steps):
+def loads(image: Loaded, model: str, steps: int) -> Iterator[str]:
     for address, pc in sorted(path.walk(image, model, steps).loads.items()):
         yield f"{image.named(address)} first at {image.named(pc)}"
 
 
-def main(asked):
+def main(asked: Namespace) -> int:
     machine = read_description(asked.desc) if asked.desc else None
     image = load(asked.image, machine) if machine else Loaded(asked.image, ISA_BASE, ISA_SIZE)
     run = path.hart_of(image, asked.model)

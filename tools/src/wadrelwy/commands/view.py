@@ -4,6 +4,7 @@ import gc
 import os
 import sys
 from itertools import islice
+from typing import IO, Any, Generator, Iterator
 
 from wadrelwy import Fault, Unwritten
 from wadrelwy.view import annotate, compare, difference, drawing, index, konata, listing, numbers, o3, page, stack, stats, why
@@ -32,7 +33,7 @@ MOST = {"diff": 2, "svg": 2, "html": 2, "stats": 2, "stack": 32}
 WINDOWED = ("why", "list", "konata", "o3", "svg", "html", "stats", "stack", "annotate")
 
 
-def words(parser):
+def words(parser: argparse.ArgumentParser) -> None:
     """The words of all subcommands."""
     subs = parser.add_subparsers(dest="what", required=True, metavar="SUBCOMMAND")
     for name, text in SUBCOMMANDS.items():
@@ -64,7 +65,7 @@ def words(parser):
             sub.add_argument("--title", action="append", metavar="TEXT", help="a title for each trace; its name if left out")
 
 
-def cycle_number(text):
+def cycle_number(text: str) -> int:
     """A cycle: 1 or more."""
     if not text.isdecimal() or int(text) < 1:
         raise argparse.ArgumentTypeError(f"`{text}` is no cycle; the first one is 1")
@@ -74,7 +75,7 @@ def cycle_number(text):
 class Inputs:
     """Traces, images and descriptions, each by its side; where one is given for two traces it serves both."""
 
-    def __init__(self, words):
+    def __init__(self, words: argparse.Namespace) -> None:
         self.words = words
         self.names = words.trace
         if len(self.names) > MOST.get(words.what, 1):
@@ -89,29 +90,29 @@ class Inputs:
         self.disassemblers = [Disassembler(image, words.notation) for image in self.images]
         self.descriptions = [read_description(name) for name in words.description]
 
-    def of(self, values, side):
+    def of(self, values: list, side: int) -> Any:
         return values[min(side, len(values) - 1)]
 
-    def title(self, side):
+    def title(self, side: int) -> str:
         """The title of a trace, or its name."""
         titles = getattr(self.words, "title", None) or []
         return titles[side] if side < len(titles) else os.path.basename(self.names[side])
 
-    def trace(self, side):
+    def trace(self, side: int) -> Trace:
         return Trace(Progress(open_trace(self.names[side]), self.names[side]))
 
-    def replay(self, side, first=1):
+    def replay(self, side: int, first: int = 1) -> Replay:
         """The run; from a state before this cycle on, where the trace has an index."""
         description = self.of(self.words.description, side)
         image = self.of(self.images, side)
         found = index.replay_from(self.names[side], image, description, first) if first > 1 else None
         return found or Replay(self.trace(side), self.of(self.images, side), self.of(self.descriptions, side))
 
-    def disassembler(self, side):
+    def disassembler(self, side: int) -> Disassembler:
         return self.of(self.disassemblers, side)
 
 
-def lines_of(words, inputs):
+def lines_of(words: argparse.Namespace, inputs: Inputs) -> Generator[str, None, int]:
     """The lines that a subcommand writes, and then its status."""
     if words.what == "diff":
         return (yield from lines_of_diff(inputs))
@@ -136,7 +137,7 @@ def lines_of(words, inputs):
     return 0
 
 
-def index_made(inputs):
+def index_made(inputs: Inputs) -> str:
     """Makes the index of a trace, and tells what was made."""
     name = inputs.names[0]
     if name == "-" or not os.path.isfile(name):
@@ -147,7 +148,7 @@ def index_made(inputs):
     return f"{path}: {states} states of {replay.pipeline.cycle} cycles"
 
 
-def lines_of_runs(words, inputs):
+def lines_of_runs(words: argparse.Namespace, inputs: Inputs) -> Iterator[str]:
     """What is told of whole runs: their numbers, their stacks, their lines."""
     span, function = (words.first or 1, words.last), getattr(words, "function", None)
     by_place = words.what == "annotate" or words.what == "stats" and (words.json or len(inputs.names) == 2)
@@ -163,7 +164,7 @@ def lines_of_runs(words, inputs):
     return stats.lines_of(runs[0], words.top) if len(runs) == 1 else compare.lines_of(runs, words.top)
 
 
-def there(lines, replay, first):
+def there(lines: Iterator[str], replay: Replay, first: int) -> Iterator[str]:
     """The lines of a span of cycles, once it is known that the trace reaches to the first of them: the header waits for that."""
     held = list(islice(lines, 2))
     if replay.pipeline.cycle < first:
@@ -172,14 +173,14 @@ def there(lines, replay, first):
     yield from lines
 
 
-def lines_of_diff(inputs):
+def lines_of_diff(inputs: Inputs) -> Generator[str, None, int]:
     replays = [inputs.replay(side) for side in (0, 1)]
     found = difference.Difference([replay.trace for replay in replays], replays)
     yield from difference.lines_of(found, [inputs.disassembler(side) for side in (0, 1)])
     return 0 if found.cycle is None else 1
 
 
-def lines_of_picture(words, inputs):
+def lines_of_picture(words: argparse.Namespace, inputs: Inputs) -> Iterator[str]:
     """A panel for each trace, over one span of cycles: by default some before the first unequal cycle, or the first ones."""
     sides = range(len(inputs.names))
     marks = difference.first_unequal([inputs.trace(side) for side in sides]) if len(inputs.names) == 2 else None
@@ -195,7 +196,7 @@ def lines_of_picture(words, inputs):
     yield (page.page if words.what == "html" else drawing.picture)(panels)
 
 
-def main(asked):
+def main(asked: argparse.Namespace) -> int:
     """The status is 0, or 1 where traces differ or a wait is unexplained."""
     # what is gone is let go of by `forget`, so nothing is left for a search of cycles of references
     if sys.implementation.name == "cpython":
@@ -206,7 +207,7 @@ def main(asked):
     return write(lines, sys.stdout)
 
 
-def write_file(lines, name):
+def write_file(lines: Generator[str, None, int], name: str) -> int:
     """Writes the lines to a file of this name, which is made once the first of them is there."""
     held = [next(lines, None)]
     try:
@@ -218,12 +219,12 @@ def write_file(lines, name):
         raise Fault(f"{name}: {error.strerror}") from None
 
 
-def chained(held, lines):
+def chained(held: list, lines: Generator[str, None, int]) -> Generator[str, None, int]:
     yield from held
     return (yield from lines)
 
 
-def write(lines, file, name=""):
+def write(lines: Generator[str, None, int], file: IO[str], name: str = "") -> int:
     """Writes the lines, and answers the status that stands behind them."""
     try:
         while True:

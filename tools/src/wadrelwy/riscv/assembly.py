@@ -10,7 +10,7 @@ FORMS = {
 }
 
 
-def text(word):
+def text(word: int) -> str:
     """The instruction of a word, or the word itself where it is none of RV32IM."""
     _, name, imm = decode(word)
     if name == "illegal":

@@ -4,7 +4,7 @@ This is no disassembler: it tells an instruction's kind and which registers it r
 reasons for waiting need that.
 """
 from functools import cache
-from typing import NamedTuple
+from typing import NamedTuple, Optional
 
 ARITHMETIC, MULTIPLICATION, DIVISION = "arithmetic", "multiplication", "division"
 LOAD, STORE, BRANCH, JALR, JAL, CALL, STOP = "load", "store", "branch", "jalr", "jal", "call", "stop"
@@ -20,17 +20,17 @@ class Instruction(NamedTuple):
     destination: int
 
     @property
-    def is_control(self):
+    def is_control(self) -> bool:
         """A branch or JALR: what is resolved."""
         return self.kind in CONTROLS
 
     @property
-    def is_return(self):
+    def is_return(self) -> bool:
         """A JALR to what x1 says, that writes no register."""
         return self.kind == JALR and self.sources == (LINK,) and self.destination == 0
 
     @property
-    def at_once(self):
+    def at_once(self) -> bool:
         """A call or stop: Done from its renaming on, and never issued."""
         return self.kind in AT_ONCE
 
@@ -39,7 +39,7 @@ ILLEGAL = Instruction(STOP, (), 0)
 
 
 @cache
-def instruction_of(word):
+def instruction_of(word: Optional[int]) -> "Instruction":
     """The instruction of a word; None, which is what stands outside code, can only trap."""
     if word is None:
         return ILLEGAL
@@ -50,52 +50,52 @@ def instruction_of(word):
     return found or ILLEGAL
 
 
-def destination(word):
+def destination(word: int) -> int:
     return word >> 7 & 31
 
 
-def first(word):
+def first(word: int) -> int:
     return word >> 15 & 31
 
 
-def second(word):
+def second(word: int) -> int:
     return word >> 20 & 31
 
 
-def funct3(word):
+def funct3(word: int) -> int:
     return word >> 12 & 7
 
 
-def funct7(word):
+def funct7(word: int) -> int:
     return word >> 25
 
 
-def upper(word):
+def upper(word: int) -> "Instruction":
     return Instruction(ARITHMETIC, (), destination(word))
 
 
-def jal(word):
+def jal(word: int) -> "Optional[Instruction]":
     """A JAL can only trap where bit 1 of its immediate, bit 21 of the word, is set: its target is no multiple of 4."""
     return None if word >> 21 & 1 else Instruction(JAL, (), destination(word))
 
 
-def jalr(word):
+def jalr(word: int) -> "Optional[Instruction]":
     return Instruction(JALR, (first(word),), destination(word)) if funct3(word) == 0 else None
 
 
-def branch(word):
+def branch(word: int) -> "Optional[Instruction]":
     return Instruction(BRANCH, (first(word), second(word)), 0) if funct3(word) not in (2, 3) else None
 
 
-def load(word):
+def load(word: int) -> "Optional[Instruction]":
     return Instruction(LOAD, (first(word),), destination(word)) if funct3(word) in (0, 1, 2, 4, 5) else None
 
 
-def store(word):
+def store(word: int) -> "Optional[Instruction]":
     return Instruction(STORE, (first(word), second(word)), 0) if funct3(word) in (0, 1, 2) else None
 
 
-def with_immediate(word):
+def with_immediate(word: int) -> "Optional[Instruction]":
     """Shifts have fixed bits above their amount; the other forms have an immediate there."""
     fixed = {1: (0,), 5: (0, 0x20)}.get(funct3(word))
     if fixed and funct7(word) not in fixed:
@@ -103,7 +103,7 @@ def with_immediate(word):
     return Instruction(ARITHMETIC, (first(word),), destination(word))
 
 
-def with_registers(word):
+def with_registers(word: int) -> "Optional[Instruction]":
     legal = {0: range(8), 0x20: (0, 5), 1: range(8)}.get(funct7(word), ())
     if funct3(word) not in legal:
         return None
@@ -111,7 +111,7 @@ def with_registers(word):
     return Instruction(kind, (first(word), second(word)), destination(word))
 
 
-def fence(word):
+def fence(word: int) -> "Optional[Instruction]":
     return Instruction(ARITHMETIC, (), 0) if funct3(word) == 0 else None
 
 

@@ -2,7 +2,7 @@
 
 Which words are legal, their kinds and registers are told by `kinds`; here are names, immediates and effects."""
 from functools import cache
-from typing import NamedTuple
+from typing import NamedTuple, Optional
 
 from .kinds import BRANCH, ILLEGAL, LOAD, STORE, Instruction, instruction_of
 
@@ -39,51 +39,51 @@ class Effect(NamedTuple):
     misaligned: bool = False
 
 
-def signed(value, bits=32):
+def signed(value: int, bits: int = 32) -> int:
     """The low bits of a number, read with a sign."""
     value &= (1 << bits) - 1
     return value - ((value >> bits - 1) << bits)
 
 
 @cache
-def decode(word):
+def decode(word: Optional[int]) -> "Operation":
     """The operation of a word; None, which is what stands outside code, can only trap. `instruction_of` says which words are legal."""
     code = instruction_of(word)
     form = FORMS.get((word or 0) & 0x7f)
-    if form is None or code == ILLEGAL and word & 0x7f != JAL:
-        return Operation(code, {0x00000073: "ecall", 0x00100073: "ebreak"}.get(word, "illegal"))
+    if word is None or form is None or code == ILLEGAL and word & 0x7f != JAL:
+        return Operation(code, {0x00000073: "ecall", 0x00100073: "ebreak"}.get(word or 0, "illegal"))
     return Operation(code, *form(word))
 
 
-def immediate_i(word):
+def immediate_i(word: int) -> int:
     return signed(word >> 20, 12)
 
 
-def load(word):
+def load(word: int) -> tuple:
     return LOADS[word >> 12 & 7], immediate_i(word)
 
 
-def store(word):
+def store(word: int) -> tuple:
     return STORES[word >> 12 & 7], signed(word >> 25 << 5 | word >> 7 & 31, 12)
 
 
-def branch(word):
+def branch(word: int) -> tuple:
     imm = (word >> 31) << 12 | (word >> 7 & 1) << 11 | (word >> 25 & 0x3f) << 5 | (word >> 8 & 0xf) << 1
     return BRANCHES[word >> 12 & 7], signed(imm, 13)
 
 
-def jal(word):
+def jal(word: int) -> tuple:
     imm = (word >> 31) << 20 | (word >> 12 & 0xff) << 12 | (word >> 20 & 1) << 11 | (word >> 21 & 0x3ff) << 1
     return "jal", signed(imm, 21)
 
 
-def with_immediate(word):
+def with_immediate(word: int) -> tuple:
     """A shift has its amount where the other forms have an immediate."""
     name = IMMEDIATES.get(word >> 12 & 7)
     return (name, immediate_i(word)) if name else (SHIFTS[word >> 12 & 7, word >> 25], word >> 20 & 31)
 
 
-def with_registers(word):
+def with_registers(word: int) -> tuple:
     return REGISTERS[word >> 12 & 7, word >> 25], 0
 
 
@@ -99,22 +99,22 @@ FORMS = {
 VALUES = frozenset([*REGISTERS.values(), *IMMEDIATES.values(), *SHIFTS.values()])
 
 
-def division_time(name, dividend):
+def division_time(name: str, dividend: int) -> int:
     """The cycles that a division takes: 3, and one for each binary digit of the dividend's magnitude."""
     return 3 + abs(signed(dividend) if name in ("div", "rem") else dividend).bit_length()
 
 
-def extend(name, data):
+def extend(name: str, data: bytes) -> int:
     """The value of loaded bytes, the lowest first."""
     value = int.from_bytes(data, "little")
     return signed(value, 8 * len(data)) & WORD if name in ("lb", "lh") else value
 
 
-def jump(value, target):
+def jump(value: int, target: int) -> "Effect":
     return Effect(value, target, misaligned=target % 4 != 0)
 
 
-def effect(operation, pc, a=0, b=0):
+def effect(operation: "Operation", pc: int, a: int = 0, b: int = 0) -> "Effect":
     """The effect of an operation at this pc whose first and second source hold a and b."""
     (kind, sources, _), name, imm = operation
     behind = pc + 4 & WORD
@@ -135,7 +135,7 @@ def effect(operation, pc, a=0, b=0):
     return Effect(0, behind)
 
 
-def decoded_of(word):
+def decoded_of(word: int) -> "Decoded":
     """What is taken of a word to execute it."""
     operation = decode(word)
     return Decoded(operation, SIZES.get(operation.name, 0), operation.name in VALUES)

@@ -1,13 +1,16 @@
 """An image as the simulator loads it: besides code and symbols its entry and all of memory (docs/formats.md, "Images")."""
+from typing import Any
+
 from wadrelwy.elf import ELFFile
 from wadrelwy.view import Fault
+from wadrelwy.view.description import Description
 from wadrelwy.view.image import Image
 
 
 class Loaded(Image):
     """`memory` is the bytes from `base` on after loading; `misaligned` says whether accesses to it may have any address."""
 
-    def __init__(self, name, base, size, misaligned=False):
+    def __init__(self, name: str, base: int, size: int, misaligned: bool = False) -> None:
         super().__init__(name)
         self.name, self.base, self.memory, self.misaligned = name, base, bytearray(size), bool(misaligned)
         with open(name, "rb") as file:
@@ -17,7 +20,7 @@ class Loaded(Image):
                 if segment["p_memsz"]:
                     self.place(segment)
 
-    def place(self, segment):
+    def place(self, segment: Any) -> None:
         """The segment's bytes of the file, and 0 past them; a later segment stands over an earlier one."""
         start, size = segment["p_vaddr"] - self.base, segment["p_memsz"]
         if start < 0 or start + size > len(self.memory):
@@ -25,12 +28,12 @@ class Loaded(Image):
                         f"and memory is {self.base:08x} to {self.base + len(self.memory) - 1:08x}")
         self.memory[start:start + size] = segment.data().ljust(size, b"\0")
 
-    def named(self, address):
+    def named(self, address: int) -> str:
         """An address with its symbol: `00010018 <victim+0x8>`."""
         symbol = self.symbol(address)
         return f"{address:08x} <{symbol}>" if symbol else f"{address:08x}"
 
 
-def load(name, machine):
+def load(name: str, machine: "Description") -> "Loaded":
     """The image of a file in the memory of a description."""
-    return Loaded(name, machine.base, machine.size, machine.misaligned)
+    return Loaded(name, machine.base, machine.size, bool(machine.misaligned))

@@ -6,7 +6,7 @@ from wadrelwy.view import Fault
 class Patches:
     """The file of an image, of which copies with other bytes are made. A later segment lies over an earlier one."""
 
-    def __init__(self, path):
+    def __init__(self, path: str) -> None:
         self.path = path
         try:
             with open(path, "rb") as file:
@@ -16,18 +16,18 @@ class Patches:
         except OSError as error:
             raise Fault(f"{path}: {error.strerror}") from None
 
-    def place(self, address):
+    def place(self, address: int) -> int:
         """Where the byte of an address stands in the file."""
         for start, size, offset in reversed(self.segments):
             if start <= address < start + size:
                 return offset + address - start
         raise Fault(f"{self.path}: the file has no byte for {address:08x}; what begins as 0 (.bss) can't be given another value so")
 
-    def value(self, ranges):
+    def value(self, ranges: list) -> bytes:
         """The bytes of these ranges, one behind the other."""
         return bytes(self.content[self.place(address)] for each in ranges for address in each.addresses)
 
-    def write(self, path, ranges, value):
+    def write(self, path: str, ranges: list, value: bytes) -> str:
         """Writes a copy with this value of the ranges' bytes."""
         content = bytearray(self.content)
         addresses = [address for each in ranges for address in each.addresses]

@@ -2,9 +2,13 @@
 
 The traces of two images are proved equal where they have one entry and one code, and their memories agree on each byte that the
 path loads."""
-from typing import NamedTuple
+from typing import Iterator, NamedTuple, TYPE_CHECKING
 
 from .path import Path, walk
+
+if TYPE_CHECKING:
+    from wadrelwy.verdict.loaded import Loaded
+    from wadrelwy.view.description import Description
 
 
 class Premises(NamedTuple):
@@ -17,11 +21,11 @@ class Premises(NamedTuple):
     path: Path
 
     @property
-    def met(self):
+    def met(self) -> bool:
         return self.one_entry and not self.code and not self.shown
 
 
-def premises(one, two, description, retired):
+def premises(one: "Loaded", two: "Loaded", description: "Description", retired: int) -> "Premises":
     """Of two images, where the machine retires so many instructions of the first: the path goes on for as many more as the window
     may hold."""
     path = walk(one, description.model, retired + description.rob)
@@ -31,7 +35,7 @@ def premises(one, two, description, retired):
     return Premises(one.entry == two.entry, code, memory, shown, path)
 
 
-def unequal(one, two, part=4096):
+def unequal(one: bytearray, two: bytearray, part: int = 4096) -> Iterator:
     """The places at which two rows of bytes differ."""
     for start in range(0, len(one), part):
         a, b = one[start:start + part], two[start:start + part]

@@ -1,8 +1,9 @@
 """Secrets by name: the words `SYMBOL[+OFFSET][:BYTES]` and `ADDRESS:BYTES` as ranges of an image's memory (docs/secrets.md)."""
 import re
-from typing import NamedTuple
+from typing import NamedTuple, Optional
 
 from wadrelwy.view import Fault
+from wadrelwy.view.image import Image
 
 # numbers as the program reads them (docs/formats.md, "Words of stt_secrets"): zeros and a plus may stand before the digits
 DECIMAL = r"\+?[0-9]+"
@@ -19,16 +20,16 @@ class Range(NamedTuple):
     size: int
 
     @property
-    def word(self):
+    def word(self) -> str:
         """As the program reads it."""
         return f"0x{self.address:08x}:{self.size}"
 
     @property
-    def addresses(self):
+    def addresses(self) -> range:
         return range(self.address, self.address + self.size)
 
 
-def named(image, word):
+def named(image: "Image", word: str) -> "Range":
     """The range that a word names in an image."""
     found = WORD.fullmatch(word)
     if found is None:
@@ -52,7 +53,7 @@ def number(word, text):
     return found
 
 
-def symbol(image, name):
+def symbol(image: "Image", name: str) -> tuple:
     """Address and size of the one symbol of this name."""
     places = sorted({(address, size) for address, size, other in image.symbols if other == name})
     if not places:
@@ -62,7 +63,7 @@ def symbol(image, name):
     return places[0]
 
 
-def part(word, address, whole, offset, size):
+def part(word: str, address: int, whole: int, offset: int, size: Optional[int]) -> "Range":
     """Some of a symbol's bytes, which may be as many as it has; a label of assembly has none, and any number may be asked for."""
     if size is None:
         size = whole - offset
@@ -73,10 +74,10 @@ def part(word, address, whole, offset, size):
     return Range(address + offset, size)
 
 
-def of_addresses(addresses):
+def of_addresses(addresses: list) -> list:
     """Sorted addresses as ranges. Where they are too many for a command line, those that lie closest are taken together with what lies
     between."""
-    found = []
+    found: list = []
     for address in addresses:
         if found and found[-1].address + found[-1].size == address:
             found[-1] = Range(found[-1].address, found[-1].size + 1)
@@ -85,7 +86,7 @@ def of_addresses(addresses):
     return joined(found)
 
 
-def joined(ranges):
+def joined(ranges: list) -> list:
     """At most MOST_RANGES ranges that have all these bytes."""
     gaps = sorted(later.address - each.address - each.size for each, later in zip(ranges, ranges[1:]))
     allowed = gaps[len(ranges) - MOST_RANGES - 1] if len(ranges) > MOST_RANGES else 0

@@ -5,9 +5,12 @@ from typing import NamedTuple, Optional
 
 from wadrelwy import built_programs
 from wadrelwy.view import Fault
+from wadrelwy.view.disassembly import Disassembler
 from wadrelwy.view.trace import End, read_end
 
 from . import ranges, simulator
+from .loaded import Loaded
+from .premises import Premises
 
 ACCESS, DIVISION, BRANCH, CALL = "access", "division", "branch", "call"
 # what of an instruction shows
@@ -30,7 +33,7 @@ class Answer(NamedTuple):
     end: Optional[End]
 
     @property
-    def is_cut(self):
+    def is_cut(self) -> bool:
         """Whether the budget ended the run: then nothing shows in its cycles, and of later ones nothing is said."""
         return self.end is not None and self.end.how == "budget"
 
@@ -44,17 +47,17 @@ class Asked(NamedTuple):
 NOT_ASKED = Asked(None, f"no program {built_programs.SECRETS}")
 
 
-def words_of(description, image, secret, cycles):
+def words_of(description: str, image: str, secret: list, cycles: int) -> list:
     """The words that ask the program of these ranges."""
     return [description, image, *(word for each in secret for word in ("--secret", each.word)), "--cycles", str(cycles)]
 
 
-def ask(program, description, image, secret, cycles):
+def ask(program: str, description: str, image: str, secret: list, cycles: int) -> "Answer":
     """What the program says of these ranges."""
     return read_answer(simulator.run(program, *words_of(description, image, secret, cycles)), program)
 
 
-def read_answer(text, program="the program"):
+def read_answer(text: str, program: str = "the program") -> "Answer":
     shown, hidden = SHOWN.fullmatch(text), HIDDEN.fullmatch(text)
     if shown:
         cycle, what, serial, pc = shown.groups()
@@ -64,7 +67,7 @@ def read_answer(text, program="the program"):
     raise Fault(f"{program} doesn't answer as {built_programs.SECRETS} does: is it that program?")
 
 
-def asked_of_pair(program, description, one, premises, cycles):
+def asked_of_pair(program: Optional[str], description: str, one: Loaded, premises: Premises, cycles: int) -> Asked:
     """What the program says of the bytes that differ between two images, as the first has them; a refusal is told, and is none of the
     verdict."""
     if program is None:
@@ -79,6 +82,6 @@ def asked_of_pair(program, description, one, premises, cycles):
         return Asked(None, str(fault))
 
 
-def place(shown, texts):
+def place(shown: Shown, texts: Disassembler) -> str:
     """What shows, as a line: `0001001c lbu a0, 0(a5) <lookup+0x8> table.c:9: its address, in cycle 106, entry 11`."""
     return f"{texts.place(shown.pc)}: {WHAT[shown.what]}, in cycle {shown.cycle}, entry {shown.serial}"

@@ -4,15 +4,20 @@ The columns: how often it retired; the cycles that are charged to it (`stack`); 
 older stores, for a port, a miss register or the divider, and by the defence; its loads that missed, its mispredictions. Waits of several
 instructions overlap, charged cycles don't.
 """
+from typing import Iterator, Optional, TYPE_CHECKING
+
 from .places import COLUMNS, function_of, merged, slots_by_address
+
+if TYPE_CHECKING:
+    from wadrelwy.view.stats import Run
 
 HEADER = (f"{'retired':>9}{'cycles':>11}{'operand':>9}{'store':>8}{'port':>8}{'defence':>9}{'misses':>8}{'mispred':>8}")
 
 
-def lines_of(run, by_source):
+def lines_of(run: "Run", by_source: bool) -> Iterator[str]:
     """A table for each function, that with the most cycles first; by source lines where the image tells them and it is asked for."""
     slots, width = slots_by_address(run.slots), run.slots.width
-    functions = {}
+    functions: dict = {}
     for pc in {*run.places.counts, *slots} - {None}:
         functions.setdefault(function_of(run.image, pc), []).append(pc)
     order = sorted(functions, key=lambda name: (-sum(slots.get(pc, 0) for pc in functions[name]), name))
@@ -25,7 +30,7 @@ def lines_of(run, by_source):
         yield from write(run, name, addresses, slots)
 
 
-def counted(run, addresses, slots):
+def counted(run: "Run", addresses: list, slots: dict) -> str:
     """The columns of these addresses together."""
     sums = merged(run.places.counts[pc] for pc in addresses if pc in run.places.counts)
     cycles = sum(slots.get(pc, 0) for pc in addresses) / run.slots.width
@@ -34,7 +39,7 @@ def counted(run, addresses, slots):
     return f"{retired:>9}{f'{cycles:.2f}' if cycles else '':>11}{operand:>9}{store:>8}{port:>8}{defence:>9}{misses:>8}{wrong:>8}"
 
 
-def instruction_lines(run, name, addresses, slots):
+def instruction_lines(run: "Run", name: str, addresses: list, slots: dict) -> Iterator[str]:
     """Every instruction of the function, also those that were never fetched."""
     inside = [pc for pc in run.image.words if addresses[0] <= pc <= addresses[-1] or function_of(run.image, pc) == name]
     for pc in sorted(pc for pc in {*inside, *addresses} if function_of(run.image, pc) == name):
@@ -42,9 +47,10 @@ def instruction_lines(run, name, addresses, slots):
         yield f"{counted(run, [pc], slots)}  {run.disassembler.address_and_text(pc)}" + (f"  {source}" if source else "")
 
 
-def source_lines(run, name, addresses, slots):
+def source_lines(run: "Run", name: str, addresses: list, slots: dict) -> Iterator[str]:
     """The lines of each file that the function's instructions come from, from the first to the last that has any."""
-    lines, without = {}, []
+    lines: dict = {}
+    without = []
     for pc in addresses:
         line = run.image.sources.line(pc)
         if line is None:
@@ -62,7 +68,7 @@ def source_lines(run, name, addresses, slots):
         yield f"{counted(run, without, slots)}  instructions without a line"
 
 
-def text_of(path):
+def text_of(path: str) -> Optional[list]:
     """The lines of a source file; none where it can't be read."""
     try:
         with open(path, encoding="utf-8", errors="replace") as file:

@@ -1,11 +1,13 @@
 """`stats A B`: two runs by function, as of two builds of one program or of one build under two descriptions."""
+from typing import Iterator
+
 from .numbers import functions
 from .slots import STACK
 
 COUNTS = ("retired", "misses", "mispredicted", "defence")
 
 
-def lines_of(runs, most):
+def lines_of(runs: list, most: int) -> Iterator[str]:
     """The sums of both, the difference of each reason, and of each function: cycles that are charged to it, and counts."""
     first, second = runs
     yield f"A: {first.name}: {first.cycles} cycles, {first.counts.retired} retired"
@@ -19,7 +21,7 @@ def lines_of(runs, most):
     yield from function_lines(runs, most)
 
 
-def function_lines(runs, most):
+def function_lines(runs: list, most: int) -> Iterator[str]:
     tables = [{row["function"]: row for row in functions(run)} for run in runs]
     names = {*tables[0], *tables[1]}
     cycles = {name: [table.get(name, {}).get("slots", 0) / run.slots.width for table, run in zip(tables, runs)] for name in names}
@@ -30,5 +32,5 @@ def function_lines(runs, most):
         yield (row(name, *cycles[name]) + "  " + "  ".join(counts)).rstrip()
 
 
-def row(name, first, second):
+def row(name: str, first: float, second: float) -> str:
     return f"{name[:33]:34}{first:>12.2f}{second:>12.2f}{second - first:>+12.2f}"

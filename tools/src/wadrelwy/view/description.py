@@ -3,7 +3,7 @@
 The simulator refuses what is no description; here only what the reasons need is asked for.
 """
 import tomllib
-from typing import NamedTuple
+from typing import NamedTuple, Optional
 
 from . import Fault
 
@@ -59,7 +59,7 @@ class Description(NamedTuple):
     defence: str
 
 
-def read_description(name):
+def read_description(name: str) -> "Description":
     """The description of a file."""
     try:
         with open(name, "rb") as file:

@@ -1,7 +1,11 @@
 """`diff`: the first unequal cycle of two traces, and the events that only one of them has in it."""
 from collections import Counter, deque
 from itertools import zip_longest
-from typing import NamedTuple
+from typing import Iterator, NamedTuple, Optional, Sequence, TYPE_CHECKING
+
+if TYPE_CHECKING:
+    from wadrelwy.view.disassembly import Disassembler
+    from wadrelwy.view.pipeline import Pipeline
 
 OF_AN_ENTRY = {"done", "res", "clr", "vio", "ret", "st", "call", "alu", "mul", "div", "agu", "std", "ld", "ren"}
 OF_A_LINE = {"fill": 1, "ld": 2, "st": 2}
@@ -13,7 +17,7 @@ class Difference:
     `cycle` is None where the traces are equal. Where only the last lines differ it is the last cycle.
     """
 
-    def __init__(self, traces, replays):
+    def __init__(self, traces: list, replays: list) -> None:
         self.traces, self.replays = traces, replays
         self.cycle, self.rows = None, [None, None]
         for rows in zip_longest(*traces):
@@ -29,7 +33,7 @@ class Difference:
             self.rows = [None, None]
 
 
-def texts(traces):
+def texts(traces: list) -> list:
     return [trace.end.text if trace.end else "(no last line)" for trace in traces]
 
 
@@ -40,7 +44,7 @@ class Mark(NamedTuple):
     only: list
 
 
-def first_unequal(traces):
+def first_unequal(traces: list) -> Optional[list]:
     """The mark of each of two traces, from their texts alone; None where they are equal."""
     cycle = 0
     for rows in zip_longest(*traces):
@@ -51,7 +55,7 @@ def first_unequal(traces):
     return [Mark(cycle, [])] * 2 if texts(traces)[0] != texts(traces)[1] else None
 
 
-def only(rows, side):
+def only(rows: Sequence, side: int) -> list:
     """The events of this side's row that the other's hasn't, in their order."""
     if rows[side] is None:
         return []
@@ -64,7 +68,7 @@ def only(rows, side):
     return found
 
 
-def lines_of(difference, disassemblers):
+def lines_of(difference: "Difference", disassemblers: list) -> Iterator[str]:
     """The lines of `diff`."""
     if difference.cycle is None:
         yield f"equal: {difference.replays[0].pipeline.cycle} cycles"
@@ -79,7 +83,7 @@ def lines_of(difference, disassemblers):
             yield f"  only {name}: {told(event, difference.replays[side].pipeline, disassemblers[side])}"
 
 
-def told(event, pipeline, disassembler):
+def told(event: str, pipeline: "Pipeline", disassembler: "Disassembler") -> str:
     """An event with the instruction and the symbol that it is about, and the symbol of its line."""
     words = event.split(":")
     place = ""
@@ -90,11 +94,11 @@ def told(event, pipeline, disassembler):
     elif words[0] == "bt":
         place = "to " + disassembler.place(int(words[2], 16))
     at = OF_A_LINE.get(words[0])
-    symbol = disassembler.image.symbol(int(words[at], 16)) if at and len(words) > at + 1 or words[0] == "fill" else ""
+    symbol = disassembler.image.symbol(int(words[at], 16)) if at is not None and (at and len(words) > at + 1 or words[0] == "fill") else ""
     return f"{event:24}" + "  ".join(filter(None, [place, symbol and f"line of <{symbol}>"])).rstrip()
 
 
-def place_of(serial, pipeline, disassembler):
+def place_of(serial: int, pipeline: "Pipeline", disassembler: "Disassembler") -> str:
     """The instruction of an entry, also of one that this very cycle retired or dropped."""
     item = next((item for item in pipeline.flight if item.serial == serial), None)
     return f"{serial} {disassembler.place(item.pc)}" if item else ""

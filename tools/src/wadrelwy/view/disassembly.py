@@ -7,6 +7,7 @@ import re
 import shutil
 import subprocess
 import tempfile
+from typing import Any
 
 OBJDUMPS = ("riscv64-unknown-elf-objdump", "riscv32-unknown-elf-objdump", "riscv64-linux-gnu-objdump")
 CALLERS, MANUAL, KINDS = "abi", "manual", "kinds"
@@ -24,12 +25,12 @@ class Disassembler:
     registers and, with objdump, no aliases (`addi x17, x0, 93`); `kinds` asks no disassembler.
     """
 
-    def __init__(self, image, notation=CALLERS):
+    def __init__(self, image: Any, notation: str = CALLERS) -> None:
         self.image, self.notation = image, notation
         self.objdump = next(filter(None, map(shutil.which, OBJDUMPS)), None)
         self.by, self.texts = self.read_texts()
 
-    def read_texts(self):
+    def read_texts(self) -> tuple:
         """Who tells them, and the texts by address."""
         if self.notation == KINDS:
             return KINDS, {}
@@ -40,22 +41,22 @@ class Disassembler:
             return "capstone", self.by_capstone(engine)
         return KINDS, {}
 
-    def text(self, pc):
+    def text(self, pc: int) -> str:
         """The instruction at an address."""
         if pc not in self.texts:
             self.texts[pc] = self.by_kind(pc)
         return self.texts[pc]
 
-    def place(self, pc):
+    def place(self, pc: int) -> str:
         """The address, the instruction, the symbol and the source's line if there are any: `00010018 lw x7, -2048(x6) <main+0x18> a.c:7`."""
         symbol, line = self.image.symbol(pc), self.image.sources.told(pc)
         return self.address_and_text(pc) + (f" <{symbol}>" if symbol else "") + (f" {line}" if line else "")
 
-    def address_and_text(self, pc):
+    def address_and_text(self, pc: int) -> str:
         """The same without symbol and line."""
         return f"{pc:08x} {self.text(pc)}"
 
-    def by_objdump(self):
+    def by_objdump(self) -> dict:
         found = {}
         options = ["-M", "no-aliases,numeric"] if self.notation == MANUAL else []
         for start, data in self.image.pieces:
@@ -63,7 +64,7 @@ class Disassembler:
             with tempfile.NamedTemporaryFile(suffix=".bin") as file:
                 file.write(data[skip:])
                 file.flush()
-                command = [self.objdump, "-D", "-z", "-b", "binary", "-m", "riscv:rv32", *options,
+                command = [str(self.objdump), "-D", "-z", "-b", "binary", "-m", "riscv:rv32", *options,
                            f"--adjust-vma={start + skip}", file.name]
                 output = subprocess.run(command, capture_output=True, text=True, check=True).stdout
             for line in map(LINE.match, output.splitlines()):
@@ -71,7 +72,7 @@ class Disassembler:
                     found[int(line[1], 16)] = self.written(line[2], line[3])
         return found
 
-    def by_capstone(self, engine):
+    def by_capstone(self, engine: Any) -> dict:
         found = {}
         for start, data in self.image.pieces:
             skip = -start % 4
@@ -79,14 +80,14 @@ class Disassembler:
                 found[one.address] = self.written(one.mnemonic, one.op_str)
         return found
 
-    def written(self, mnemonic, operands):
+    def written(self, mnemonic: str, operands: str) -> str:
         """One form for both: a blank behind each comma, and the registers as the notation has them."""
         operands = ", ".join(part.strip() for part in operands.split(","))
         if self.notation == MANUAL:
             operands = REGISTER.sub(lambda found: NUMBER_OF[found[0]], operands)
         return f"{mnemonic} {operands}".strip()
 
-    def by_kind(self, pc):
+    def by_kind(self, pc: int) -> str:
         """The kind, the register written and those read, where no disassembler tells more."""
         if pc not in self.image.words:
             return "(no code)"
@@ -97,7 +98,7 @@ class Disassembler:
         return f"{kind} {', '.join(f'x{number}' for number in registers)}".strip()
 
 
-def riscv_engine():
+def riscv_engine() -> Any:
     """Capstone for RV32, if it is there and knows it. It is asked for only where it is needed, as it takes a second to come in."""
     try:
         import capstone

@@ -3,6 +3,7 @@ import hashlib
 import importlib
 import os
 import sys
+from typing import IO, Sequence
 
 # a trace of so many bytes is long
 LARGE, LARGE_PACKED = 20_000_000, 4_000_000
@@ -14,7 +15,7 @@ COMPILED = {"view": ("checks", "counts", "front_end", "items", "memory_side", "p
 FOLDER, STAMP = os.path.join(PACKAGE, "compiled"), "stamp"
 
 
-def stamp():
+def stamp() -> str:
     """What the compiled modules are made of: the Python, and the texts of the sources."""
     found = hashlib.sha256(sys.version.encode())
     for path in [os.path.join(PACKAGE, package, name) for package, names in COMPILED.items() for name in names]:
@@ -24,7 +25,7 @@ def stamp():
     return found.hexdigest()
 
 
-def by_compiled(words, folder=FOLDER):
+def by_compiled(words: Sequence[str], folder: str = FOLDER) -> bool:
     """Takes the compiled modules where they are those of these sources, and answers whether it does. Not where the state of a run is
     written or read: an index has the plain ones' values."""
     if words[:1] == ["index"] or from_index(words) or sys.implementation.name != "cpython":
@@ -40,12 +41,12 @@ def by_compiled(words, folder=FOLDER):
     return True
 
 
-def from_index(words):
+def from_index(words: Sequence[str]) -> bool:
     """Whether the command begins within a trace by its index."""
     return any(os.path.isfile(word + ".index") for word in words) and any(word.startswith("--from") for word in words)
 
 
-def is_large(name):
+def is_large(name: str) -> bool:
     """Whether this is the file of a long trace."""
     try:
         return os.path.isfile(name) and os.path.getsize(name) > (LARGE_PACKED if name.endswith(".gz") else LARGE)
@@ -53,7 +54,7 @@ def is_large(name):
         return False
 
 
-def advise(words, screen=sys.stderr):
+def advise(words: Sequence[str], screen: IO[str] = sys.stderr) -> None:
     """Says on a terminal what makes long traces faster, where a word names one."""
     if screen.isatty() and not from_index(words) and any(map(is_large, words)):
         print('wadrelwy view: a long trace; `tools/compile` makes this some times as fast (docs/view.md, "Long traces")', file=screen)

@@ -12,61 +12,68 @@ import pickle
 import sys
 import zipfile
 from types import MethodType
+from typing import Any, IO, Iterator, Optional, TYPE_CHECKING
 
 from . import Fault
 from .replay import Replay
 from .trace import Trace, lines_of_file, open_trace
+
+if TYPE_CHECKING:
+    from wadrelwy.view.image import Image
 
 EVERY = 4000
 # which values a state has: another number where they change, so that an index of before isn't used
 FORM = 5
 HEAD = "head.json"
 CLASSES = {
-    "builtins": {"bytearray"}, "collections": {"Counter", "OrderedDict"}, "wadrelwy.view.pipeline": {"Pipeline"}, "wadrelwy.view.items": {"Code", "Item", "Wait"},
-    "wadrelwy.view.memory_side": {"Cache", "Divider", "Miss"}, "wadrelwy.riscv.kinds": {"Instruction"}, "wadrelwy.view.description": {"Description"},
-    "wadrelwy.view.reasons": {"Reasons"}, "wadrelwy.view.front_end": {"FrontEnd", "Stall"}, "wadrelwy.view.checks": {"Checks"}, "wadrelwy.view.slots": {"Slots", "Late"},
-    "wadrelwy.view.replay": {"Replay"}}
+    "builtins": {"bytearray"}, "collections": {"Counter", "OrderedDict"}, "wadrelwy.riscv.kinds": {"Instruction"},
+    "wadrelwy.view.pipeline": {"Pipeline"}, "wadrelwy.view.items": {"Code", "Item", "Wait"},
+    "wadrelwy.view.memory_side": {"Cache", "Divider", "Miss"}, "wadrelwy.view.description": {"Description"},
+    "wadrelwy.view.reasons": {"Reasons"}, "wadrelwy.view.front_end": {"FrontEnd", "Stall"}, "wadrelwy.view.checks": {"Checks"},
+    "wadrelwy.view.slots": {"Slots", "Late"}, "wadrelwy.view.replay": {"Replay"}}
 
 
-def file_name(trace):
+def file_name(trace: str) -> str:
     return trace + ".index"
 
 
 class Careful(pickle.Unpickler):
     """Takes the classes of a state, and no other names."""
 
-    def find_class(self, module, name):
+    image: "Image"
+
+    def find_class(self, module: str, name: str) -> Any:
         if name not in CLASSES.get(module, ()):
             raise pickle.UnpicklingError(f"{module}.{name} has no place in a state")
         return super().find_class(module, name)
 
-    def persistent_load(self, name):
+    def persistent_load(self, name: str) -> "Optional[Image]":
         return self.image if name == "image" else None
 
 
 class Keeper(pickle.Pickler):
     """Leaves out the image and the method that tells what is unexplained."""
 
-    def __init__(self, file, image):
+    def __init__(self, file: IO, image: "Image") -> None:
         super().__init__(file, protocol=4)
         self.image = image
 
-    def persistent_id(self, value):
+    def persistent_id(self, value: Any) -> Optional[str]:
         if value is self.image:
             return "image"
         return "tell" if isinstance(value, MethodType) else None
 
 
-def identity(trace, image, description):
+def identity(trace: str, image: str, description: str) -> dict:
     """What an index belongs to."""
-    found = {"form": FORM, "every": EVERY, "size": os.path.getsize(trace)}
+    found: dict = {"form": FORM, "every": EVERY, "size": os.path.getsize(trace)}
     for name, path in (("image", image), ("description", description)):
         with open(path, "rb") as file:
             found[name] = hashlib.sha256(file.read()).hexdigest()
     return found
 
 
-def write(replay, image, description, name, told):
+def write(replay: "Replay", image: "Image", description: str, name: str, told: "Told") -> tuple:
     """Takes the run through, and keeps its state after every so many cycles. `told` gets the lines of the trace, and counts their bytes."""
     path = file_name(name)
     states = {}
@@ -86,7 +93,7 @@ def write(replay, image, description, name, told):
     return path, len(states)
 
 
-def state_of(replay, image):
+def state_of(replay: "Replay", image: "Image") -> bytes:
     """The state of a run: what only grows is left behind."""
     pipeline = replay.pipeline
     pipeline.fills, replay.front.stalls = [], []
@@ -105,7 +112,7 @@ def state_of(replay, image):
     return kept.getvalue()
 
 
-def replay_from(name, image, description_name, first):
+def replay_from(name: str, image: "Image", description_name: str, first: int) -> "Optional[Replay]":
     """The run from the last state on that is kept of a cycle before this one, or None where there is no index of this trace, image and
     description."""
     path = file_name(name)
@@ -127,7 +134,7 @@ def replay_from(name, image, description_name, first):
     return going_on(replay, name, head["states"][str(cycle)], cycle)
 
 
-def going_on(replay, name, place, cycle):
+def going_on(replay: "Replay", name: str, place: int, cycle: int) -> "Replay":
     """The run with the rest of its trace."""
     if not isinstance(replay, Replay):
         raise Fault(f"{file_name(name)}: no index of a trace")
@@ -137,7 +144,7 @@ def going_on(replay, name, place, cycle):
     return replay
 
 
-def rest(name, place):
+def rest(name: str, place: int) -> Iterator:
     """The lines of a trace from this byte on."""
     with open_trace(name).detach() as binary:
         binary.seek(place)
@@ -148,8 +155,9 @@ def rest(name, place):
 class Told:
     """The lines of a trace as they are read, and how many bytes had been read when a cycle's line was."""
 
-    def __init__(self, lines):
-        self.lines, self.read, self.places = lines, 0, {}
+    def __init__(self, lines: Any) -> None:
+        self.lines, self.read = lines, 0
+        self.places: dict = {}
 
     def __iter__(self):
         for number, line in enumerate(self.lines, 1):
@@ -158,6 +166,6 @@ class Told:
                 self.places[number] = self.read
             yield line
 
-    def place(self, cycle):
+    def place(self, cycle: int) -> int:
         """Where the line behind that of a cycle begins."""
         return self.places.pop(cycle)

@@ -7,11 +7,18 @@ Div, St, and Lh, Lm, Lj, L2, Lf, Lx for loads); Cm done; Ct done, and its outcom
 dependences.
 What is in flight at the end is told as flushed.
 """
+from typing import Iterator, Optional, TYPE_CHECKING
+
 from .listing import tip
 from .reasons import (
     ADDRESS_PORT, BASE, DATA, DATA_PORT, DIVIDER, HELD_BACK, MISS_REGISTER, OLDER_STORE, OPERAND, PORT, STORE_ADDRESS, STORE_DATA,
     STORE_TAINT, TAINT, TAINTED_CLEARING, TAINTED_OUTCOME, TWO_REGISTERS)
 from .spans import DONE, QUEUE, RENAMED, RETIRED, spans_of
+
+if TYPE_CHECKING:
+    from wadrelwy.view.disassembly import Disassembler
+    from wadrelwy.view.items import Item
+    from wadrelwy.view.replay import Replay
 
 STAGES = {
     QUEUE: "F", RENAMED: "Rn", OPERAND: "Wo", TAINT: "Wt", OLDER_STORE: "Ws", PORT: "Wp", MISS_REGISTER: "Wm", DIVIDER: "Wd",
@@ -24,9 +31,9 @@ STAGES = {
 IS_RETIRED, IS_FLUSHED = 0, 1
 
 
-def stages(item, end):
+def stages(item: "Item", end: int) -> list:
     """The stages as (first, behind, name): the cycle of the retirement is one more of Cm."""
-    found = []
+    found: list = []
     for first, behind, name in spans_of(item, end):
         if name in STAGES and found and found[-1][2] == STAGES[name]:
             found[-1] = (found[-1][0], behind, STAGES[name])
@@ -35,7 +42,7 @@ def stages(item, end):
     return found
 
 
-def lines_of(replay, disassembler, first, last):
+def lines_of(replay: "Replay", disassembler: "Disassembler", first: int, last: Optional[int]) -> Iterator[str]:
     """The lines of the log, for the instructions that are there in the cycles from `first` to `last`."""
     yield "Kanata\t0004"
     log = Log()
@@ -50,14 +57,16 @@ def lines_of(replay, disassembler, first, last):
 class Log:
     """Lines by their cycles, until no more can come for these: items come in the order of fetching."""
 
-    def __init__(self):
-        self.lines, self.cycle, self.retired = {}, None, 0
-        self.numbers = {}
+    def __init__(self) -> None:
+        self.lines: dict = {}
+        self.cycle: Optional[int] = None
+        self.retired = 0
+        self.numbers: dict = {}
 
-    def put(self, cycle, *words):
+    def put(self, cycle: int, *words: object) -> None:
         self.lines.setdefault(cycle, []).append("\t".join(map(str, words)))
 
-    def up_to(self, cycle):
+    def up_to(self, cycle: Optional[int]) -> Iterator[str]:
         """The lines of the cycles below this one; all of them for None."""
         for when in sorted(when for when in self.lines if cycle is None or when < cycle):
             if when != self.cycle:
@@ -65,7 +74,7 @@ class Log:
                 self.cycle = when
             yield from self.lines.pop(when)
 
-    def add(self, item, behind, disassembler):
+    def add(self, item: "Item", behind: int, disassembler: "Disassembler") -> None:
         """All lines of one instruction; one that is still in flight ends in the cycle `behind` the last."""
         number = self.numbers[item.number] = len(self.numbers)
         self.put(item.fetched, "I", number, item.number if item.serial < 0 else item.serial, 0)
@@ -78,7 +87,7 @@ class Log:
         self.put(end, "R", number, self.retired, IS_RETIRED if item.retired is not None else IS_FLUSHED)
         self.retired += item.retired is not None
 
-    def add_dependences(self, item, number):
+    def add_dependences(self, item: "Item", number: int) -> None:
         if item.issued is not None:
             for producer in dict.fromkeys(item.producers):
                 if producer in self.numbers:

@@ -1,16 +1,23 @@
 """`list`: one line an instruction with all its times."""
+from typing import Any, Iterator, Optional, TYPE_CHECKING
+
 from .items import NEVER
 from .pipeline import LOAD_UNITS
 from .places import function_of
 from .reasons import HELD, HELD_BACK
 from .why import cycles, held_by
 
+if TYPE_CHECKING:
+    from wadrelwy.view.disassembly import Disassembler
+    from wadrelwy.view.items import Item, Wait
+    from wadrelwy.view.replay import Replay
+
 TIMES = ("fetched", "renamed", "ready", "issued", "done", "resolved", "retired")
 PART_NAMES = {"agu": "address", "std": "data"}
 HEADER = f"{'serial':>8}" + "".join(f"{name:>9}" for name in TIMES) + "  instruction"
 
 
-def lines_of(replay, disassembler, first, last, function=None):
+def lines_of(replay: "Replay", disassembler: "Disassembler", first: int, last: Optional[int], function: Optional[str] = None) -> Iterator[str]:
     """A header, and each instruction that is there in the cycles from `first` to `last`, of one function where it is asked for."""
     yield HEADER
     last = NEVER if last is None else last
@@ -20,16 +27,16 @@ def lines_of(replay, disassembler, first, last, function=None):
             yield line_of(item, disassembler)
 
 
-def line_of(item, disassembler):
+def line_of(item: "Item", disassembler: "Disassembler") -> str:
     times = "".join(f"{shown(getattr(item, name)):>9}" for name in TIMES)
     return f"{item.serial if item.serial >= 0 else '-':>8}{times}  " + "; ".join([disassembler.place(item.pc), *notes(item)])
 
 
-def shown(number):
+def shown(number: Optional[int]) -> Any:
     return "-" if number is None else number
 
 
-def notes(item):
+def notes(item: "Item") -> Iterator[str]:
     """What the times don't tell: the access, the outcome, taint, and how it went."""
     if item.unit and item.code.kind == "load":
         yield ", ".join(f"{LOAD_UNITS[found]} {line:08x}" for line, found in item.lines) or item.unit
@@ -55,7 +62,7 @@ def notes(item):
         yield "in flight at the end"
 
 
-def tip(item, disassembler):
+def tip(item: "Item", disassembler: "Disassembler") -> str:
     """The same as a text of a few lines, for a picture."""
     times = [f"{name} {getattr(item, name)}" for name in TIMES if getattr(item, name) is not None]
     serial = "" if item.serial < 0 else f"{item.serial} "
@@ -63,5 +70,5 @@ def tip(item, disassembler):
     return "\n".join([serial + disassembler.place(item.pc), ", ".join(times), *notes(item), *waits])
 
 
-def of(wait):
+def of(wait: "Wait") -> str:
     return "" if wait.serial < 0 else f" of {wait.serial}"

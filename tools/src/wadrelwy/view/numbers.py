@@ -1,20 +1,24 @@
 """`stats --json`: the numbers of a run as one JSON object. Cycles, slots and instructions are whole numbers."""
 import json
 from collections import Counter
+from typing import Iterator, TYPE_CHECKING
 
 from wadrelwy.riscv.kinds import BRANCH, JALR
 
 from .places import by_function, function_of, merged, slots_by_address
 from .stats import LOAD_KINDS, OTHER_UNITS, RETURN
 
+if TYPE_CHECKING:
+    from wadrelwy.view.stats import Run
 
-def lines_of(runs, most):
+
+def lines_of(runs: list, most: int) -> Iterator[str]:
     """The object of one run, or the list of those of two."""
     found = [numbers(run, most) for run in runs]
     yield json.dumps(found if len(found) > 1 else found[0], indent=1)
 
 
-def numbers(run, most):
+def numbers(run: "Run", most: int) -> dict:
     """All numbers of a run; of places and functions those that cost most."""
     counts, replay = run.counts, run.replay
     pipeline, end = replay.pipeline, replay.trace.end
@@ -41,29 +45,31 @@ def numbers(run, most):
     }
 
 
-def share(number, retired):
+def share(number: int, retired: int) -> float:
     return 1000 * number / max(retired, 1)
 
 
-def summed(by_place):
-    found = Counter()
+def summed(by_place: dict) -> dict:
+    found: Counter = Counter()
     for (reason, _), number in by_place.items():
         found[reason] += number
     return dict(found.most_common())
 
 
-def functions(run):
+def functions(run: "Run") -> list:
     """Each function with its slots and counts, that with the most slots first."""
-    slots, rows = by_function(run.image, slots_by_address(run.slots)), {}
+    slots = by_function(run.image, slots_by_address(run.slots))
+    rows: dict = {}
     for pc, row in run.places.counts.items():
         rows.setdefault(function_of(run.image, pc), []).append(row)
     found = [{"function": name, "slots": slots.get(name, 0), **merged(rows.get(name, ()))} for name in {*slots, *rows}]
     return sorted(found, key=lambda row: (-row["slots"], row["function"]))
 
 
-def places(run):
+def places(run: "Run") -> list:
     """Each instruction with its slots, by reason too, and its counts, that with the most slots first."""
-    slots, reasons = slots_by_address(run.slots), {}
+    slots = slots_by_address(run.slots)
+    reasons: dict = {}
     for (reason, pc), number in run.slots.lost.items():
         reasons.setdefault(pc, {})[reason] = number
     found = [{"address": pc, "place": run.disassembler.place(pc), "source": run.image.sources.told(pc), "slots": number,

@@ -3,11 +3,17 @@
 Seven lines an instruction, and a cycle is 1000 ticks. A tick of 0 says that it didn't come to that: so retire is 0 where an
 instruction was squashed. This core has no stages of their own for decoding and dispatch: both have the tick of the renaming.
 """
+from typing import Any, Iterator, Optional, TYPE_CHECKING
+
+if TYPE_CHECKING:
+    from wadrelwy.view.disassembly import Disassembler
+    from wadrelwy.view.replay import Replay
+
 
 TICKS = 1000
 
 
-def lines_of(replay, disassembler, first, last):
+def lines_of(replay: "Replay", disassembler: "Disassembler", first: int, last: Any) -> Iterator[str]:
     """The lines for the instructions that are there in the cycles from `first` to `last`."""
     for item in replay.items(last):
         if item.gone is None or item.gone >= first:
@@ -21,5 +27,5 @@ def lines_of(replay, disassembler, first, last):
             yield f"O3PipeView:retire:{tick(item.retired)}:store:{tick(item.retired if item.written else None)}"
 
 
-def tick(cycle):
+def tick(cycle: Optional[int]) -> int:
     return 0 if cycle is None else cycle * TICKS

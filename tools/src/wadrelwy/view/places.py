@@ -1,7 +1,14 @@
 """Counts by the address of an instruction, and by the function that it stands in."""
+from typing import Any, Optional, TYPE_CHECKING
+
 from .reasons import (
     ADDRESS_PORT, BASE, DATA, DATA_PORT, DEFENCE, DIVIDER, MISS_REGISTER, OLDER_STORE, ONE_A_CYCLE, ONE_CLEARED, OPERAND, PORT, STORE_ADDRESS,
     STORE_DATA, TWO_REGISTERS)
+
+if TYPE_CHECKING:
+    from wadrelwy.view.image import Image
+    from wadrelwy.view.items import Item
+    from wadrelwy.view.slots import Slots
 
 # what is counted of waits, in cycles, by column
 GROUPS = {OPERAND: "operand", BASE: "operand", DATA: "operand", OLDER_STORE: "store", STORE_ADDRESS: "store", STORE_DATA: "store", PORT: "port",
@@ -11,7 +18,7 @@ COLUMNS = ("retired", "squashed", "operand", "store", "port", "defence", "misses
 NOWHERE = "(no entry)"
 
 
-def function_of(image, pc):
+def function_of(image: "Image", pc: Optional[int]) -> str:
     """The function that an address stands in, by the image's symbols; else what its place is."""
     if pc is None:
         return NOWHERE
@@ -22,10 +29,10 @@ class Places:
     """For each address the numbers of COLUMNS: instructions that retired or were squashed, cycles waited (by operands, by older stores, by
     ports, miss registers and the divider, by the defence), loads that missed and mispredictions."""
 
-    def __init__(self):
-        self.counts = {}
+    def __init__(self) -> None:
+        self.counts: dict = {}
 
-    def add(self, item):
+    def add(self, item: "Item") -> None:
         found = self.counts.get(item.pc)
         if found is None:
             found = self.counts[item.pc] = dict.fromkeys(COLUMNS, 0)
@@ -37,7 +44,7 @@ class Places:
             found[GROUPS[wait.reason]] += wait.last - wait.first + 1
 
 
-def merged(rows):
+def merged(rows: Any) -> dict:
     """The sums of several addresses' numbers."""
     sums = dict.fromkeys(COLUMNS, 0)
     for row in rows:
@@ -46,7 +53,7 @@ def merged(rows):
     return sums
 
 
-def slots_by_address(slots):
+def slots_by_address(slots: "Slots") -> dict:
     """All slots that are charged to an address: those in which it retired, and those that were lost for it."""
     found = dict(slots.retired)
     for (_, pc), number in slots.lost.items():
@@ -54,9 +61,9 @@ def slots_by_address(slots):
     return found
 
 
-def by_function(image, numbers):
+def by_function(image: "Image", numbers: dict) -> dict:
     """Numbers by address, summed by function."""
-    found = {}
+    found: dict = {}
     for pc, number in numbers.items():
         name = function_of(image, pc)
         found[name] = found.get(name, 0) + number

@@ -79,7 +79,7 @@ class Event:
 
 
 # the events of the line that was read letter by letter last: they are those of the next one then
-POOL = []
+POOL: list = []
 
 
 def read_row(line, number):

@@ -5,7 +5,7 @@ file by `read_sources`.
 """
 import bisect
 import os
-from typing import NamedTuple
+from typing import Any, Iterator, NamedTuple, Optional
 
 from wadrelwy.elf import Array, ConstructError, DWARFError, ELFError, ELFFile
 
@@ -22,7 +22,7 @@ class Line(NamedTuple):
 class Sources:
     """The lines of an image's addresses. `rows` are (address, line), by address; from each on up to the next its line holds, or none."""
 
-    def __init__(self, rows=()):
+    def __init__(self, rows: Any = ()) -> None:
         self.rows = sorted_rows(rows)
         self.addresses = [address for address, _ in self.rows]
         self.names = short_names({line.path for _, line in self.rows if line is not None})
@@ -30,29 +30,30 @@ class Sources:
     def __bool__(self):
         return bool(self.rows)
 
-    def line(self, address):
+    def line(self, address: int) -> "Optional[Line]":
         """The line of an address, or None."""
         place = bisect.bisect_right(self.addresses, address) - 1
         return self.rows[place][1] if place >= 0 else None
 
-    def told(self, address):
+    def told(self, address: int) -> str:
         """`sort.c:12`, or nothing where the line isn't known. Folders are told where two files have one name."""
         line = self.line(address)
         return f"{self.names[line.path]}:{line.number}" if line is not None else ""
 
 
-def sorted_rows(rows):
+def sorted_rows(rows: Any) -> list:
     """The rows by address. Of several of one address the last one counts; the end of a sequence counts where no other begins there."""
-    kept = {}
+    kept: dict = {}
     for address, line in rows:
         if line is not None or address not in kept:
             kept[address] = line
     return sorted(kept.items(), key=lambda row: row[0])
 
 
-def short_names(paths):
+def short_names(paths: set) -> dict:
     """Each path by as few of its last parts as tell it from the others."""
-    names, longer = {}, 1
+    names: dict = {}
+    longer = 1
     left = set(paths)
     while left:
         told = {path: "/".join(path.split("/")[-longer:]) for path in left}
@@ -63,7 +64,7 @@ def short_names(paths):
     return names
 
 
-def read_sources(name):
+def read_sources(name: str) -> "Sources":
     """The lines of an image's file."""
     try:
         with open(name, "rb") as file:
@@ -77,7 +78,7 @@ def read_sources(name):
         raise Fault(f"{name}: the line table (-g) can't be read: {type(error).__name__} {error}".rstrip()) from None
 
 
-def rows_of(dwarf):
+def rows_of(dwarf: Any) -> Iterator:
     """The rows of all line tables, each once."""
     known = set()
     for unit in dwarf.iter_CUs():
@@ -92,7 +93,7 @@ def rows_of(dwarf):
         yield from rows_of_table(dwarf.line_program_for_CU(unit), text_of(folder.value) if folder else "")
 
 
-def rows_of_table(table, folder):
+def rows_of_table(table: Any, folder: str) -> Iterator:
     """The rows of one line table. A row of line 0 has no line."""
     paths = paths_of(table.header, folder)
     for entry in table.get_entries():
@@ -103,7 +104,7 @@ def rows_of_table(table, folder):
         yield state.address, Line(paths[state.file], state.line) if known else None
 
 
-def paths_of(header, folder):
+def paths_of(header: Any, folder: str) -> list:
     """The path of each number of a file. Before version 5 they are counted from 1, and folder 0 is the one that the compiler ran in."""
     new = header["version"] >= 5
     folders = [text_of(name) for name in header["include_directory"]]
@@ -115,6 +116,6 @@ def paths_of(header, folder):
     return paths
 
 
-def text_of(name):
+def text_of(name: bytes) -> str:
     """The text of a name; none where it is only told by a number."""
     return name.decode("utf-8", "replace") if isinstance(name, bytes) else name if isinstance(name, str) else ""

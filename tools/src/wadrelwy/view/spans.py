@@ -1,7 +1,12 @@
 """What an instruction does in each cycle from its fetch until it is gone: the stages of pictures and of Konata's log."""
+from typing import Iterator, TYPE_CHECKING
+
 from .reasons import (
     ADDRESS_PORT, BASE, DATA, DATA_PORT, DIVIDER, HELD_BACK, MISS_REGISTER, OLDER_STORE, OPERAND, PORT, STORE_ADDRESS, STORE_DATA,
     STORE_TAINT, TAINT, TAINTED_CLEARING, TAINTED_OUTCOME, TWO_REGISTERS)
+
+if TYPE_CHECKING:
+    from wadrelwy.view.items import Item
 
 QUEUE, RENAMED, DONE, RETIRED, SQUASHED, TRAPPED = "queue", "renamed", "done", "retired", "squashed", "trapped"
 WAITS = (OPERAND, TAINT, HELD_BACK, OLDER_STORE, PORT, MISS_REGISTER, TWO_REGISTERS, DIVIDER, BASE, DATA, ADDRESS_PORT, DATA_PORT,
@@ -11,7 +16,7 @@ OUTCOMES = (TAINTED_OUTCOME, TAINTED_CLEARING)
 UNITS = ("alu", "mul", "div", "agu", "hit", "miss", "join", "second", "forward", "fault")
 
 
-def spans_of(item, end):
+def spans_of(item: "Item", end: int) -> list:
     """Spans of cycles as (first, behind, name), one behind the other; `end` is the cycle behind the last of the run.
 
     The names are those of this module, the reasons of waiting, and the units. The last span is the one cycle in which it
@@ -29,7 +34,7 @@ def spans_of(item, end):
     return spans
 
 
-def turns_of(item):
+def turns_of(item: "Item") -> Iterator:
     """The cycles in which it begins to do something else, and what. Of two of one cycle the later one counts."""
     yield item.fetched, QUEUE
     if item.renamed is not None:

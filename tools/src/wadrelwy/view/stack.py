@@ -1,7 +1,11 @@
 """`stack`: the CPI stack of one run or of several side by side, as a table or as bars (SVG). Its sums are the cycles of the run."""
 from html import escape
+from typing import Iterator, TYPE_CHECKING
 
 from . import slots as reasons
+
+if TYPE_CHECKING:
+    from wadrelwy.view.slots import Slots
 
 COLOURS = {
     reasons.BASE: "#4daf4a", reasons.FRONT_END: "#b3b3b3", reasons.MISPREDICTION: "#984ea3", reasons.VIOLATION: "#c48fd0",
@@ -16,20 +20,20 @@ BAR, STEP, LEFT, WIDE, TOP, CHARACTER, LEGEND = 26, 40, 190, 640, 40, 6.6, 220
 class Run:
     """The stack of a run: its name, the slots of each reason, the width, the cycles and what retired."""
 
-    def __init__(self, name, slots):
+    def __init__(self, name: str, slots: "Slots") -> None:
         self.name, self.sums, self.width, self.cycles = name, slots.sums(), slots.width, slots.cycles
         self.retired = self.sums.get(reasons.BASE, 0)
 
-    def cycles_of(self, reason):
+    def cycles_of(self, reason: str) -> float:
         return self.sums.get(reason, 0) / self.width
 
 
-def used(runs):
+def used(runs: list) -> list:
     """The reasons that any of the runs has, in the stack's order."""
     return [reason for reason in reasons.STACK if any(run.sums.get(reason) for run in runs)]
 
 
-def table(runs):
+def table(runs: list) -> Iterator[str]:
     """A row for each reason: of each run the cycles (slots divided by the width), and their share."""
     yield f"{'cycles':34}" + "".join(f"{run.name[-20:]:>22}" for run in runs)
     for reason in used(runs):
@@ -39,11 +43,11 @@ def table(runs):
     yield f"{'cycles an instruction':34}" + "".join(f"{run.cycles / max(run.retired, 1):>22.3f}" for run in runs)
 
 
-def cell(cycles, whole):
+def cell(cycles: float, whole: int) -> str:
     return f"{cycles:>14.2f}{100 * cycles / max(whole, 1):>7.1f}%"
 
 
-def picture(runs):
+def picture(runs: list) -> str:
     """A bar for each run, as long as it has cycles, with a part for each reason; below them the legend."""
     most, names = max(run.cycles for run in runs), used(runs)
     parts = []
@@ -64,9 +68,9 @@ def picture(runs):
         *parts, "</svg>"])
 
 
-def bar(run, y, scale):
+def bar(run: "Run", y: int, scale: float) -> list:
     """The bar of a run: its name, a part for each reason with its cycles as a text under the pointer, and its cycles."""
-    x = LEFT
+    x = float(LEFT)
     name = run.name if len(run.name) <= 28 else ".." + run.name[-26:]
     parts = [f'<text x="{LEFT - 8}" y="{y + 17}" text-anchor="end">{escape(name)}</text>']
     for reason in used([run]):
@@ -78,5 +82,5 @@ def bar(run, y, scale):
     return parts
 
 
-def told(run):
+def told(run: "Run") -> str:
     return f"{run.cycles} ({run.cycles / max(run.retired, 1):.2f} an instruction)"

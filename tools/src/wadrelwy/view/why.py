@@ -1,15 +1,23 @@
 """`why`: the reason of each wait, and of each cycle in which rename stops short."""
 from collections import Counter
+from typing import Any, Iterator, Optional, TYPE_CHECKING
 
 from .items import NEVER
 from .places import function_of
 from .reasons import HELD, HELD_BACK, STORE_TAINT
 
+if TYPE_CHECKING:
+    from wadrelwy.view.disassembly import Disassembler
+    from wadrelwy.view.items import Item, Wait
+    from wadrelwy.view.replay import Replay
 
-def lines_of(replay, disassembler, first, last, summary, function=None):
+
+def lines_of(replay: "Replay", disassembler: "Disassembler", first: int, last: Optional[int], summary: bool,
+             function: Optional[str] = None) -> Iterator[str]:
     """The lines of `why`: each wait that touches the cycles from `first` to `last`, each stall of rename, and the sums; of the waits of one
     function alone where it is asked for."""
-    waits, held = Counter(), Counter()
+    waits: Counter = Counter()
+    held: Counter = Counter()
     last = NEVER if last is None else last
     for item in replay.items():
         if function is not None and function_of(disassembler.image, item.pc) != function:
@@ -28,17 +36,17 @@ def lines_of(replay, disassembler, first, last, summary, function=None):
     yield from sums(replay, waits, held, disassembler)
 
 
-def cycles(span):
+def cycles(span: Any) -> str:
     """`17` or `5..12`."""
     return f"{span.first}" if span.first == span.last else f"{span.first}..{span.last}"
 
 
-def held_by(wait):
+def held_by(wait: "Wait") -> str:
     """What it is that holds it: a load that isn't visible, or a store whose address flows from one."""
     return "store" if wait.reason == STORE_TAINT else "load"
 
 
-def wait_line(item, wait, disassembler):
+def wait_line(item: "Item", wait: "Wait", disassembler: "Disassembler") -> str:
     """The cycles, the instruction, the reason, and the entry that it waits for."""
     line = f"{cycles(wait):>13}  {item.serial} {disassembler.place(item.pc)}: {wait.reason}"
     if wait.serial < 0:
@@ -46,7 +54,7 @@ def wait_line(item, wait, disassembler):
     return f"{line} of {wait.serial} {disassembler.place(wait.pc)}"
 
 
-def sums(replay, waits, held, disassembler):
+def sums(replay: "Replay", waits: "Counter", held: "Counter", disassembler: "Disassembler") -> Iterator[str]:
     unexplained = replay.reasons.unexplained
     yield listed("waits of instructions, in cycles", waits)
     yield listed("rename stops short, in cycles", replay.front.rename)
@@ -57,5 +65,5 @@ def sums(replay, waits, held, disassembler):
     yield from ("  " + text for text in unexplained)
 
 
-def listed(title, counts):
+def listed(title: str, counts: Any) -> str:
     return f"{title}: " + (", ".join(f"{reason} {number}" for reason, number in Counter(counts).most_common()) or "none")
