@@ -83,6 +83,8 @@ def main(asked):
         running.Runner(made, asked.jobs, certifying.ASKS).all()
         found, _ = certificates.rows(made, certifying.ASKS)
         simulator = built_programs.simulator(asked.program)
+        if simulator is None and asked.program:
+            raise Fault(f"no simulator {asked.program}")
         if simulator is not None:
             found = certificates.with_fates(made, found, simulator, asked.jobs)
     except results.Refuted as refuted:
