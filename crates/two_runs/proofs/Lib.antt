@@ -1,3 +1,4 @@
 pub mod Looking
 pub mod May
 pub mod Fitting
+pub mod RenameFetch

@@ -1,5 +1,6 @@
 -- What follows alike in two runs from what they see alike (docs/architecture.md, "Laws of two runs").
 use Rattle.std.specs.Prelude.{◌≡◌, ℕ, Bool, not, ◌&&◌, List, map}
+use Rattle.rv_types.specs.Memory.{Code, Ram}
 use Rattle.machine_desc.specs.declared.Desc.{Desc}
 use Rattle.machine_desc.specs.declared.SttModel.{SttModel}
 use Rattle.window_model.specs.declared.Entry.{Entry}
@@ -8,13 +9,14 @@ use Rattle.window_model.specs.State.{Machine}
 use Rattle.window_model.specs.Access.{all_covered, any_store_hidden}
 use Rattle.window_model.specs.Around.{around}
 use Rattle.window_model.specs.Clear.{may_clear}
+use Rattle.window_model.specs.Fetch.{fetch}
 use Rattle.window_model.specs.MayIssue.{stores_done, stores_let}
 use Rattle.window_model.specs.Ports.{Port, is_granted, may_at}
 use Rattle.window_model.specs.Ready.{is_known}
-use Rattle.window_model.specs.Rename.{fits}
+use Rattle.window_model.specs.Rename.{fits, rename}
 use Rattle.window_model.specs.Resolve.{may_resolve}
 use Rattle.window_model.specs.Taint.{address_tainted, any_tainted, tainted, visible}
-use Rattle.two_runs.specs.Seen.{AsksAlike, EachAsks, SeenEntries, SeenMachine, without_outcome}
+use Rattle.two_runs.specs.Seen.{Adds, AsksAlike, EachAsks, SeenEntries, SeenMachine, after_data, with_data, without_outcome}
 
 -- ---- looking back over older entries
 
@@ -80,3 +82,16 @@ GrantedAlike = (d : Desc) (x x2 : Machine) → SeenMachine x x2 → (b b2 : List
 -- whether an item fits into the window is told without outcomes
 abbrev pub FitsAlike : Type 0
 FitsAlike = (d : Desc) (w : List Entry) (i : Item) → fits d (map without_outcome w) i ≡ fits d w i
+
+-- ---- Rename and Fetch
+
+-- Rename adds the same entries to two machines that differ in registers, memory and outcomes alone, and has the same
+-- events
+abbrev pub RenameAlike : Type 0
+RenameAlike = (d : Desc) (regs : List ℕ) (ram : Ram) (w : List Entry) (x : Machine) → map without_outcome x.window ≡ map without_outcome w →
+    Adds regs ram x.window w (rename d x) (rename d (with_data regs ram w x))
+
+-- Fetch does the same to two machines that differ in registers, memory and window alone, and has the same events
+abbrev pub FetchAlike : Type 0
+FetchAlike = (d : Desc) (code : Code) (regs : List ℕ) (ram : Ram) (w : List Entry) (x : Machine) →
+    fetch d code (with_data regs ram w x) ≡ after_data regs ram w (fetch d code x)

@@ -1,10 +1,11 @@
 -- What two runs see alike of their windows, and of what Issue looks at beside them, where outcomes are hidden from them
 -- (docs/architecture.md, "Laws of two runs"). Which outcomes are hidden is for each law to say.
-use Rattle.std.specs.Prelude.{◌≡◌, ℕ, true, false, not, ◌&&◌, List, [], ◌∷◌, None}
+use Rattle.std.specs.Prelude.{◌≡◌, ℕ, true, false, not, ◌&&◌, List, [], ◌∷◌, ◌++◌, map, None}
+use Rattle.rv_types.specs.Memory.{Ram}
 use Rattle.machine_desc.specs.declared.Desc.{Desc}
 use Rattle.machine_desc.specs.declared.SttModel.{SttModel}
 use Rattle.window_model.specs.declared.Entry.{Entry}
-use Rattle.window_model.specs.State.{Machine}
+use Rattle.window_model.specs.State.{After, Machine}
 use Rattle.window_model.specs.Access.{covers}
 use Rattle.window_model.specs.Around.{around, is_free}
 use Rattle.window_model.specs.MayIssue.{address_of}
@@ -47,3 +48,21 @@ abbrev pub EachAsks : Desc → Machine → Machine → List Entry → List Entry
 EachAsks d x x2 [] [] = Unit {0}
 EachAsks d x x2 (e ∷ before) (e2 ∷ before2) = AsksAlike d x x2 before before2 e e2 × EachAsks d x x2 before before2
 EachAsks d x x2 _ _ = ⊥
+
+-- ---- machines that differ in registers, memory and window alone
+
+-- a machine with other registers, memory and window
+abbrev pub with_data : List ℕ → Ram → List Entry → Machine → Machine
+with_data regs ram window x = record x { regs = regs; ram = ram; window = window }
+
+-- what a phase leaves, with other registers, memory and window
+abbrev pub after_data : List ℕ → Ram → List Entry → After → After
+after_data regs ram window a = record a { machine = with_data regs ram window a.machine }
+
+-- a phase adds the same entries to two windows, none with an outcome, and leaves the second machine as the first but for
+-- these registers, this memory and the entries that were there before
+pub record Adds (regs : List ℕ) (ram : Ram) (w w2 : List Entry) (a a2 : After) : Type 0 where
+  pub new : List Entry
+  pub plain : map without_outcome new ≡ new
+  pub window : a.machine.window ≡ w ++ new
+  pub same : a2 ≡ after_data regs ram (w2 ++ new) a

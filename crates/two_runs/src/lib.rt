@@ -7,6 +7,7 @@
 
 ghost use Rattle.two_runs.specs.Laws.{
   AddressTaintedAlike,
+  FetchAlike,
   FitsAlike,
   ForwardedAlike,
   GrantedAlike,
@@ -16,6 +17,7 @@ ghost use Rattle.two_runs.specs.Laws.{
   MayIssueAlike,
   MayResolveAlike,
   OperandsTaintedAlike,
+  RenameAlike,
   StoresDoneAlike,
   TaintedAlike,
   VisibleAlike,
@@ -36,11 +38,14 @@ pub fn older_entries_are_seen_alike()
 {}
 
 /// Two such runs see alike who may be resolved and who may be cleared; who may issue at a port and who is granted one,
-/// where each load that asks has one address in both; and whether an item fits into the window.
+/// where each load that asks has one address in both; and whether an item fits into the window. So Rename and Fetch do
+/// the same to two machines that differ in registers, memory and outcomes alone.
 pub fn who_goes_is_seen_alike()
     ensures resolve { MayResolveAlike }
     ensures clear { MayClearAlike }
     ensures issue { MayIssueAlike }
     ensures granted { GrantedAlike }
     ensures fits { FitsAlike }
+    ensures rename { RenameAlike }
+    ensures fetch { FetchAlike }
 {}
