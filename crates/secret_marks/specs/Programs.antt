@@ -202,7 +202,8 @@ published =
     0x00814283 ∷ 0x00510623 ∷ 0x00200513 ∷ 0x00c10593 ∷ 0x00100613 ∷ 0x04000893 ∷ 0x00000073 ∷ 0x00c14383 ∷ 0x002383b3 ∷
     0xf003c403 ∷ 0x00000513 ∷ 0x05d00893 ∷ 0x00000073 ∷ []
 
--- the same, and it is written to stream 1
+-- the secret is written to stream 1, loaded anew and looked up by: lbu x5,8(x2); sb x5,12(x2); addi x10,x0,1; addi
+-- x11,x2,12; addi x12,x0,1; addi x17,x0,64; ecall; lbu x7,12(x2); add x7,x7,x2; lbu x8,-256(x7); exit
 abbrev pub other_stream : List ℕ
 other_stream =
     0x00814283 ∷ 0x00510623 ∷ 0x00100513 ∷ 0x00c10593 ∷ 0x00100613 ∷ 0x04000893 ∷ 0x00000073 ∷ 0x00c14383 ∷ 0x002383b3 ∷
@@ -223,7 +224,9 @@ in_part =
     0x00814283 ∷ 0x00829293 ∷ 0x00512623 ∷ 0x00200513 ∷ 0x00c10593 ∷ 0x00100613 ∷ 0x04000893 ∷ 0x00000073 ∷ 0x00c12383 ∷
     0x002383b3 ∷ 0xf003c403 ∷ 0x00000513 ∷ 0x05d00893 ∷ 0x00000073 ∷ []
 
--- a write to stream 2 goes beyond memory, so that nothing is put out: as the first, with 15(x2) and two bytes
+-- a write of two bytes to stream 2 goes beyond memory, so that nothing is put out, and the first of them is looked up
+-- by: lbu x5,8(x2); sb x5,15(x2); addi x10,x0,2; addi x11,x2,15; addi x12,x0,2; addi x17,x0,64; ecall; lbu x7,15(x2);
+-- add x7,x7,x2; lbu x8,-256(x7); exit
 abbrev pub outside : List ℕ
 outside =
     0x00814283 ∷ 0x005107a3 ∷ 0x00200513 ∷ 0x00f10593 ∷ 0x00200613 ∷ 0x04000893 ∷ 0x00000073 ∷ 0x00f14383 ∷ 0x002383b3 ∷
