@@ -6,7 +6,7 @@ use crate::images::program_image;
 use marked_core::{MarkedCore, first_shown};
 use rename_taint::ByTable;
 use rv_types::{End, Kind, Piece};
-use secret_marks::{FirstShown, SecretRange, Shown};
+use secret_marks::{FirstShown, PublicStreams, SecretRange, Shown};
 use std::alloc::Global;
 use std::process::Abort;
 use std::test::Fail;
@@ -27,7 +27,11 @@ fn watched(rt: &impl Abort, alloc: Global, bound: u32) -> Result<MarkedCore<ByTa
         addr: 0x0001_fff8,
         bytes: 1,
     };
-    Ok(MarkedCore::new(alloc, &desc, image, &[secret])?)
+    let public = PublicStreams {
+        first: false,
+        second: true,
+    };
+    Ok(MarkedCore::new(alloc, &desc, image, &[secret], public)?)
 }
 
 // The run with this bound begins with nothing, shows this first, and has then ended so, in so many cycles, in which so
@@ -44,11 +48,13 @@ fn goes(
     assert_same(rt, &(core.end(), core.retired()), &(None, 0));
     let mut row = empty_row();
     let mut piece = Piece::new();
+    let mut published = 0;
     assert_same(
         rt,
-        &first_shown(&mut core, &mut row, &mut piece, 100),
+        &first_shown(&mut core, &mut row, &mut piece, &mut published, 100),
         &shown,
     );
+    assert!(rt; published == 0);
     assert_same(rt, &(core.end(), core.cycles(), core.retired()), &left);
     Ok(())
 }

@@ -8,6 +8,7 @@ ghost use Rattle.secret_marks.specs.Results.{
   of_constant,
   of_itself,
   of_operands,
+  of_zero,
   result_marks,
   right_by,
 };
@@ -141,6 +142,16 @@ fn of_constant(op: Op, c: u32, a: WordMarks) -> WordMarks
     }
 }
 
+// Register 0 before a register: AND and MUL are 0 whatever that holds.
+fn of_zero(op: Op, a: WordMarks, b: WordMarks) -> WordMarks
+    ensures { result ≡ of_zero op a b }
+{
+    match op {
+        Op::And | Op::Mul => UNMARKED,
+        _ => of_operands(op, a, b),
+    }
+}
+
 /// The marks of an instruction's value, by those of its first and second source.
 pub(crate) fn result_marks(instr: &Instr, a: WordMarks, b: WordMarks) -> WordMarks
     ensures { result ≡ result_marks instr.now a b }
@@ -150,6 +161,8 @@ pub(crate) fn result_marks(instr: &Instr, a: WordMarks, b: WordMarks) -> WordMar
         Instr::OpReg { op, rs1, rs2, .. } => {
             if rs2.number == 0 {
                 of_constant(op, 0, a)
+            } else if rs1.number == 0 {
+                of_zero(op, a, b)
             } else if rs1.number == rs2.number {
                 of_itself(op, a)
             } else {

@@ -1,6 +1,7 @@
 pub mod Lengths
 pub mod Steps
 pub mod Taken
+pub mod Published
 pub mod Watching
 pub mod Looking
 pub mod Secrets

@@ -32,6 +32,7 @@ use Rattle.secret_marks.specs.declared.Shown.{Shown}
 use Rattle.secret_marks.specs.declared.WordMarks.{WordMarks}
 use Rattle.secret_marks.specs.Words.{any_byte, either}
 use Rattle.secret_marks.specs.Marks.{Marks, goes_mark, is_at, issued_from, issued_marks, leaves_as, left, new_entry, value_marks}
+use Rattle.secret_marks.specs.Published.{Public}
 use Rattle.secret_marks.specs.Shown.{resolved_shown, shown_by}
 use Rattle.secret_marks.specs.Shows.{outcome_marked}
 use Rattle.secret_marks.specs.Watch.{Watched, then_watches, watch_cycle, watch_fetch, watch_issue, watch_retire}
@@ -142,8 +143,8 @@ left_unexposed base (y ∷ gone) rest m [] e h = subst (Unexposed rest) (sym e) 
 left_unexposed base (y ∷ gone) rest m (mark ∷ marks) e h =
     left_unexposed base gone rest (leaves_as y.item.kind base y mark marks m) marks (marks_place y.item.kind base y mark marks m) h.1
 
-retire_unexposed : (d : Desc) (x : Machine) (m : Marks) → Unexposed x.window m.window → let t = watch_retire d x m in Unexposed t.machine.window t.marks.window
-retire_unexposed d x m h =
+retire_unexposed : (public : Public) (d : Desc) (x : Machine) (m : Marks) → Unexposed x.window m.window → let t = watch_retire public d x m in Unexposed t.machine.window t.marks.window
+retire_unexposed public d x m h =
     let y = (retire d x).machine in
     let w = retire_went d x in
     let all = ap (λ es. length es) w.is in
@@ -268,16 +269,16 @@ fetch_unexposed d code x m h =
 
 -- ---- the cycle
 
-module _ (d : Desc) (code : Code) (x : Machine) (m : Marks) where
+module _ (public : Public) (d : Desc) (code : Code) (x : Machine) (m : Marks) where
   abbrev found : Watched
-  found = let l = to_clear d (begins_cycle x) m in watch_retire d l.machine l.marks
+  found = let l = to_clear d (begins_cycle x) m in watch_retire public d l.machine l.marks
 
   -- Issue finds no exposed entry where nothing has shown up to Clear
   found_unexposed : shown_to_clear d (begins_cycle x) m ≡ None → Unexposed found.machine.window found.marks.window
   found_unexposed h =
       let r = to_resolve d (begins_cycle x) m in
       let l = to_clear d (begins_cycle x) m in
-      retire_unexposed d l.machine l.marks
+      retire_unexposed public d l.machine l.marks
       (cut_unexposed (length l.machine.window) l.machine.window r.marks.window
       (clear_unexposed d r.machine r.marks.window (each_unexposed r.machine.window r.marks.window h)))
 
@@ -288,12 +289,12 @@ module _ (d : Desc) (code : Code) (x : Machine) (m : Marks) where
   by_end None y k w n h = let i = watch_issue d y k in fetch_unexposed d code i.machine i.marks (issue_unexposed d y k w n h)
 
   pub cycle_unexposed : Each NoWait x.window → Each (IssuedBy x.cycle) x.window → Each (PartsDue x.cycle) x.window → shown_to_clear d (begins_cycle x) m ≡ None →
-      resolved_shown (cycle d code x).machine.window (watch_cycle d code x m).marks.window ≡ None
+      resolved_shown (cycle d code x).machine.window (watch_cycle public d code x m).marks.window ≡ None
   cycle_unexposed w i p h =
       let y = (retire d (at_retire d x)).machine in
       let rest = found_by_issue NoWait (λ e h k. refl) (λ d b e may h k. done_waits e.state may.done) (λ e h. h) d x w in
-      let u : Unexposed (cycle d code x).machine.window (watch_cycle d code x m).marks.window =
-      subst (λ (z : Machine). Unexposed z.window (watch_cycle d code x m).marks.window) (sym (cycle_is d code x))
-      (subst (λ (k : Marks). Unexposed (unless_ended y.end (nothing y) (then_does (issue d y) (λ z. then_does (rename d z) (fetch d code)))).machine.window k.window) (halves d code x m)
+      let u : Unexposed (cycle d code x).machine.window (watch_cycle public d code x m).marks.window =
+      subst (λ (z : Machine). Unexposed z.window (watch_cycle public d code x m).marks.window) (sym (cycle_is d code x))
+      (subst (λ (k : Marks). Unexposed (unless_ended y.end (nothing y) (then_does (issue d y) (λ z. then_does (rename d z) (fetch d code)))).machine.window k.window) (halves public d code x m)
       (by_end y.end y found.marks rest (found_not_yet d x i p) (found_unexposed h))) in
-      none_shown (cycle d code x).machine.window (watch_cycle d code x m).marks.window u
+      none_shown (cycle d code x).machine.window (watch_cycle public d code x m).marks.window u

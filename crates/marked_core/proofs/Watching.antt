@@ -1,5 +1,5 @@
 -- How marks move in a cycle, and what shows in it, half by half.
-use Rattle.std.proofs.Common.{◌≡◌, false, length, Option, Some, None, refl, ap, ap₂, sym, ◌∙◌}
+use Rattle.std.proofs.Common.{◌≡◌, ℕ, List, false, length, Option, Some, None, refl, ap, ap₂, sym, ◌∙◌}
 use Rattle.rv_types.specs.Isa.{Hart}
 use Rattle.rv_types.specs.Memory.{Code}
 use Rattle.rv_types.specs.declared.End.{End}
@@ -15,6 +15,7 @@ use Rattle.core_cycle.proofs.Cycling.{Backs, Fronts, Leaves, code_left, desc_lef
 use Rattle.core_cycle.proofs.Fronts.{Resolved, clears, resolves}
 use Rattle.secret_marks.specs.declared.Shown.{Shown}
 use Rattle.secret_marks.specs.Marks.{Marks, after_retire_marks, cut}
+use Rattle.secret_marks.specs.Published.{Public, published_marks}
 use Rattle.secret_marks.specs.Shown.{head_shown, or_else, resolved_shown, shown_cycle}
 use Rattle.secret_marks.specs.Watch.{Watched, then_watches, watch_before, watch_cycle, watch_fetch, watch_issue, watch_retire}
 use Rattle.entry_marks.specs.declared.marks.Marks.{Marks as Beside}
@@ -68,40 +69,44 @@ by_end : (d : Desc) (code : Code) (r : Watched) (o : Option End) →
 by_end d code r None = refl
 by_end d code r (Some e) = refl
 
-pub halves : (d : Desc) (code : Code) (x : Machine) (m : Marks) →
-    (let l = to_clear d (begins_cycle x) m in let t = watch_retire d l.machine l.marks in (from_issue d code t.machine t.marks).marks) ≡ (watch_cycle d code x m).marks
-halves d code x m = let r = watch_before d x m in sym (by_end d code r r.machine.end)
+pub halves : (public : Public) (d : Desc) (code : Code) (x : Machine) (m : Marks) →
+    (let l = to_clear d (begins_cycle x) m in let t = watch_retire public d l.machine l.marks in (from_issue d code t.machine t.marks).marks) ≡ (watch_cycle public d code x m).marks
+halves public d code x m = let r = watch_before public d x m in sym (by_end d code r r.machine.end)
 
-module _ (s s1 s2 : Described) (p : Fronts s s1 s2) (m m1 : Marks) (front : m1 ≡ (to_clear s1.desc s1.machine m).marks) where
+module _ (public : Public) (s s1 s2 : Described) (p : Fronts s s1 s2) (m m1 : Marks) (front : m1 ≡ (to_clear s1.desc s1.machine m).marks) where
   abbrev x : Machine
   x = begins_cycle s.machine
 
   fronted : m1 ≡ (to_clear s.desc x m).marks
   fronted = front ∙ ap (λ (s : Described). (to_clear s.desc s.machine m).marks) p.begins
 
-  module _ (s3 : Described) (q : Leaves s2 s3) (m2 : Marks) (left : m2 ≡ after_retire_marks s2.machine.window s3.machine m1) where
+  module _ (s3 : Described) (q : Leaves s2 s3) (piece : List ℕ) (out : piece ≡ (retire s2.desc s2.machine).piece) (m2 : Marks) (left : m2 ≡ published_marks public s2.machine piece (after_retire_marks s2.machine.window s3.machine m1)) where
     abbrev y : Machine
     y = at_retire s.desc s.machine
 
     abbrev z : Machine
     z = (retire s.desc y).machine
 
-    retired : m2 ≡ after_retire_marks y.window z (to_clear s.desc x m).marks
+    -- the piece is that of Retire of this machine
+    put_out : piece ≡ (retire s.desc y).piece
+    put_out = out ∙ ap₂ (λ d (x : Machine). (retire d x).piece) (ap (λ (s : Described). s.desc) p.goes ∙ ap (λ (s : Described). s.desc) p.begins) (machine_fronted s s1 s2 p)
+
+    retired : m2 ≡ published_marks public y (retire s.desc y).piece (after_retire_marks y.window z (to_clear s.desc x m).marks)
     retired =
         left
-        ∙ ap (λ (y : Machine). after_retire_marks y.window s3.machine m1) (machine_fronted s s1 s2 p)
-        ∙ ap₂ (after_retire_marks y.window) (machine_left s s1 s2 p s3 q) fronted
+        ∙ ap₂ (λ (y : Machine) piece. published_marks public y piece (after_retire_marks y.window s3.machine m1)) (machine_fronted s s1 s2 p) put_out
+        ∙ ap₂ (λ z m. published_marks public y (retire s.desc y).piece (after_retire_marks y.window z m)) (machine_left s s1 s2 p s3 q) fronted
 
-    pub cycle_marks : (m3 : Marks) → m3 ≡ (from_issue s3.desc (word_at s3.code) s3.machine m2).marks → m3 ≡ (watch_cycle s.desc (word_at s.code) s.machine m).marks
+    pub cycle_marks : (m3 : Marks) → m3 ≡ (from_issue s3.desc (word_at s3.code) s3.machine m2).marks → m3 ≡ (watch_cycle public s.desc (word_at s.code) s.machine m).marks
     cycle_marks m3 back =
         back
         ∙ ap (λ d. (from_issue d (word_at s3.code) s3.machine m2).marks) (desc_left s s1 s2 p s3 q)
         ∙ ap (λ code. (from_issue s.desc (word_at code) s3.machine m2).marks) (code_left s s1 s2 p s3 q)
         ∙ ap₂ (λ z m. (from_issue s.desc (word_at s.code) z m).marks) (machine_left s s1 s2 p s3 q) retired
-        ∙ halves s.desc (word_at s.code) s.machine m
+        ∙ halves public s.desc (word_at s.code) s.machine m
 
     pub cycle_shows : (a b c : Option Shown) → a ≡ shown_to_clear s1.desc s1.machine m → b ≡ head_shown s2.machine.window s2.machine m1 → c ≡ shown_from_issue s3.desc s3.machine m2 →
-        or_else a (or_else b c) ≡ shown_cycle s.desc s.machine m
+        or_else a (or_else b c) ≡ shown_cycle public s.desc s.machine m
     cycle_shows a b c ea eb ec =
         let first = ea ∙ ap (λ (s : Described). shown_to_clear s.desc s.machine m) p.begins in
         let second = eb ∙ ap₂ (λ (y : Machine) m. head_shown y.window y m) (machine_fronted s s1 s2 p) fronted in

@@ -4,6 +4,7 @@ ghost use Rattle.elf_loader.specs.inner.Code.{word_at};
 ghost use Rattle.window_model.specs.Committed.{Commits};
 ghost use Rattle.window_model.specs.Cycle.{Cycled, cycle};
 ghost use Rattle.secret_marks.specs.Shown.{or_else, shown_cycle};
+ghost use Rattle.secret_marks.specs.Streams.{public_in};
 ghost use Rattle.secret_marks.specs.Watch.{watch_cycle};
 ghost use Rattle.entry_marks.specs.Walk.{marks_of};
 ghost use Rattle.marked_core.specs.InStep.{Between};
@@ -14,7 +15,7 @@ use core_parts::Parts;
 use entry_marks::Marks;
 use rename_taint::RenameTaint;
 use rv_types::Piece;
-use secret_marks::Shown;
+use secret_marks::{PublicStreams, Shown};
 use window_model::Row;
 
 // What shows first of two.
@@ -32,6 +33,7 @@ fn or_else(first: Option<Shown>, second: Option<Shown>) -> Option<Shown>
 pub(crate) fn clock<R: RenameTaint>(
     parts: &mut Parts<R>,
     marks: &mut Marks,
+    public: PublicStreams,
     unexposed: &mut bool,
     row: &mut Row,
     piece: &mut Piece,
@@ -45,9 +47,9 @@ pub(crate) fn clock<R: RenameTaint>(
     ensures desc { parts.new.desc ≡ parts.old.desc }
     ensures code { parts.new.code ≡ parts.old.code }
     ensures events { length row.new.events ≤ 232 }
-    ensures marks { marks_of marks.new ≡ (watch_cycle parts.old.desc (word_at parts.old.code) parts.old.machine
-        (marks_of marks.old)).marks }
-    ensures shown { result ≡ shown_cycle parts.old.desc parts.old.machine (marks_of marks.old) }
+    ensures marks { marks_of marks.new ≡ (watch_cycle (public_in public) parts.old.desc (word_at parts.old.code)
+        parts.old.machine (marks_of marks.old)).marks }
+    ensures shown { result ≡ shown_cycle (public_in public) parts.old.desc parts.old.machine (marks_of marks.old) }
     ensures between { Between parts.new marks.new unexposed.new }
 {
     parts.begin();
@@ -55,7 +57,7 @@ pub(crate) fn clock<R: RenameTaint>(
     piece.clear();
     let resolved = before_retire(parts, marks, *unexposed, row);
     *unexposed = resolved.is_none();
-    let asked = retire_marked(parts, marks, row, piece);
+    let asked = retire_marked(parts, marks, public, row, piece);
     let operand = after_retire(parts, marks, row);
     or_else(resolved, or_else(asked, operand))
 }

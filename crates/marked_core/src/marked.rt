@@ -1,23 +1,26 @@
 //! The core with marks beside it.
 ghost use Rattle.std.specs.Prelude.{◌≡◌, ◌<◌, ◌≤◌, ◌-◌, ◌^◌, length, IfOk, None};
 ghost use Rattle.elf_loader.specs.inner.Code.{word_at};
+ghost use Rattle.rv_types.specs.Isa.{reg};
 ghost use Rattle.window_model.specs.Committed.{Commits};
 ghost use Rattle.window_model.specs.Cycle.{Cycled, cycle};
 ghost use Rattle.window_model.specs.State.{opening};
 ghost use Rattle.secret_marks.specs.Marks.{opening_marks};
 ghost use Rattle.secret_marks.specs.Ranges.{secret_in};
 ghost use Rattle.secret_marks.specs.Shown.{shown_cycle};
+ghost use Rattle.secret_marks.specs.Streams.{public_in};
 ghost use Rattle.secret_marks.specs.Watch.{watch_cycle};
 
 use crate::clocking::clock;
 use crate::opening::opening_marks;
+use crate::phases::stream;
 use core_parts::Parts;
 use elf_loader::Image;
 use entry_marks::Marks;
 use machine_desc::Desc;
 use rename_taint::RenameTaint;
 use rv_types::{End, NoMemory, Piece};
-use secret_marks::{SecretRange, Shown};
+use secret_marks::{PublicStreams, SecretRange, Shown};
 use std::alloc::Global;
 use std::marker::Model;
 use window_model::Row;
@@ -29,6 +32,7 @@ use window_model::Row;
 pub struct MarkedCore<R: RenameTaint> {
     parts: Box<Parts<R>>,
     marks: Marks,
+    public: PublicStreams,
     // Whether it is noted that no branch or JALR in flight is resolved with a marked outcome.
     unexposed: bool,
 }
@@ -47,6 +51,7 @@ impl<R: RenameTaint> Model for MarkedCore<R> {
       code = c.parts.value.code;
       machine = c.parts.value.machine;
       marks = marks_of c.marks;
+      public = c.public;
     } };
 
     ghost invariant = { λ c. Between c.parts.value c.marks c.unexposed };
@@ -54,12 +59,14 @@ impl<R: RenameTaint> Model for MarkedCore<R> {
 
 impl<R: RenameTaint + Drop> MarkedCore<R> {
     /// The core before its first cycle, with the image in a memory of the description's base and size, of whose bytes
-    /// those of the ranges are secret. It takes all the memory that a run takes; the one error is want of it.
+    /// those of the ranges are secret, and with these streams public. It takes all the memory that a run takes; the one
+    /// error is want of it.
     pub fn new(
         alloc: Global,
         desc: &Desc,
         image: Image,
         secret: &[SecretRange],
+        public: PublicStreams,
     ) -> Result<MarkedCore<R>, NoMemory>
         requires base { image.ram.base ≡ desc.now.ram_base }
         requires size { length image.ram.bytes ≡ desc.now.ram_size }
@@ -68,6 +75,7 @@ impl<R: RenameTaint + Drop> MarkedCore<R> {
           code = image.code;
           machine = opening desc.now image.entry image.ram;
           marks = opening_marks (secret_in secret.now) image.ram;
+          public = public;
         }) }
     {
         let Image { ram, code, entry } = image;
@@ -77,6 +85,7 @@ impl<R: RenameTaint + Drop> MarkedCore<R> {
             Ok(parts) => Ok(MarkedCore {
                 parts,
                 marks,
+                public,
                 unexposed: true,
             }),
             Err(_) => Err(NoMemory),
@@ -96,14 +105,16 @@ impl<R: RenameTaint> MarkedCore<R> {
         ensures commits { Commits (word_at self.old.code) self.old.machine self.new.machine piece.new }
         ensures desc { self.new.desc ≡ self.old.desc }
         ensures code { self.new.code ≡ self.old.code }
+        ensures public { self.new.public ≡ self.old.public }
         ensures events { length row.new.events ≤ 232 }
-        ensures marks { self.new.marks
-            ≡ (watch_cycle self.old.desc (word_at self.old.code) self.old.machine self.old.marks).marks }
-        ensures shown { result ≡ shown_cycle self.old.desc self.old.machine self.old.marks }
+        ensures marks { self.new.marks ≡ (watch_cycle (public_in self.old.public) self.old.desc (word_at self.old.code)
+            self.old.machine self.old.marks).marks }
+        ensures shown { result ≡ shown_cycle (public_in self.old.public) self.old.desc self.old.machine self.old.marks }
     {
         clock(
             &mut self.parts,
             &mut self.marks,
+            self.public,
             &mut self.unexposed,
             row,
             piece,
@@ -129,5 +140,19 @@ impl<R: RenameTaint> MarkedCore<R> {
         ensures { result ≡ self.now.machine.retired }
     {
         self.parts.retired
+    }
+
+    /// The streams that are public.
+    pub fn public(&self) -> PublicStreams
+        ensures { result ≡ self.now.public }
+    {
+        self.public
+    }
+
+    /// What register a0 holds: the stream, where a write is the next instruction that retires.
+    pub fn stream(&self) -> u32
+        ensures { result ≡ reg self.now.machine.regs 10 }
+    {
+        stream(&self.parts)
     }
 }

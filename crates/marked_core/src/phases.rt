@@ -1,7 +1,8 @@
 //! The phases that move marks, or in which something marked shows: each is that of its crate over the parts, with what
 //! becomes of the marks beside them (`docs/theorems.md`, "Secrets that are loaded").
-ghost use Rattle.std.specs.Prelude.{◌≡◌, ◌<◌, ◌+◌, ◌^◌, [], None, length};
+ghost use Rattle.std.specs.Prelude.{◌≡◌, ◌<◌, ◌+◌, ◌-◌, ◌^◌, [], None, length};
 ghost use Rattle.std.specs.List.{AllByRecursion as Each};
+ghost use Rattle.rv_types.specs.Isa.{reg};
 ghost use Rattle.machine_facts.specs.Sized.{Sized};
 ghost use Rattle.machine_facts.specs.Timely.{WaitsOrDone};
 ghost use Rattle.visibility.specs.Point.{HasAdvanced};
@@ -13,6 +14,8 @@ ghost use Rattle.window_model.specs.Retire.{retire};
 ghost use Rattle.window_model.specs.Serials.{Rise};
 ghost use Rattle.window_model.specs.inner.Row.{HasRoom, IsLonger, most_cleared, most_entries, most_fetched, most_issued, most_resolved, most_retired, with_events};
 ghost use Rattle.secret_marks.specs.Marks.{after_issue_marks, after_retire_marks, cut, extended};
+ghost use Rattle.secret_marks.specs.Published.{published_marks};
+ghost use Rattle.secret_marks.specs.Streams.{public_in};
 ghost use Rattle.secret_marks.specs.Shown.{head_shown, operands_shown, resolved_shown};
 ghost use Rattle.entry_marks.specs.Told.{TellsOfEach};
 ghost use Rattle.entry_marks.specs.Walk.{marks_of};
@@ -21,13 +24,13 @@ ghost use Rattle.marked_core.specs.InStep.{AsNoted, InStep, NotYet};
 use clear::clear;
 use core_cycle::retire;
 use core_parts::Parts;
-use entry_marks::{Marks, cut, extend, leave, leaving, mark_issued, resolved_shown};
+use entry_marks::{Marks, cut, extend, leave, leaving, mark_issued, publish, resolved_shown};
 use issue::issue;
 use rename::rename;
 use rename_taint::RenameTaint;
 use resolve::resolve;
 use rv_types::Piece;
-use secret_marks::Shown;
+use secret_marks::{PublicStreams, Shown};
 use shown_marks::{head_shown, operands_shown};
 use window_model::{Event, Row};
 
@@ -44,6 +47,20 @@ fn base<R: RenameTaint>(parts: &Parts<R>) -> u32
     ensures { result ≡ parts.now.machine.ram.base }
 {
     parts.ram.base()
+}
+
+/// The stream to which a call writes, if it does.
+pub(crate) fn stream<R: RenameTaint>(parts: &Parts<R>) -> u32
+    ensures { result ≡ reg parts.now.machine.regs 10 }
+{
+    parts.regs[10]
+}
+
+// The place in memory from which a call writes, if it does.
+fn place<R: RenameTaint>(parts: &Parts<R>) -> u32
+    ensures { result ≡ reg parts.now.machine.regs 11 - parts.now.machine.ram.base }
+{
+    parts.regs[11].saturating_sub(base(parts))
 }
 
 /// Phase Resolve. Marks are left of the entries that are left. What shows is the oldest branch or JALR that is then
@@ -91,11 +108,13 @@ pub(crate) fn clear_marked<R: RenameTaint>(parts: &mut Parts<R>, marks: &mut Mar
     cut(&mut marks.window, left);
 }
 
-/// Phase Retire. The entries that retire leave their marks in registers and memory. What shows is the call at the head,
-/// if it shows: it is looked at before the phase, whether it retires then or not.
+/// Phase Retire. The entries that retire leave their marks in registers and memory, and what a call writes to a public
+/// stream loses its marks. What shows is the call at the head, if it shows: it is looked at before the phase, whether
+/// it retires then or not.
 pub(crate) fn retire_marked<R: RenameTaint>(
     parts: &mut Parts<R>,
     marks: &mut Marks,
+    public: PublicStreams,
     row: &mut Row,
     piece: &mut Piece,
 ) -> Option<Shown>
@@ -111,8 +130,8 @@ pub(crate) fn retire_marked<R: RenameTaint>(
     ensures piece { piece.new ≡ (retire parts.old.desc parts.old.machine).piece }
     ensures advanced { HasAdvanced parts.new.point parts.new.machine.window }
     ensures few { IsLonger most_retired row.old row.new }
-    ensures marks { marks_of marks.new
-        ≡ after_retire_marks parts.old.machine.window parts.new.machine (marks_of marks.old) }
+    ensures marks { marks_of marks.new ≡ published_marks (public_in public) parts.old.machine piece.new
+        (after_retire_marks parts.old.machine.window parts.new.machine (marks_of marks.old)) }
     ensures shown { result ≡ head_shown parts.old.machine.window parts.old.machine (marks_of marks.old) }
     ensures step { InStep parts.new marks.new }
     ensures memory { length marks.new.bytes.items ≡ length parts.new.machine.ram.bytes }
@@ -120,9 +139,12 @@ pub(crate) fn retire_marked<R: RenameTaint>(
     let shown = head_shown(parts, marks);
     let copies = leaving(parts.rob(), &marks.window);
     let before = entries(parts);
+    let stream = stream(parts);
+    let place = place(parts);
     retire(parts, row, piece);
     let gone = before.saturating_sub(entries(parts));
     leave(marks, &copies, base(parts), gone);
+    publish(marks, public, stream, place, piece.as_slice());
     shown
 }
 

@@ -1,15 +1,17 @@
 -- What clap's clauses say of the words of stt_secrets, and that the definitions compute on words.
-use Rattle.std.proofs.Common.{◌≡◌, ◌≢◌, List, [], ◌∷◌, length, map, Option, Some, None, Result, Ok, Err, IfOk, IfErr, true, refl, codes, arith}
+use Rattle.std.proofs.Common.{◌≡◌, ◌≢◌, List, [], ◌∷◌, length, map, Option, Some, None, Result, Ok, Err, IfOk, IfErr, true, false, refl, codes, arith}
 use Rattle.clap.specs.Words.{Text, rows_of, found_of, is_simple, is_simple_and_free}
 use Rattle.clap.specs.declared.error.kind.ErrorKind.TheVariants as kind
 use Rattle.clap.specs.declared.parser.matches.ArgMatches.{ArgMatches}
 use Rattle.clap.proofs.OnLiterals.{clap_on_literals}
+use Rattle.secret_marks.specs.declared.PublicStreams.{PublicStreams}
 use Rattle.tool_words.specs.declared.Refused.{Refused}
 use Rattle.tool_words.specs.declared.Refused.TheVariants.{Words}
 use Rattle.tool_words.specs.Words.{word_of}
 use Rattle.tool_words.specs.inner.Words.{FindsBy}
 use Rattle.tool_words.proofs.Tool.{none_of}
 use Rattle.secret_words.specs.Ranges.{number_of, address_of, bytes_of, range_of, ranges_of}
+use Rattle.secret_words.specs.Streams.{none_public, streams_of, with_named}
 use Rattle.secret_words.specs.Words.{secrets_app, faults, rows_in, WantedText, wanted_in, wanted_of}
 
 secrets_are_free : is_simple_and_free secrets_app ≡ true
@@ -50,9 +52,34 @@ empty_words f (w ∷ ws) n = absurd (omega (arith, n))
 
 -- two ranges are read, in their order
 two_are_read : wanted_of (codes "d.toml" ∷ codes "p.elf" ∷ codes "--secret" ∷ codes "0x1f000:64" ∷ codes "--secret=131072:1" ∷ codes "--cycles" ∷ codes "9" ∷ [])
-    ≡ Some (record { description = codes "d.toml"; image = codes "p.elf"; secret = record { addr = 126976; bytes = 64 } ∷ record { addr = 131072; bytes = 1 } ∷ []; cycles = 9 })
+    ≡ Some (record { description = codes "d.toml"; image = codes "p.elf"; secret = record { addr = 126976; bytes = 64 } ∷ record { addr = 131072; bytes = 1 } ∷ []; public = none_public; cycles = 9 })
 unfolding wanted_of faults rows_in word_of ranges_of range_of address_of bytes_of number_of clap_on_literals
 two_are_read = refl
+
+-- a stream is public, before the ranges or behind them, and by two options both are
+named : Text → PublicStreams → Type 0
+named n public =
+    wanted_of (codes "d.toml" ∷ codes "p.elf" ∷ codes "--public-stream" ∷ n ∷ codes "--secret" ∷ codes "0:1" ∷ codes "--cycles=9" ∷ [])
+    ≡ Some (record { description = codes "d.toml"; image = codes "p.elf"; secret = record { addr = 0; bytes = 1 } ∷ []; public = public; cycles = 9 })
+
+first_is_public : named (codes "1") (record { first = true; second = false })
+unfolding named wanted_of faults rows_in word_of ranges_of range_of address_of bytes_of number_of streams_of with_named clap_on_literals
+first_is_public = refl
+
+second_is_public : named (codes "2") (record { first = false; second = true })
+unfolding named wanted_of faults rows_in word_of ranges_of range_of address_of bytes_of number_of streams_of with_named clap_on_literals
+second_is_public = refl
+
+both_are_public : streams_of none_public (codes "2" ∷ codes "1" ∷ []) ≡ Some (record { first = true; second = true })
+unfolding streams_of with_named number_of
+both_are_public = refl
+
+-- no other stream, none twice, no third option, and nothing that is no number
+no_stream_is_read : (streams_of none_public (codes "0" ∷ []) ≡ None) × (streams_of none_public (codes "3" ∷ []) ≡ None) × (streams_of none_public (codes "1" ∷ codes "1" ∷ []) ≡ None)
+    × (streams_of none_public (codes "2" ∷ codes "1" ∷ codes "2" ∷ []) ≡ None) × (streams_of none_public (codes "" ∷ []) ≡ None) × (streams_of none_public (codes "one" ∷ []) ≡ None)
+    × (streams_of none_public (codes "1,2" ∷ []) ≡ None) × (streams_of none_public (codes "0x1" ∷ []) ≡ None)
+unfolding streams_of with_named number_of
+no_stream_is_read = (refl, refl, refl, refl, refl, refl, refl, refl)
 
 -- decimal and hexadecimal are one, and a plus may stand before digits
 bases_are_one : ranges_of (codes "0x1f000:64" ∷ codes "126976:64" ∷ codes "+126976:+64" ∷ codes "0x+1F000:0064" ∷ [])

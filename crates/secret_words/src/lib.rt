@@ -1,21 +1,24 @@
-//! The words of `stt_secrets D IMAGE --secret ADDRESS:BYTES .. --cycles N`, read by clap.
+//! The words of `stt_secrets D IMAGE --secret ADDRESS:BYTES .. [--public-stream N ..] --cycles N`, read by clap.
 //!
-//! What words ask for is said in `specs/Words.antt`, over clap's own written definition of what it takes, and what a
-//! range is in `specs/Ranges.antt`: `docs/formats.md`, "Words of stt_secrets", has both in plain words.
+//! What words ask for is said in `specs/Words.antt`, over clap's own written definition of what it takes; what a range
+//! is in `specs/Ranges.antt`, and which streams may be public in `specs/Streams.antt`. `docs/formats.md`, "Words of
+//! stt_secrets", has all three in plain words.
 #![tactic(auto)]
 
 ghost use Rattle.std.specs.Prelude.{◌≡◌, ◌≢◌, IfOk, IfErr, map, None, Some, [], false};
 ghost use Rattle.clap.specs.Words.{App, rule_of, app_of, rows_of, found_of};
 ghost use Rattle.clap.specs.declared.builder.command.Command.TheViews.{out-Command};
-ghost use Rattle.secret_words.specs.Words.{secret_rule, bare_app, secrets_app, faults, rows_in, ranges_in, wanted_in, wanted_of};
+ghost use Rattle.secret_words.specs.Words.{repeated_rule, secret_rule, bare_app, secrets_app, faults, rows_in, ranges_in, streams_in, wanted_in, wanted_of};
 ghost use Rattle.secret_words.specs.inner.Words.{wanted_text};
 
 mod ranges;
+mod streams;
 
 use clap::{Arg, ArgAction, ArgMatches, Command as Parser};
 use ranges::read_ranges;
-use secret_marks::SecretRange;
+use secret_marks::{PublicStreams, SecretRange};
 use std::alloc::{AllocError, Global};
+use streams::{none_public, read_streams};
 use tool_words::{Refused, cycles_arg, find_by, name_arg, text_in, with_arg, word_in};
 
 /// What the words ask for.
@@ -27,8 +30,18 @@ pub struct Wanted<'a> {
     pub image: &'a str,
     /// The secret ranges, in the order of the words. They may lie anywhere, and share bytes.
     pub secret: Vec<SecretRange>,
+    /// The streams that are public.
+    pub public: PublicStreams,
     /// The number of cycles that a run may take at most, at least 1.
     pub cycles: u32,
+}
+
+// An option that may stand several times.
+fn repeated_arg<'a>(alloc: Global, id: &'a str) -> Arg<'a>
+    ensures rule { rule_of result ≡ repeated_rule id.now }
+    ensures here { result.global ≡ false }
+{
+    Arg::new(alloc, id).long(id).action(ArgAction::Append)
 }
 
 // The option with the ranges, once or more often.
@@ -36,10 +49,7 @@ fn secret_arg<'a>(alloc: Global) -> Arg<'a>
     ensures rule { rule_of result ≡ secret_rule }
     ensures here { result.global ≡ false }
 {
-    Arg::new(alloc, "secret")
-        .long("secret")
-        .required(true)
-        .action(ArgAction::Append)
+    repeated_arg(alloc, "secret").required(true)
 }
 
 // A parser with no argument so far: no help, no version, and the words don't begin with the program's name.
@@ -60,6 +70,7 @@ fn secrets_parser<'a>(alloc: Global) -> Result<Parser<'a>, AllocError>
     let parser = with_arg(parser, name_arg(alloc, "description"));
     let parser = with_arg(parser, name_arg(alloc, "image"));
     let parser = with_arg(parser, secret_arg(alloc));
+    let parser = with_arg(parser, repeated_arg(alloc, "public-stream"));
     with_arg(parser, cycles_arg(alloc))
 }
 
@@ -83,6 +94,16 @@ fn ranges_in(alloc: Global, matches: &ArgMatches<'_>) -> Result<Vec<SecretRange>
     }
 }
 
+// The public streams, None where one of the texts names none that may be.
+fn streams_in(matches: &ArgMatches<'_>) -> Option<PublicStreams>
+    ensures { result ≡ streams_in (rows_of (found_of matches.now)) }
+{
+    match matches.get_strs("public-stream") {
+        Some(texts) => read_streams(texts),
+        None => Some(none_public()),
+    }
+}
+
 // What was found asks for. Errors: `Words`, only where it asks for nothing; `Memory`.
 fn wanted_in<'a>(alloc: Global, matches: &ArgMatches<'a>) -> Result<Wanted<'a>, Refused>
     ensures ok { IfOk result (λ w. wanted_in (rows_of (found_of matches.now)) ≡ Some (wanted_text w)) }
@@ -91,11 +112,13 @@ fn wanted_in<'a>(alloc: Global, matches: &ArgMatches<'a>) -> Result<Wanted<'a>, 
     let description = text_in(matches, "description").ok_or(Refused::Words)?;
     let image = text_in(matches, "image").ok_or(Refused::Words)?;
     let cycles = word_in(matches, "cycles").ok_or(Refused::Words)?;
+    let public = streams_in(matches).ok_or(Refused::Words)?;
     let secret = ranges_in(alloc, matches)?;
     Ok(Wanted {
         description,
         image,
         secret,
+        public,
         cycles,
     })
 }

@@ -9,8 +9,8 @@ use tool_words::Refused;
 /// The fewest bytes that a range may have.
 const BYTES_MIN: u32 = 1;
 
-// The number of a text in this radix, where it is one of 32 bits.
-fn number_of(text: &str, radix: u32) -> Option<u32>
+/// The number of a text in this radix, where it is one of 32 bits.
+pub(crate) fn number_of(text: &str, radix: u32) -> Option<u32>
     requires least { 2 ≤ radix }
     requires most { radix ≤ 36 }
     ensures { result ≡ number_of radix text.now }

@@ -45,7 +45,7 @@ hidden_told (Some e) = inl refl
 hidden_told None = inr (inr refl)
 
 told_status : (v : Verdict) → IsTold (verdict_status v)
-told_status (Hidden ending) = hidden_told ending.end
+told_status (Hidden ending published) = hidden_told ending.end
 told_status (Shown first) = inr (inl refl)
 
 -- a verdict has no status but 0, 1 and 3

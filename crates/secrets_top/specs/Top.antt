@@ -40,7 +40,7 @@ pub record Accepted (wanted : WantedText) (old new : Shelf) : Type 0 where
 
 -- what is told of the run that is wanted
 abbrev pub verdict_in : WantedText → Desc → ImageText → Verdict
-verdict_in wanted d image = verdict_of d image wanted.secret wanted.cycles
+verdict_in wanted d image = verdict_of d image wanted.secret wanted.public wanted.cycles
 
 abbrev pub verdict_on : {wanted : WantedText} {old new : Shelf} → Accepted wanted old new → Verdict
 verdict_on {wanted} a = verdict_in wanted a.inputs.desc a.inputs.image

@@ -1,5 +1,5 @@
 -- What is told of a run (docs/formats.md, "The program stt_secrets").
-use Rattle.std.specs.Prelude.{ℕ, List, ◌++◌, Option, Some, None, codes, decimal}
+use Rattle.std.specs.Prelude.{ℕ, Bool, ◌||◌, List, ◌++◌, length, Option, Some, None, if◌then◌else◌, codes, decimal}
 use Rattle.rv_types.specs.Memory.{Code}
 use Rattle.rv_types.specs.declared.End.{End}
 use Rattle.rv_types.specs.declared.Ending.{Ending}
@@ -13,31 +13,46 @@ use Rattle.window_model.specs.State.{Machine, opening}
 use Rattle.window_model.specs.Cycle.{after_cycles}
 use Rattle.pair_run.specs.Running.{ending_at}
 use Rattle.secret_marks.specs.declared.FirstShown.{FirstShown}
+use Rattle.secret_marks.specs.declared.PublicStreams.{PublicStreams}
 use Rattle.secret_marks.specs.declared.SecretRange.{SecretRange}
 use Rattle.secret_marks.specs.Marks.{Marks, opening_marks}
+use Rattle.secret_marks.specs.Published.{published_by}
 use Rattle.secret_marks.specs.Ranges.{secret_in}
 use Rattle.secret_marks.specs.Shown.{first_shown}
+use Rattle.secret_marks.specs.Streams.{public_in}
 use Rattle.secrets_top.specs.declared.verdict.Verdict.{Verdict}
 use Rattle.secrets_top.specs.declared.verdict.Verdict.TheVariants.{Hidden, Shown}
 
 -- ---- What a run comes to
 
--- the verdict on a run, by how it ended and what shows first
-abbrev pub verdict : Ending → Option FirstShown → Verdict
-verdict ending None = Hidden ending
-verdict ending (Some first) = Shown first
+-- some stream is public
+abbrev pub is_any_public : PublicStreams → Bool
+is_any_public public = public.first || public.second
 
--- what is told of a machine, with marks beside it, in at most n cycles
-abbrev pub verdict_from : Desc → Code → ℕ → Machine → Marks → Verdict
-verdict_from d code n x m = verdict (ending_at (after_cycles d code n x)) (first_shown d code n x m)
+-- a number of published bytes is told where a stream is public
+abbrev pub told_of : PublicStreams → ℕ → Option ℕ
+told_of public count = if is_any_public public then Some count else None
 
--- what shows first in at most n cycles of an image's run, of whose memory the bytes of these ranges are secret
-abbrev pub first_of_run : Desc → ImageText → List SecretRange → ℕ → Option FirstShown
-first_of_run d image secret n = first_shown d image.code n (opening d image.entry image.ram) (opening_marks (secret_in secret) image.ram)
+-- the verdict on a run, by how it ended, how many bytes it published, if that is told, and what shows first
+abbrev pub verdict : Ending → Option ℕ → Option FirstShown → Verdict
+verdict ending published None = Hidden ending published
+verdict ending published (Some first) = Shown first
 
--- what is told of at most n cycles of an image's run, of whose memory the bytes of these ranges are secret
-abbrev pub verdict_of : Desc → ImageText → List SecretRange → ℕ → Verdict
-verdict_of d image secret n = verdict_from d image.code n (opening d image.entry image.ram) (opening_marks (secret_in secret) image.ram)
+-- what is told of a machine, with marks beside it and these streams public, in at most n cycles
+abbrev pub verdict_from : PublicStreams → Desc → Code → ℕ → Machine → Marks → Verdict
+verdict_from public d code n x m =
+    verdict (ending_at (after_cycles d code n x)) (told_of public (length (published_by (public_in public) d code n x))) (first_shown (public_in public) d code n x m)
+
+-- what shows first in at most n cycles of an image's run, of whose memory the bytes of these ranges are secret, where
+-- these streams are public
+abbrev pub first_of_run : Desc → ImageText → List SecretRange → PublicStreams → ℕ → Option FirstShown
+first_of_run d image secret public n =
+    first_shown (public_in public) d image.code n (opening d image.entry image.ram) (opening_marks (secret_in secret) image.ram)
+
+-- what is told of at most n cycles of an image's run, of whose memory the bytes of these ranges are secret, where these
+-- streams are public
+abbrev pub verdict_of : Desc → ImageText → List SecretRange → PublicStreams → ℕ → Verdict
+verdict_of d image secret public n = verdict_from public d image.code n (opening d image.entry image.ram) (opening_marks (secret_in secret) image.ram)
 
 -- ---- The text of a verdict
 
@@ -56,12 +71,21 @@ shown_line first =
     codes "shown " ++ decimal first.cycle ++ codes " " ++ what_shows first.shown.kind ++ codes " " ++ decimal first.shown.serial ++ codes " " ++ hex8 first.shown.pc
     ++ codes "\n"
 
--- the lines of a run in which nothing shows: the last one is that of its trace
-abbrev pub hidden_text : Ending → List ℕ
-hidden_text ending = codes "hidden\n" ++ end_line ending
+-- the line of what is published: how many bytes that is
+unfoldable pub published_line : ℕ → List ℕ
+published_line bytes = codes "published " ++ decimal bytes ++ codes "\n"
+
+-- the last lines of a run in which nothing shows: what is published, if that is told, and the last line of its trace
+abbrev pub last_lines : Ending → Option ℕ → List ℕ
+last_lines ending None = end_line ending
+last_lines ending (Some bytes) = published_line bytes ++ end_line ending
+
+-- the lines of a run in which nothing shows
+abbrev pub hidden_text : Ending → Option ℕ → List ℕ
+hidden_text ending published = codes "hidden\n" ++ last_lines ending published
 
 abbrev pub verdict_text : Verdict → List ℕ
-verdict_text (Hidden ending) = hidden_text ending
+verdict_text (Hidden ending published) = hidden_text ending published
 verdict_text (Shown first) = shown_line first
 
 -- ---- The status of a verdict
@@ -72,5 +96,5 @@ hidden_status (Some end) = 0
 hidden_status None = 3
 
 abbrev pub verdict_status : Verdict → ℕ
-verdict_status (Hidden ending) = hidden_status ending.end
+verdict_status (Hidden ending published) = hidden_status ending.end
 verdict_status (Shown first) = 1

@@ -4,7 +4,7 @@ ghost use Rattle.std.specs.Prelude.{◌≡◌, ◌<◌, ◌+◌, ◌^◌, IfOk};
 ghost use Rattle.elf_loader.specs.inner.Code.{word_at};
 ghost use Rattle.pair_run.specs.Running.{ending_at};
 ghost use Rattle.run_inputs.specs.Loaded.{Fits, loaded};
-ghost use Rattle.secrets_top.specs.Verdict.{verdict_from, verdict_of};
+ghost use Rattle.secrets_top.specs.Verdict.{told_of, verdict_from, verdict_of};
 ghost use Rattle.secrets_top.specs.inner.Top.{Performs};
 
 use crate::refusal::Unjudged;
@@ -13,7 +13,7 @@ use marked_core::{MarkedCore, first_shown};
 use rename_taint::ByTable;
 use run_inputs::Described;
 use rv_types::{Ending, NoMemory, Piece};
-use secret_marks::SecretRange;
+use secret_marks::{PublicStreams, SecretRange};
 use std::alloc::Global;
 use tool_io::Sink;
 use window_model::empty_row;
@@ -31,16 +31,29 @@ fn ending_at(core: &Core) -> Ending
     }
 }
 
+// A number of published bytes is told where a stream is public.
+fn told_of(public: PublicStreams, count: u64) -> Option<u64>
+    ensures { result ≡ told_of public count }
+{
+    if public.first || public.second {
+        Some(count)
+    } else {
+        None
+    }
+}
+
 // Runs a core for at most so many cycles, until something shows.
 fn watch(core: &mut Core, cycles: u32) -> Verdict
     requires few { core.old.machine.cycle + cycles < 2 ^ 32 }
-    ensures { result ≡ verdict_from core.old.desc (word_at core.old.code) cycles core.old.machine core.old.marks }
+    ensures { result ≡ verdict_from core.old.public core.old.desc (word_at core.old.code) cycles
+        core.old.machine core.old.marks }
 {
     let mut row = empty_row();
     let mut piece = Piece::new();
-    match first_shown(core, &mut row, &mut piece, cycles) {
+    let mut published = 0;
+    match first_shown(core, &mut row, &mut piece, &mut published, cycles) {
         Some(first) => Verdict::Shown(first),
-        None => Verdict::Hidden(ending_at(core)),
+        None => Verdict::Hidden(ending_at(core), told_of(core.public(), published)),
     }
 }
 
@@ -49,13 +62,14 @@ fn judge(
     alloc: Global,
     read: Described,
     secret: &[SecretRange],
+    public: PublicStreams,
     cycles: u32,
 ) -> Result<Verdict, NoMemory>
     requires { Fits read.desc read.image.ram }
-    ensures { IfOk result (λ v. v ≡ verdict_of read.desc (loaded read.image) secret.now cycles) }
+    ensures { IfOk result (λ v. v ≡ verdict_of read.desc (loaded read.image) secret.now public cycles) }
 {
     let Described { desc, image } = read;
-    let mut core = Core::new(alloc, &desc, image, secret)?;
+    let mut core = Core::new(alloc, &desc, image, secret, public)?;
     Ok(watch(&mut core, cycles))
 }
 
@@ -65,14 +79,15 @@ pub(crate) fn perform<O: Sink>(
     alloc: Global,
     read: Described,
     secret: &[SecretRange],
+    public: PublicStreams,
     cycles: u32,
     out: &mut O,
 ) -> Result<Verdict, Unjudged>
     requires { Fits read.desc read.image.ram }
-    ensures { Performs (verdict_of read.desc (loaded read.image) secret.now cycles)
+    ensures { Performs (verdict_of read.desc (loaded read.image) secret.now public cycles)
         (O.told out.old) (O.told out.new) result }
 {
-    let verdict = judge(alloc, read, secret, cycles)?;
+    let verdict = judge(alloc, read, secret, public, cycles)?;
     write_verdict(&verdict, out)?;
     Ok(verdict)
 }

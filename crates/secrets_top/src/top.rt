@@ -36,7 +36,14 @@ fn answer<F: Files, O: Sink>(
         files,
     )?;
     check_ranges(&read.image, wanted.secret.as_slice())?;
-    perform(alloc, read, wanted.secret.as_slice(), wanted.cycles, out)
+    perform(
+        alloc,
+        read,
+        wanted.secret.as_slice(),
+        wanted.public,
+        wanted.cycles,
+        out,
+    )
 }
 
 /// Does all that the program does, and answers its status. `words` are those after the program's name. What is told of

@@ -2,9 +2,9 @@
 //! stt_secrets").
 //!
 //! A put has one line, and nothing here takes memory.
-ghost use Rattle.std.specs.Prelude.{◌≡◌};
+ghost use Rattle.std.specs.Prelude.{◌≡◌, Some};
 ghost use Rattle.tool_io.specs.Outside.{Writes};
-ghost use Rattle.secrets_top.specs.Verdict.{what_shows, shown_line, verdict_text, verdict_status};
+ghost use Rattle.secrets_top.specs.Verdict.{what_shows, shown_line, published_line, last_lines, hidden_text, verdict_text, verdict_status};
 
 use line_text::{Line, write_end};
 use rv_types::{Ending, Kind};
@@ -14,8 +14,9 @@ use tool_io::{Failed, Sink};
 /// What is told of a run.
 #[derive(Clone, Copy, Debug, PartialEq, Eq)]
 pub(crate) enum Verdict {
-    /// Nothing shows in the run, which ended so, or not within its budget.
-    Hidden(Ending),
+    /// Nothing shows in the run, which ended so, or not within its budget; and how many bytes it published, where a
+    /// stream is public.
+    Hidden(Ending, Option<u64>),
     /// Something shows in the run: what does first, and in which cycle.
     Shown(FirstShown),
 }
@@ -50,11 +51,38 @@ fn shown_line(first: &FirstShown) -> Line
     line
 }
 
-fn write_hidden<S: Sink>(ending: &Ending, out: &mut S) -> Result<(), Failed>
-    ensures { Writes (verdict_text (Verdict.Hidden ending.now)) (S.told out.old) (S.told out.new) result }
+#[tactic(auto, unfolding(crate::specs::Verdict::published_line))]
+fn published_line(bytes: u64) -> Line
+    ensures { result ≡ published_line bytes }
+{
+    let mut line = Line::new();
+    line.add(b"published ");
+    line.add_decimal(bytes);
+    line.add(b"\n");
+    line
+}
+
+fn write_published<S: Sink>(bytes: u64, ending: &Ending, out: &mut S) -> Result<(), Failed>
+    ensures { Writes (last_lines ending.now (Some bytes)) (S.told out.old) (S.told out.new) result }
+{
+    out.put(published_line(bytes).as_slice())?;
+    write_end(ending, out)
+}
+
+fn write_last<S: Sink>(ending: &Ending, published: Option<u64>, out: &mut S) -> Result<(), Failed>
+    ensures { Writes (last_lines ending.now published) (S.told out.old) (S.told out.new) result }
+{
+    match published {
+        Some(bytes) => write_published(bytes, ending, out),
+        None => write_end(ending, out),
+    }
+}
+
+fn write_hidden<S: Sink>(ending: &Ending, published: Option<u64>, out: &mut S) -> Result<(), Failed>
+    ensures { Writes (hidden_text ending.now published) (S.told out.old) (S.told out.new) result }
 {
     out.put(b"hidden\n")?;
-    write_end(ending, out)
+    write_last(ending, published, out)
 }
 
 /// Writes what is told of a run, one put a line. Error: `Failed`, only where the sink's count of faults rose; then a
@@ -63,7 +91,7 @@ pub(crate) fn write_verdict<S: Sink>(verdict: &Verdict, out: &mut S) -> Result<(
     ensures { Writes (verdict_text verdict.now) (S.told out.old) (S.told out.new) result }
 {
     match verdict {
-        Verdict::Hidden(ending) => write_hidden(ending, out),
+        Verdict::Hidden(ending, published) => write_hidden(ending, *published, out),
         Verdict::Shown(first) => out.put(shown_line(first).as_slice()),
     }
 }
@@ -73,7 +101,7 @@ pub(crate) fn verdict_status(verdict: &Verdict) -> u8
     ensures { result ≡ verdict_status verdict.now }
 {
     match verdict {
-        Verdict::Hidden(ending) => { if ending.end.is_some() { 0 } else { 3 } }
+        Verdict::Hidden(ending, _) => { if ending.end.is_some() { 0 } else { 3 } }
         Verdict::Shown(_) => 1,
     }
 }

@@ -8,6 +8,7 @@ use Rattle.marked_core.specs.InStep.{IssuedBy, NotYet}
 use Rattle.quiet_cycles.specs.Still.{empty_row}
 use Rattle.secret_marks.specs.Marks.{Marks}
 use Rattle.secret_marks.specs.Shown.{or_else, resolved_shown}
+use Rattle.secret_marks.specs.Streams.{public_in}
 use Rattle.entry_marks.specs.Walk.{marks_of}
 use Rattle.core_parts.specs.Described.{Described}
 use Rattle.core_cycle.specs.Kept.{Kept}
@@ -73,14 +74,14 @@ returns-clause-commits g c =
 
 pub returns-clause-marks : goal.returns-clause-marks
 returns-clause-marks g c =
-    cycle_marks _ _ c.before_retire-resolved.new.parts (record { begins = c.begin.ensures; goes = c.before_retire-resolved.ensures.machine }) _ _ c.before_retire-resolved.ensures.marks c.retire_marked-asked.new.parts c.retire_marked-asked.ensures.machine _ c.retire_marked-asked.ensures.marks _
+    cycle_marks (public_in c.args.public) _ _ c.before_retire-resolved.new.parts (record { begins = c.begin.ensures; goes = c.before_retire-resolved.ensures.machine }) _ _ c.before_retire-resolved.ensures.marks c.retire_marked-asked.new.parts c.retire_marked-asked.ensures.machine _ c.retire_marked-asked.ensures.piece _ c.retire_marked-asked.ensures.marks _
     c.after_retire-operand.ensures.marks
 
 pub returns-clause-shown : goal.returns-clause-shown
 returns-clause-shown g c =
     c.or_else-2.ensures
     ∙ ap (or_else c.before_retire-resolved.result) c.or_else.ensures
-    ∙ cycle_shows _ _ c.before_retire-resolved.new.parts (record { begins = c.begin.ensures; goes = c.before_retire-resolved.ensures.machine }) _ _ c.before_retire-resolved.ensures.marks c.retire_marked-asked.new.parts c.retire_marked-asked.ensures.machine _ c.retire_marked-asked.ensures.marks _ _ _
+    ∙ cycle_shows (public_in c.args.public) _ _ c.before_retire-resolved.new.parts (record { begins = c.begin.ensures; goes = c.before_retire-resolved.ensures.machine }) _ _ c.before_retire-resolved.ensures.marks c.retire_marked-asked.new.parts c.retire_marked-asked.ensures.machine _ c.retire_marked-asked.ensures.piece _ c.retire_marked-asked.ensures.marks _ _ _
     c.before_retire-resolved.ensures.shown c.retire_marked-asked.ensures.shown c.after_retire-operand.ensures.shown
 
 pub returns-clause-between : goal.returns-clause-between
@@ -95,7 +96,7 @@ returns-clause-between g c =
     let desc = desc_backed s s1 s2 p s3 c.retire_marked-asked.ensures.machine s4 c.after_retire-operand.ensures.machine in
     let code = code_backed s s1 s2 p s3 c.retire_marked-asked.ensures.machine s4 c.after_retire-operand.ensures.machine in
     let watched =
-    cycle_marks s s1 s2 p _ _ c.before_retire-resolved.ensures.marks s3 c.retire_marked-asked.ensures.machine _ c.retire_marked-asked.ensures.marks _ c.after_retire-operand.ensures.marks in
+    cycle_marks (public_in c.args.public) s s1 s2 p _ _ c.before_retire-resolved.ensures.marks s3 c.retire_marked-asked.ensures.machine _ c.retire_marked-asked.ensures.piece _ c.retire_marked-asked.ensures.marks _ c.after_retire-operand.ensures.marks in
     let told = c.before_retire-resolved.ensures.shown ∙ ap (λ (s : Described). shown_to_clear s.desc s.machine (marks_of c.args.marks.now)) c.begin.ensures in
     record {
       kept =
@@ -109,7 +110,7 @@ returns-clause-between g c =
       noted = λ none.
           subst (λ (x : Machine). resolved_shown x.window c.after_retire-operand.new.marks.window.items ≡ None) (sym same)
           (subst (λ (m : Marks). resolved_shown (cycle s.desc (word_at s.code) s.machine).machine.window m.window ≡ None) (sym watched)
-          (cycle_unexposed s.desc (word_at s.code) s.machine (marks_of c.args.marks.now) (none_waits _ _ _ _ [] _ c.requires.between.kept.consistent.entries) c.requires.between.issued
+          (cycle_unexposed (public_in c.args.public) s.desc (word_at s.code) s.machine (marks_of c.args.marks.now) (none_waits _ _ _ _ [] _ c.requires.between.kept.consistent.entries) c.requires.between.issued
           c.requires.between.kept.timely.parts (sym told ∙ none_told c.before_retire-resolved.result c.is_none.result c.is_none.ensures none)));
       memory = bytes_backed s3 s4 c.after_retire-operand.ensures.machine c.retire_marked-asked.new.marks c.after_retire-operand.new.marks c.after_retire-operand.ensures.marks c.retire_marked-asked.ensures.memory;
     }

@@ -49,5 +49,5 @@ returns-clause-ends g c =
     let inputs : Inputs wanted old new = record { desc = read.desc; image = loaded read.image; read = c.in_ok-read.ensures.answer } in
     let accepted : Accepted wanted old new =
     record { inputs = inputs; ranges = ap (first_faulty (loaded read.image) 0) (sym c.as_slice.ensures.value) ∙ c.in_ok-check_ranges.ensures } in
-    let P : List SecretRange → Type 0 = λ s. Performs (verdict_of read.desc (loaded read.image) s wanted.cycles) out out' c.perform.result in
+    let P : List SecretRange → Type 0 = λ s. Performs (verdict_of read.desc (loaded read.image) s wanted.public wanted.cycles) out out' c.perform.result in
     told_end words old new out out' wanted accepted c.perform.result c.in_ok-wanted.ensures.ok (subst P c.as_slice-2.ensures.value c.perform.ensures)
