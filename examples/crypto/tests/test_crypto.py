@@ -20,6 +20,7 @@ PROGRAM = built_programs.simulator()
 NEEDS = {"gcc": ("make", "riscv64-unknown-elf-gcc"), "clang": ("make", "clang", "ld.lld")}
 LEVELS = ("O1", "O2")
 ROW = r"^\| `(\w+)` \| `(key|secret)` \| (\d+) \| (hidden|shown) \| (hidden|shown) \|"
+PUBLISHED = r"^\| `(\w+)` \| `(?:key|secret)`[^|]*\| [\d and]+ \| \d+(?:, [^|]*)? \|"
 DESCRIPTIONS = [os.path.join(ROOT, "examples", f"large_{name}.toml") for name in ("unprotected", "passing", "futuristic", "hold")]
 CYCLES = "100000000"
 MERSENNE = 2**31 - 1
@@ -39,6 +40,12 @@ def rows():
     """Of each program of README.md's first table: its secret's symbol and bytes, and the word for each compiler."""
     found = re.findall(ROW, read("README.md"), re.MULTILINE)
     return {name: (symbol, int(size), dict(zip(NEEDS, words))) for name, symbol, size, *words in found}
+
+
+@functools.cache
+def published():
+    """The programs of the table of README.md, "What is published"."""
+    return re.findall(PUBLISHED, read("README.md"), re.MULTILINE)
 
 
 def vectors():
@@ -152,15 +159,15 @@ class Crypto(unittest.TestCase):
 
     def test_tables(self):
         programs = sorted(name[:-2] for name in os.listdir(FOLDER) if name.endswith(".c"))
-        self.assertEqual(len(programs), 11)
-        self.assertEqual(sorted(rows()), programs)
+        self.assertEqual((len(rows()), len(published())), (11, 11))
+        self.assertEqual(sorted([*rows(), *published()]), programs)
         self.assertEqual(sorted(vectors()), programs)
 
     def test_vectors(self):
         for compiler, _ in self.each_compiler():
             ended = make("-s", "test", f"COMPILERS={compiler}", f"STT_CLI={os.path.abspath(PROGRAM)}")
             self.assertEqual((ended.returncode, ended.stderr), (0, ""))
-            self.assertEqual(ended.stdout.splitlines()[-1], f"{len(rows()) * len(LEVELS)} images put out their vectors")
+            self.assertEqual(ended.stdout.splitlines()[-1], f"{len(vectors()) * len(LEVELS)} images put out their vectors")
 
     def test_wrong_vector_is_told(self):
         wrong = os.path.join(folder(), "wrong.txt")
