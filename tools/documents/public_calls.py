@@ -34,7 +34,7 @@ def crates():
     """The crates of crates.txt that don't hold tests alone, in its order."""
     lines = (line.split("#")[0] for line in read("crates.txt").splitlines())
     names = [line.split(":")[0].split()[0] for line in lines if ":" in line]
-    return [name for name in names if not name.endswith("_tests") and name != "test_programs"]
+    return [name for name in names if not name.endswith("_tests")]
 
 
 def sources(crate):

@@ -4,11 +4,11 @@ use elf_loader::{Image, load, segments};
 use std::alloc::Global;
 use std::test::Fail;
 
-/// The first address of memory, where code begins.
-pub const CODE: u32 = 0x0001_0000;
+// The first address of memory, where code begins.
+const CODE: u32 = 0x0001_0000;
 
-/// How many bytes memory has.
-pub const SIZE: u32 = 0x0001_0000;
+// How many bytes memory has.
+const SIZE: u32 = 0x0001_0000;
 
 // The address of a program's data, 16 bytes below the end of memory.
 const DATA: u32 = 0x0001_fff0;
@@ -21,14 +21,6 @@ const FETCHED: u32 = 5;
 
 const WRITTEN: u32 = 6;
 
-/// A part of an image beside its code: its first address, its words, and whether they may be fetched.
-#[derive(Clone, Copy)]
-pub struct SegmentWords<'a> {
-    pub address: u32,
-    pub words: &'a [u32],
-    pub fetched: bool,
-}
-
 // Appends words, each with the lowest byte first.
 fn add_words(file: &mut Vec<u8>, words: &[u32]) -> Result<(), Fail> {
     for word in words {
@@ -39,12 +31,12 @@ fn add_words(file: &mut Vec<u8>, words: &[u32]) -> Result<(), Fail> {
 
 // Appends the file's header. Type 2, machine 243; version 1, entry, program headers at 52, no section headers, no
 // flags; a header of 52 bytes, two program headers of 32 bytes, no section headers.
-fn add_header(file: &mut Vec<u8>, entry: u32) -> Result<(), Fail> {
+fn add_header(file: &mut Vec<u8>) -> Result<(), Fail> {
     file.extend_from_slice(&[0x7f, b'E', b'L', b'F', 1, 1, 1, 0])?;
     add_words(file, &[0, 0])?;
     add_words(
         file,
-        &[0x00f3_0002, 1, entry, 52, 0, 0, 52 + (32 << 16), 2, 0],
+        &[0x00f3_0002, 1, CODE, 52, 0, 0, 52 + (32 << 16), 2, 0],
     )
 }
 
@@ -53,35 +45,17 @@ fn size_of(words: &[u32]) -> u32 {
     u32::try_from(words.len()).unwrap_or(0).saturating_mul(4)
 }
 
-// The file of this code and this other part.
-fn file_of(
-    alloc: Global,
-    entry: u32,
-    code: &[u32],
-    other: SegmentWords<'_>,
-) -> Result<Vec<u8>, Fail> {
+// The file of this code and these words of data.
+fn file_of(alloc: Global, code: &[u32], data: &[u32]) -> Result<Vec<u8>, Fail> {
     let mut file = Vec::new(alloc);
     let size = size_of(code);
-    let other_size = size_of(other.words);
-    let from = other.address;
-    let flags = if other.fetched { FETCHED } else { WRITTEN };
-    add_header(&mut file, entry)?;
+    let more = size_of(data);
+    let place = START.saturating_add(size);
+    add_header(&mut file)?;
     add_words(&mut file, &[1, START, CODE, CODE, size, size, FETCHED, 4])?;
-    add_words(
-        &mut file,
-        &[
-            1,
-            START.saturating_add(size),
-            from,
-            from,
-            other_size,
-            other_size,
-            flags,
-            4,
-        ],
-    )?;
+    add_words(&mut file, &[1, place, DATA, DATA, more, more, WRITTEN, 4])?;
     add_words(&mut file, code)?;
-    add_words(&mut file, other.words)?;
+    add_words(&mut file, data)?;
     Ok(file)
 }
 
@@ -91,34 +65,14 @@ fn loaded(alloc: Global, file: &[u8], misaligned: bool) -> Result<Image, Fail> {
     Ok(load(alloc, &segments(file)?, ram)?)
 }
 
-/// The image of this code and this other part, where fetch begins at the entry.
-pub fn image_of(
-    alloc: Global,
-    entry: u32,
-    code: &[u32],
-    other: SegmentWords<'_>,
-) -> Result<Image, Fail> {
-    let file = file_of(alloc, entry, code, other)?;
-    loaded(alloc, file.as_slice(), false)
-}
-
 /// The image of this code alone, which begins with its first word, with accesses at any address or not.
 pub fn code_image(alloc: Global, misaligned: bool, code: &[u32]) -> Result<Image, Fail> {
-    let none = SegmentWords {
-        address: DATA,
-        words: &[],
-        fetched: false,
-    };
-    let file = file_of(alloc, CODE, code, none)?;
+    let file = file_of(alloc, code, &[])?;
     loaded(alloc, file.as_slice(), misaligned)
 }
 
 /// The image of a program, which begins with its first word, and of its data.
 pub fn program_image(alloc: Global, code: &[u32], data: &[u32]) -> Result<Image, Fail> {
-    let other = SegmentWords {
-        address: DATA,
-        words: data,
-        fetched: false,
-    };
-    image_of(alloc, CODE, code, other)
+    let file = file_of(alloc, code, data)?;
+    loaded(alloc, file.as_slice(), false)
 }

@@ -1,5 +1,5 @@
-//! Tests of the instruction set's step, of the core and its phases, of the core with marks beside it, and of the pair
-//! of runs, as a caller sees them.
+//! Tests of the core and its phases, as a caller sees them, and of the lines that a pair of runs is told by. Whole runs
+//! are cases (`docs/cases.md`).
 //!
 //! They use public items alone, so they stand above the crates that they test, and cost no more than their own proof
 //! (`docs/working.md`, "Where tests stand").
@@ -7,6 +7,8 @@
 
 #[cfg(test)]
 mod asserting;
+#[cfg(test)]
+mod comparisons;
 #[cfg(test)]
 mod counting;
 #[cfg(test)]
@@ -18,20 +20,14 @@ mod flights;
 #[cfg(test)]
 mod images;
 #[cfg(test)]
-mod instructions;
-#[cfg(test)]
 mod lines;
 #[cfg(test)]
-mod marked;
-#[cfg(test)]
-mod pairs;
-#[cfg(test)]
 mod phases;
+#[cfg(test)]
+mod programs;
 #[cfg(test)]
 mod renaming;
 #[cfg(test)]
 mod settings;
 #[cfg(test)]
 mod stores;
-#[cfg(test)]
-mod traces;

@@ -1,6 +1,5 @@
-//! Descriptions that are accepted, and what stands in each place.
+//! What stands in each place of a description.
 use crate::asserting::assert_same;
-use crate::reading::{Told, tells};
 use machine_desc::{Defence, Desc, EXAMPLE, SttModel, bound, read_desc};
 use std::alloc::Global;
 use std::test::Fail;
@@ -200,31 +199,4 @@ fn cycles_until_one_more_retires(rt: HostRuntime) -> Result<(), Fail> {
     assert_same(&rt, &bound(&read(alloc, "", EXAMPLE)?), &121);
     assert_same(&rt, &bound(&read(alloc, "version = 2\n", LARGE)?), &507);
     Ok(())
-}
-
-// Whole texts, and what is told of them; of a name its first 64 bytes.
-static TEXTS: [(&[u8], Told); 6] = [
-    (b"", Told::Missing("core.fetch_width")),
-    (b"core = 1", Told::Kind("core")),
-    (b"stt = 1\nunits = 1", Told::Kind("units")),
-    (b"\xff", Told::Syntax),
-    (
-        b"aaaaaaaaaaaaaaaaaaaaaaaaaaaaaaaaaaaaaaaaaaaaaaaaaaaaaaaaaaaaaaaaaaaaaa = 1",
-        Told::Unknown("aaaaaaaaaaaaaaaaaaaaaaaaaaaaaaaaaaaaaaaaaaaaaaaaaaaaaaaaaaaaaaaa"),
-    ),
-    (
-        b"[predictor]\naaaaaaaaaaaaaaaaaaaaaaaaaaaaaaaaaaaaaaaaaaaaaaaaaaaaaaaaaaaaaaaaaaaaaa = 1",
-        Told::Unknown("predictor.aaaaaaaaaaaaaaaaaaaaaaaaaaaaaaaaaaaaaaaaaaaaaaaaaaaaaaaaaaaaaaaa"),
-    ),
-];
-
-#[test]
-fn whole_texts(rt: HostRuntime) {
-    for &(bytes, told) in &TEXTS {
-        assert_same(
-            &rt,
-            &(bytes, tells(rt.alloc(), bytes, told)),
-            &(bytes, true),
-        );
-    }
 }

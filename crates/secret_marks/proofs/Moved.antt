@@ -27,13 +27,16 @@ use Rattle.secret_marks.specs.Shows.{call_shows, decides_as, head_shows, is_mark
 use Rattle.secret_marks.specs.Published.{Public, published, published_marks, unmarked_at}
 use Rattle.secret_marks.specs.Alike.{AlikeBut, Beside, SameEntry, is_unresolved}
 use Rattle.secret_marks.proofs.Calls.{same_reg}
-use Rattle.secret_marks.proofs.Clear.{load_closed, same_address}
+use Rattle.secret_marks.proofs.Clear.{load_closed}
 use Rattle.secret_marks.proofs.Kept.{same_addr, same_covers, same_fault_of}
 use Rattle.secret_marks.proofs.Lists.{values_length}
-use Rattle.secret_marks.proofs.May.{part_alike, ready_alike, waits_alike}
+use Rattle.secret_marks.proofs.Looking.{seen_alike}
+use Rattle.secret_marks.proofs.May.{beside}
 use Rattle.secret_marks.proofs.Outputs.{of_nothing}
 use Rattle.secret_marks.proofs.Publish.{PutAlike}
-use Rattle.secret_marks.proofs.Resolve.{same_any}
+use Rattle.two_runs.specs.Seen.{SeenEntries, SeenMachine, without_outcome}
+use Rattle.two_runs.proofs.Looking.{same_address, same_any}
+use Rattle.two_runs.proofs.May.{part_alike, ready_alike, waits_alike}
 
 -- ---- marks of operands
 
@@ -139,14 +142,24 @@ marks_issued cycle base m ms ns b b2 s _ _ _ _ t = absurd t
 
 module _ (d : Desc) (m : Marks) (x x2 : Machine) (h : AlikeBut m x x2) where
   module _ (ms : List EntryMarks) (b b2 : List Entry) (s : Beside SameEntry ms b b2) (k : EntryMarks) (e e2 : Entry) (t : SameEntry k e e2) where
+    -- what two runs see alike of both machines, of older entries and of this one
+    seen : SeenMachine x x2
+    seen = beside d m x x2 h
+
+    older : SeenEntries d.stt_model b b2
+    older = seen_alike d.stt_model ms b b2 s
+
+    others : without_outcome e ≡ without_outcome e2
+    others = ap without_outcome t
+
     decides_alike : (j : Kind) → decides_as j d b e ≡ decides_as j d b2 e2
     decides_alike Load =
-        ap₂ (λ w r. w && r && not (address_tainted d.stt_model b e)) (waits_alike d m x x2 h ms b b2 s k e e2 t) (ready_alike d m x x2 h ms b b2 s k e e2 t)
-        ∙ ap (λ c. is_waiting e2.state && ready d b2 e2 && not c) (same_address d ms b b2 k e e2 s t)
+        ap₂ (λ w r. w && r && not (address_tainted d.stt_model b e)) (waits_alike d x x2 seen b b2 older e e2 others) (ready_alike d x x2 seen b b2 older e e2 others)
+        ∙ ap (λ c. is_waiting e2.state && ready d b2 e2 && not c) (same_address d.stt_model b b2 older e e2 others)
     decides_alike Div =
-        ap₂ (λ w r. w && r && not (any_tainted d.stt_model b e)) (waits_alike d m x x2 h ms b b2 s k e e2 t) (ready_alike d m x x2 h ms b b2 s k e e2 t)
-        ∙ ap (λ c. is_waiting e2.state && ready d b2 e2 && not c) (same_any d ms b b2 k e e2 s t)
-    decides_alike Store = part_alike d m x x2 h ms b b2 s k e e2 t AddressPort
+        ap₂ (λ w r. w && r && not (any_tainted d.stt_model b e)) (waits_alike d x x2 seen b b2 older e e2 others) (ready_alike d x x2 seen b b2 older e e2 others)
+        ∙ ap (λ c. is_waiting e2.state && ready d b2 e2 && not c) (same_any d.stt_model b b2 older e e2 others)
+    decides_alike Store = part_alike d x x2 seen b b2 older e e2 others AddressPort
     decides_alike _ = refl
 
     operand_alike : operand_shows d m b ms e ≡ operand_shows d m b2 ms e2

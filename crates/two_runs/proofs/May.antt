@@ -77,11 +77,11 @@ module _ (d : Desc) (x x2 : Machine) (m : SeenMachine x x2) where
         ap₂ (λ y z. if d.version == 1 then y else z) (same_stores_done d.stt_model b b2 s) let_go
 
     -- two runs see alike whether an entry waits
-    waits_alike : is_waiting e.state ≡ is_waiting e2.state
+    pub waits_alike : is_waiting e.state ≡ is_waiting e2.state
     waits_alike = ap (λ (u : Entry). is_waiting u.state) h
 
     -- two runs see alike whether an entry is ready
-    ready_alike : ready d b e ≡ ready d b2 e2
+    pub ready_alike : ready d b e ≡ ready d b2 e2
     ready_alike = same_all_known d b b2 (sources e) (sources e2) s (ap sources h)
 
     -- two runs see alike whether an entry of a kind may issue as one
@@ -109,7 +109,7 @@ module _ (d : Desc) (x x2 : Machine) (m : SeenMachine x x2) where
     part_ready own own2 q = ap₂ (λ y z. if d.version == 1 then y else z) (ap₂ (λ r w. r && w) ready_alike (ap is_whole h)) (same_all_known d b b2 own own2 s q)
 
     -- two runs see alike whether a part of a store may issue at a port
-    part_alike : (port : Port) → part_may port d b e ≡ part_may port d b2 e2
+    pub part_alike : (port : Port) → part_may port d b e ≡ part_may port d b2 e2
     part_alike AddressPort =
         address_part d b e ∙ ap₂ (λ a k. not a && k) (ap has_address h) (part_ready _ _ (ap (λ (u : Entry). base_of (sources u)) h))
         ∙ sym (address_part d b2 e2)

@@ -67,11 +67,24 @@ class Evaluate(unittest.TestCase):
                 self.assertNotEqual(write("--runs", runs, "--crate", crate).returncode, 0)
                 self.assertFalse(os.path.exists(crate))
 
-    def test_a_table_has_the_runs_that_are_named(self):
+    def test_cases_are_the_runs_that_are_named(self):
         with tempfile.TemporaryDirectory() as folder:
-            table = os.path.join(folder, "runs.rt")
-            self.assertEqual(write("--tests", table, *NAMES[:2]).returncode, 0)
-            self.assertEqual(re.findall(rb'name: "(\w+)"', content(table)), [name.encode() for name in NAMES[:2]])
+            cases = os.path.join(folder, "runs.cases")
+            self.assertEqual(write("--cases", cases, *NAMES[:2]).returncode, 0)
+            text = content(cases).decode()
+            self.assertEqual(re.findall(r"(?m)^case (\w+)$", text), NAMES[:2])
+            for name, case in zip(NAMES[:2], text.split("\ndescription ")[1:]):
+                self.assertEqual(bytes.fromhex("".join(re.findall(r"(?m)^p\.elf hex (.*)$", case))), content(RUNS, name, "image.elf"))
+                wanted = "".join(f"    {line}\n" for line in content(RUNS, name, "trace").decode().splitlines())
+                self.assertTrue(case.endswith(f"\nout\n{wanted}"))
+
+    def test_the_stored_cases_are_as_they_would_be_written(self):
+        stored = os.path.join(ROOT, "crates", "case_runs", "data", "independent.cases")
+        names = re.findall(r"(?m)^case (\w+)$", content(stored).decode())
+        with tempfile.TemporaryDirectory() as folder:
+            cases = os.path.join(folder, "runs.cases")
+            self.assertEqual(write("--cases", cases, *names).returncode, 0)
+            self.assertEqual(content(cases), content(stored))
 
 
 if __name__ == "__main__":

@@ -1,0 +1,24 @@
+//! Files of cases: runs of the programs, and how each has to end, as plain text that a person reads and writes.
+//! `docs/cases.md` has the format.
+//!
+//! What can't be read is refused with the number of its line. Nothing is passed over: a line that belongs to nothing, a
+//! column that nothing names, a case that asks for nothing and a file without a case are refused, too.
+#![tactic(auto)]
+
+mod contents;
+mod definitions;
+mod draft;
+mod fault;
+mod file;
+mod image;
+mod lines;
+mod report;
+mod run;
+mod table;
+
+pub use contents::CaseFile;
+pub use definitions::Definitions;
+pub use fault::Fault;
+pub use file::{Cases, read_cases, runs_of};
+pub use lines::{Item, Line};
+pub use run::{Failures, Program, Run, Text, TextKind};
