@@ -59,8 +59,8 @@ with_data regs ram window x = record x { regs = regs; ram = ram; window = window
 abbrev pub after_data : List ℕ → Ram → List Entry → After → After
 after_data regs ram window a = record a { machine = with_data regs ram window a.machine }
 
--- a phase adds the same entries to two windows, none with an outcome, and leaves the second machine as the first but for
--- these registers, this memory and the entries that were there before
+-- a phase adds the same entries to two windows, none with an outcome, and leaves the second machine as the first but
+-- for these registers, this memory and the entries that were there before
 pub record Adds (regs : List ℕ) (ram : Ram) (w w2 : List Entry) (a a2 : After) : Type 0 where
   pub new : List Entry
   pub plain : map without_outcome new ≡ new

@@ -1,7 +1,8 @@
-//! Laws of two runs that don't see all of each other's windows: what follows alike in both, whichever outcomes are hidden.
+//! Laws of two runs that don't see all of each other's windows: what follows alike in both, whichever outcomes are
+//! hidden.
 //!
-//! `specs/Seen.antt` says what two runs see alike. A crate of laws on two runs (`noninterference` on memories that agree,
-//! `secret_marks` on marks) shows that its own relation implies this, and cites the lemmas
+//! `specs/Seen.antt` says what two runs see alike. A crate of laws on two runs (`noninterference` on memories that
+//! agree, `secret_marks` on marks) shows that its own relation implies this, and cites the lemmas
 //! (`docs/architecture.md`, "Laws of two runs").
 #![tactic(auto)]
 
