@@ -7,7 +7,7 @@ use Rattle.secret_marks.specs.Shown.{shown_cycle}
 use Rattle.secret_marks.specs.Streams.{public_in}
 use Rattle.secret_marks.specs.Watch.{watch_cycle}
 use Rattle.core_cycle.proofs.Going.{running_at}
-use Rattle.marked_core.proofs.Looking.{count_is, counts_ended, counts_next, ended_last, ended_none, looks_found, looks_next, watched_as}
+use Rattle.marked_core.proofs.Looking.{count_is, counts_ended, counts_next, counts_over, ended_last, ended_none, looks_found, looks_next, watched_as}
 use Rattle.marked_core.proofs.running.first_shown.Goals as goal
 
 -- what shows in this cycle is what shows first in the run
@@ -53,3 +53,7 @@ returns-then-is_some-clause-machine g c = λ z.
 pub returns-then-is_some-clause-published : goal.returns-then-is_some-clause-published
 returns-then-is_some-clause-published g c = λ z.
     counts_ended _ _ _ _ c.loop.counter _ c.loop.core.machine c.loop.published c.loop.invariant.counts c.end.result _ c.end.ensures c.is_some.ensures c.if-is_some.true
+
+-- where all cycles are over, all that they published is counted
+pub returns-clause-published : goal.returns-clause-published
+returns-clause-published g c = λ z. counts_over _ _ _ _ c.loop.counter _ c.loop.core.machine c.loop.published c.loop.invariant.counts c.loop-test.false
