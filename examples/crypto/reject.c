@@ -3,8 +3,8 @@
 #include "chacha20poly1305.h"
 #include "publish.h"
 
-/* RFC 8439, A.1, the first: what comes of this key is the stream that is drawn from. */
-u8 key[32] = {0};
+/* RFC 8439, A.1, the third: what comes of this key, from the counter 1 on, is the stream that is drawn from. */
+u8 key[32] = {0, 0, 0, 0, 0, 0, 0, 0, 0, 0, 0, 0, 0, 0, 0, 0, 0, 0, 0, 0, 0, 0, 0, 0, 0, 0, 0, 0, 0, 0, 0, 1};
 
 #define NUMBERS 8
 
@@ -13,7 +13,7 @@ int main(void) {
   u8 block[64], number[2 * NUMBERS];
   for (u32 have = 0, at = 0; have < NUMBERS; at += 2) {
     if (at % 64 == 0)
-      stream_block(block, key, nonce, at / 64);
+      stream_block(block, key, nonce, 1 + at / 64);
     u32 candidate = block[at % 64] | (block[at % 64 + 1] & 15) << 8;
     u8 is_taken = (candidate - 3329) >> 31;
     publish(&is_taken, sizeof is_taken);

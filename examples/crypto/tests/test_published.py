@@ -112,8 +112,8 @@ class Standards(unittest.TestCase):
             self.assertEqual(found[name], told.hex(), name)
 
     def test_stream_of_rejection(self):
-        """The numbers of reject are those of the stream that RFC 8439, A.1, has first."""
-        stream = bytes.fromhex("76b8e0ada0f13d90405d6ae55386bd28bdd219b8")
+        """The numbers of reject are those of the stream that RFC 8439, A.1, has third."""
+        stream = bytes.fromhex("3aeb5224ecf849929b9d828db1ced4dd832025e8018b8160")
         candidates = [int.from_bytes(stream[at:at + 2], "little") & 0xfff for at in range(0, len(stream), 2)]
         verdicts = bytes(candidate < 3329 for candidate in candidates)
         numbers = b"".join(candidate.to_bytes(2, "little") for candidate in candidates if candidate < 3329)
