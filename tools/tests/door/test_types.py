@@ -15,7 +15,8 @@ MYPY = shutil.which("mypy")
 # whose functions have no types yet; those of compiled modules stand beside them (.pxd)
 WITHOUT = {f"commands/{name}" for name in ("certify", "defences", "draw", "sweep", "verdict")} \
     | {f"sweep/{name}" for name in ("kept", "lists", "plan", "plots", "results", "running", "settings")} \
-    | {f"verdict/{name}" for name in ("answered", "certificate", "certificates", "certifying", "report", "simulator", "touched", "wrong_path")} \
+    | {f"verdict/{name}" for name in ("answered", "certificate", "certificates", "certifying", "drawing", "report", "simulator", "touched",
+                                      "wrong_path")} \
     | {f"view/{name}" for name in ("drawing", "page")} \
     | {f"{package}/{name}" for package, names in faster.COMPILED.items() for name in names}
 
