@@ -539,6 +539,10 @@ class Program(unittest.TestCase):
         self.assertEqual((told.returncode, told.stderr), (1, ""))
         rows = told.stdout.splitlines()[:-4]
         self.assertEqual(len(rows), 2 + 4)
+        if not support.NO_PROGRAM:
+            shown = "".join(rows[4:]).count("**branch**")
+            self.assertEqual("".join(rows).count(", on the path |"), shown)
+        rows = [row.replace(", on the path |", " |") for row in rows]
         page = material.read("docs", "secrets.md").splitlines()
         self.assertEqual([row for row in rows if row not in page], [])
 
