@@ -20,7 +20,9 @@ fn first_difference(alloc: Global, found: &str, wanted: &str) -> Result<String, 
 // Whether all lines of a text stand in another, in their order.
 fn has_lines(found: &str, wanted: &str) -> bool {
     let mut lines = found.lines();
-    wanted.lines().all(|wanted| lines.any(|line| line == wanted))
+    wanted
+        .lines()
+        .all(|wanted| lines.any(|line| line == wanted))
 }
 
 // The text without the number of cycles at its end.

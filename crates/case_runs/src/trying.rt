@@ -35,7 +35,13 @@ fn text_by(alloc: Global, of: &Run, said: &str) -> Result<Left, NoMemory> {
         note: 0,
         noted: 0,
     };
-    run(alloc, Program::Simulator, words.as_slice(), of.files.as_slice(), failures)
+    run(
+        alloc,
+        Program::Simulator,
+        words.as_slice(),
+        of.files.as_slice(),
+        failures,
+    )
 }
 
 // How what a run wrote differs from one text that is wanted.
@@ -94,7 +100,10 @@ fn try_with(
     tried.runs = tried.runs.saturating_add(1);
     tried.differs = differs(alloc, of, &left, wanted)?;
     if of.silent && tried.differs.is_none() {
-        let unsaid = Failures { note: 1, ..failures };
+        let unsaid = Failures {
+            note: 1,
+            ..failures
+        };
         let left = run(alloc, of.program, words.as_slice(), files, unsaid)?;
         tried.runs = tried.runs.saturating_add(1);
         tried.differs = differs(alloc, of, &left, Wanted { note: "", ..wanted })?;
@@ -148,10 +157,7 @@ fn try_puts(
         before = before.saturating_add(line.len()).saturating_add(1);
         put = put.saturating_add(1);
     }
-    let failures = Failures {
-        put,
-        ..of.failures
-    };
+    let failures = Failures { put, ..of.failures };
     try_with(alloc, of, failures, wanted, tried)
 }
 
