@@ -13,7 +13,7 @@ sys.path[:0] = [os.path.join(ROOT, "examples", "crypto", "tests")]
 import test_crypto  # finds the modules of the tools, too
 from test_crypto import PROGRAM, Secret, simulator
 
-import built_programs
+from wadrelwy import built_programs
 
 SECRETS = built_programs.secrets()
 GCC = "riscv64-unknown-elf-gcc"
