@@ -1,4 +1,6 @@
 //! What is wrong with a file of cases.
+ghost use Rattle.std.specs.Prelude.{IsErr};
+
 use std::alloc::{AllocError, AllocFailed};
 use thiserror::Error;
 
@@ -29,6 +31,8 @@ impl<T: Drop> From<AllocFailed<T>> for Fault {
 }
 
 /// The fault of a line.
-pub fn at_line<T>(line: usize, what: &'static str) -> Result<T, Fault> {
+pub fn at_line<T>(line: usize, what: &'static str) -> Result<T, Fault>
+    ensures { IsErr result }
+{
     Err(Fault::AtLine { line, what })
 }
