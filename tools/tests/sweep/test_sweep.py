@@ -128,10 +128,18 @@ class Files(Folder):
         with open(path, "wb") as file:
             file.write(b"# " + b"." * 65533 + b"\n")
         self.assertEqual(len(kept.text(path)), 65536)
-        for read in (lambda: kept.content(path, 65535), lambda: kept.text("/dev/full"), lambda: kept.content("/dev/full", kept.IMAGE_MAX)):
+        for read in (lambda: kept.content(path, 65535), lambda: kept.text(path, 65535), lambda: kept.text("/dev/full", 65536)):
             with self.assertRaises(Fault) as told:
                 read()
             self.assertIn("more than", str(told.exception))
+
+    def test_endless(self):
+        """A file without end is read no further than a description, or an image, may go."""
+        for words in ([self.out, "--programs", *self.images, "--descriptions", "/dev/full", "--program", self.program],
+                      [self.out, "--programs", "/dev/full", "--descriptions", self.description, "--program", self.program]):
+            told = self.sweep(*words)
+            self.assertEqual(told.returncode, 2)
+            self.assertIn("/dev/full: more than ", told.stderr)
 
 
 class Sweeps(Folder):

@@ -5,6 +5,7 @@ import os
 import re
 import shutil
 import subprocess
+import sys
 import tempfile
 import unittest
 from types import SimpleNamespace
@@ -145,8 +146,8 @@ class OneImage(unittest.TestCase):
     def test_numbers(self):
         """A number is read as the program reads it, with zeros before its digits."""
         self.told(HIDDEN, 0)
-        words = CORE, support.example("bounds_check.elf"), "--secret", f"0{SECRET}:01", "--secrets-program", self.program
-        self.assertEqual(command("verdict", *words).returncode, 7)
+        told = command("verdict", CORE, self.image, "--secret", f"0{SECRET}:01", "--secrets-program", self.program)
+        self.assertEqual((told.returncode, told.stderr), (0, ""))
         self.assertIn(f"--secret {WORD} ", asked_of(self.program)[-1])
 
     def test_endless(self):
@@ -160,10 +161,9 @@ class OneImage(unittest.TestCase):
         said = program(HIDDEN.replace("\n", "\\n"))
         words = CORE, support.example("bounds_check.elf"), "--secret", WORD, "--secrets-program", said
         with open("/dev/full", "w", encoding="ascii") as full:
-            told = subprocess.run([os.path.join(material.TOOLS, "verdict", "verdict"), *words], stdout=full, stderr=subprocess.PIPE, text=True,
-                                  check=False)
-        self.assertEqual(told.returncode, 2)
-        self.assertRegex(told.stderr, r"\Averdict: [^\n]*\n\Z")
+            told = subprocess.run([sys.executable, support.TOOL, "verdict", *words], stdout=full, stderr=subprocess.PIPE, text=True, check=False)
+        self.assertEqual(told.returncode, 7)
+        self.assertRegex(told.stderr, r"\A[^\n]*verdict: [^\n]*\n\Z")
 
     def test_refusals(self):
         for status, said, note in [(2, "", "status 2, secret 0 code"), (0, "equal\\n", "doesn't answer as stt_secrets does")]:

@@ -32,7 +32,7 @@ from wadrelwy.sweep import settings
 from wadrelwy.sweep.kept import text
 from wadrelwy.sweep.plan import names_of
 from wadrelwy.verdict import simulator
-from wadrelwy.view.description import HOLD, OFF
+from wadrelwy.view.description import DESCRIPTION_MAX, HOLD, OFF
 from wadrelwy.view.trace import read_end
 
 EXAMPLES = os.path.join(built_programs.ROOT, "examples")
@@ -117,7 +117,7 @@ def in_c(description, compiler, folder):
 def with_setting(description, values, folder):
     """A copy of a description with these values."""
     copy = os.path.join(folder, f"{values[settings.MODEL]}_{values[settings.DEFENCE]}_{os.path.basename(description)}")
-    made = settings.with_values(text(description), values, description)
+    made = settings.with_values(text(description, DESCRIPTION_MAX), values, description)
     with open(copy, "w", encoding="utf-8") as file:
         file.write(made)
     return copy

@@ -10,7 +10,6 @@ from typing import NamedTuple
 
 from wadrelwy import built_programs
 from wadrelwy.view import Fault
-from wadrelwy.view.description import DESCRIPTION_MAX
 
 DIGITS = 16
 # the most bytes of an image (docs/formats.md, "Words")
@@ -36,9 +35,10 @@ def content(path, most=None):
     return found
 
 
-def text(path):
+def text(path, most=None):
+    """The text of a file, of at most so many bytes."""
     try:
-        return content(path, DESCRIPTION_MAX).decode()
+        return content(path, most).decode()
     except UnicodeDecodeError:
         raise Fault(f"{path}: no text, and so no description") from None
 

@@ -9,6 +9,7 @@ import os
 from typing import NamedTuple, Optional
 
 from wadrelwy.view import Fault
+from wadrelwy.view.description import DESCRIPTION_MAX
 
 from . import settings
 from .kept import IMAGE_MAX, Source, check, changed, cited, content, copied, plain, sha256, source, text, write
@@ -91,7 +92,7 @@ def described(folder, words, sets):
     """The descriptions: each one's name, what is set, and the file made of it, with its text."""
     for base, path in zip(names_of(words.descriptions), words.descriptions):
         for values in combinations(sets, words.defences):
-            made = settings.with_values(text(path), values, path).encode()
+            made = settings.with_values(text(path, DESCRIPTION_MAX), values, path).encode()
             label = "_".join([base.replace("/", "-")] + [f"{key}={value}" for key, value in values.items()])
             yield base, values, copied(folder, "descriptions", label, ".toml", made), made
 
@@ -100,10 +101,10 @@ def make(folder, simulator, words, file=PLAN, more=lambda image: []):
     """The plan of these words, kept in this file with copies of all that it is made of. `more` has further words for an image."""
     sets, keys = sets_of(words)
     program, name = content(simulator), os.path.basename(simulator)
-    sources = [source(path) for path in [simulator, *words.programs, *words.descriptions]]
     images = [(name, path, content(path, IMAGE_MAX), more(path)) for name, path in zip(names_of(words.programs), words.programs)]
     for path in words.descriptions:
-        settings.parsed(text(path), path)
+        settings.parsed(text(path, DESCRIPTION_MAX), path)
+    sources = [source(path) for path in [simulator, *words.programs, *words.descriptions]]
     images = [(name, path, copied(folder, "images", name.replace("/", "-"), ".elf", data), sha256(data), further)
               for name, path, data, further in images]
     copy = copied(folder, "programs", name, "", program, executable=True)
