@@ -1,4 +1,4 @@
-use Rattle.std.proofs.Common.{◌∙◌, ap, codes}
+use Rattle.std.proofs.Common.{◌∙◌, ap, Some, codes}
 use Rattle.clap.specs.Words.{found_of}
 use Rattle.clap.proofs.WalkLemmas.{raw_values-rows}
 use Rattle.secret_words.specs.Words.{streams_or}
@@ -8,4 +8,4 @@ pub returns-in-Some : goal.returns-in-Some
 returns-in-Some c = c.read_streams.ensures ∙ ap streams_or (c.in-Some.ensures ∙ raw_values-rows (found_of c.args.matches.now) (codes "public-stream"))
 
 pub returns-in-None : goal.returns-in-None
-returns-in-None c = ap streams_or (c.in-None.ensures ∙ raw_values-rows (found_of c.args.matches.now) (codes "public-stream"))
+returns-in-None c = ap Some c.none_public.ensures ∙ ap streams_or (c.in-None.ensures ∙ raw_values-rows (found_of c.args.matches.now) (codes "public-stream"))
