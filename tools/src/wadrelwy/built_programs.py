@@ -35,6 +35,11 @@ def program(name: str, named: Optional[str] = None) -> Optional[str]:
     return next((path for path in places(name, named) if os.path.isfile(path) and os.access(path, os.X_OK)), None)
 
 
+def said(name: str, named: Optional[str] = None) -> Optional[str]:
+    """The program that the words or the variable name; none where neither does, and so whichever is there will do."""
+    return program(name, named) if named or os.environ.get(name.upper()) else None
+
+
 def simulator(named: Optional[str] = None) -> Optional[str]:
     """The simulator: `program` of stt_cli."""
     return program(SIMULATOR, named)

@@ -86,6 +86,8 @@ class Folder(unittest.TestCase):
         return [self.out, "--programs", *self.images, "--descriptions", self.description, "--program", self.program, *more]
 
     def sweep(self, *words, **more):
+        """The command's answer; where no program is named, it is none of the environment's."""
+        more["env"] = {name: value for name, value in more.get("env", os.environ).items() if name != "STT_CLI" or value != PROGRAM}
         return subprocess.run([sys.executable, os.path.join(TOOLS, "wadrelwy"), "sweep", *words], capture_output=True, text=True, check=False,
                               **more)
 
@@ -296,9 +298,9 @@ class Sweeps(Folder):
                 self.write(name, kept)
         other = self.write("other", self.read("stand_in") + "# another")
         os.chmod(other, 0o755)
-        told = self.sweep(self.out, "--program", other)
-        self.assertEqual(told.returncode, 2)
-        self.assertIn("isn't the program by which", told.stderr)
+        for told in (self.sweep(self.out, "--program", other), self.sweep(self.out, env=os.environ | {"STT_CLI": other})):
+            self.assertEqual(told.returncode, 2)
+            self.assertIn("isn't the program by which", told.stderr)
 
     def test_copies_that_were_changed(self):
         self.assertEqual(self.sweep(*self.words("--list")).returncode, 0)
@@ -434,7 +436,8 @@ class Plots(Folder):
 class WithProgram(Folder):
     def test_a_gadget(self):
         gadget = os.path.join(ROOT, "examples", "bounds_check.elf")
-        told = self.sweep(self.out, "--programs", gadget, "--descriptions", os.path.join(ROOT, "examples", "core_passing.toml"), "--defences")
+        told = self.sweep(self.out, "--programs", gadget, "--descriptions", os.path.join(ROOT, "examples", "core_passing.toml"), "--defences",
+                          "--program", PROGRAM)
         self.assertEqual((told.returncode, told.stderr), (0, ""))
         self.assertEqual([(row["end"], row["cycles"]) for row in self.rows()], [("exit 0", "21")] * 5)
 
@@ -455,7 +458,8 @@ class Results(Folder):
             self.skipTest("the table is of gcc 12.2")
         images = [os.path.join(self.folder, "gcc", "programs", f"{name}.elf") for name in self.NAMES]
         subprocess.run(["make", "-s", "-C", os.path.join(ROOT, "examples", "c"), f"BUILD={self.folder}", *images], check=True)
-        told = self.sweep(self.out, "--programs", *images, "--descriptions", os.path.join(ROOT, "examples", "desktop.toml"), "--defences")
+        told = self.sweep(self.out, "--programs", *images, "--descriptions", os.path.join(ROOT, "examples", "desktop.toml"), "--defences",
+                          "--program", PROGRAM)
         self.assertEqual((told.returncode, told.stderr), (0, ""))
         found = {}
         for row in self.rows():

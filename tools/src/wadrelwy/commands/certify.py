@@ -65,7 +65,7 @@ def planned(asked, program):
     if not asked.secret:
         made = certifying.read(asked.folder)
         if not asked.copies:
-            plan.check_sources(made, program)
+            plan.check_sources(made, built_programs.said(built_programs.SECRETS, asked.secrets_program))
         return made
     if asked.build:
         folder = os.path.join(asked.folder, "build")

@@ -81,7 +81,7 @@ def planned(asked):
         raise Fault(f"no simulator {asked.program}")
     made = plan.read(asked.folder)
     if not asked.copies:
-        plan.check_sources(made, program)
+        plan.check_sources(made, built_programs.said(built_programs.SIMULATOR, asked.program))
     return made
 
 
