@@ -39,6 +39,15 @@ def loading(*numbers):
     return material.image_file(f"loading_{len(numbers)}_{numbers[0]:x}.elf", numbers, BOUND_0 + b"\x11")
 
 
+def traces():
+    """A simulator that always writes one trace, in which what SHOWN tells of is on the path."""
+    lines = [f"{cycle}" for cycle in range(1, 17)]
+    lines[9], lines[14], lines[15] = "10 ren:6:00010018", "15 ld:6:0001fff0:m", "16 ret:6"
+    path = support.file_of("traces_of_6", ("#!/bin/sh\ncat << END\n" + "\n".join(lines) + "\nend exit 0 retired 7 cycles 16\nEND\n").encode())
+    os.chmod(path, 0o755)
+    return path
+
+
 def program(said, status=0, name="stand_in", head=""):
     """A program that says this, whatever it is asked; it leaves its words in a file beside it."""
     path = support.file_of(name, f"#!/bin/sh\necho \"$@\" >> $0.asked\n{head}\nprintf '{said}'\nexit {status}\n".encode())
@@ -103,7 +112,7 @@ class OneImage(unittest.TestCase):
     def told(self, said, status, *words, description=CORE):
         self.program = program(said.replace("\n", "\\n"), status)
         self.image = loading()
-        return command("verdict", description, self.image, "--secret", WORD, *words, "--secrets-program", self.program)
+        return command("verdict", description, self.image, "--secret", WORD, *words, "--secrets-program", self.program, "--program", traces())
 
     def test_certified(self):
         told = self.told(HIDDEN, 0, "--cycles", "500")
@@ -140,7 +149,7 @@ class OneImage(unittest.TestCase):
     def test_exposed(self):
         told = self.told(SHOWN, 1)
         self.assertEqual((told.returncode, told.stderr), (1, ""))
-        self.assertRegex(told.stdout, r"\nshown         00010018\b.*: its address, in cycle 15, entry 6\n")
+        self.assertRegex(told.stdout, r"\nshown         00010018\b.*: its address, in cycle 15, entry 6\n +on the path: the instruction retires\n")
         self.assertIn("\nverdict       exposed: ", told.stdout)
 
     def test_numbers(self):
@@ -308,7 +317,7 @@ class Table(unittest.TestCase):
         return path
 
     def certify(self, *words):
-        return command("certify", self.folder, *words, "--secrets-program", self.program)
+        return command("certify", self.folder, *words, "--secrets-program", self.program, "--program", traces())
 
     def words(self, *more):
         return "--programs", loading(), "--secret", WORD, "--descriptions", CORE, *more
@@ -326,7 +335,7 @@ class Table(unittest.TestCase):
         lines = told.stdout.splitlines()
         self.assertEqual(lines[:4] + lines[5:], [
             "| Program | Build | Secret | `off` | `spectre` |", "|---|---|---|---|---|",
-            f"| `{self.NAME}` | {self.BUILD} | 0001fff8, 1 byte | **address**, `00010018`, cycle 15 | certified |", "", "",
+            f"| `{self.NAME}` | {self.BUILD} | 0001fff8, 1 byte | **address**, `00010018`, cycle 15, on the path | certified |", "", "",
             "1 certified, 1 exposed"])
         self.assertRegex(lines[4], r"^By table_stand_in sha256 [0-9a-f]{64}, kit .*, commit \w+.*\.$")
         self.assertEqual(len(set(self.runs())), 1)
