@@ -11,7 +11,7 @@ pub returns-in_err-put : goal.returns-in_err-put
 returns-in_err-put g c =
     let out = g.S.Sink.told c.args.out.now in
     let out' = g.S.Sink.told c.put.new.self in
-    let line = c.as_slice.ensures.value ∙ c.published_line.ensures in
+    let line = c.as_slice.ensures ∙ c.published_line.ensures in
     writes_part (last_lines c.args.ending.now (Some c.args.bytes)) out out' c.from_residual.result c.from_residual.ensures.0
     (part_more (published_line c.args.bytes) (end_line c.args.ending.now) out out' (subst (λ text. WrotePrefix text out out') line c.in_err-put.ensures))
 
@@ -19,6 +19,6 @@ pub returns : goal.returns
 returns g c =
     let out = g.S.Sink.told c.args.out.now in
     let out' = g.S.Sink.told c.put.new.self in
-    let line = c.as_slice.ensures.value ∙ c.published_line.ensures in
+    let line = c.as_slice.ensures ∙ c.published_line.ensures in
     writes_then (published_line c.args.bytes) (end_line c.args.ending.now) out out' (g.S.Sink.told c.write_end.new.out) c.write_end.result
     (subst (λ text. Wrote text out out') line c.in_ok-put.ensures) c.write_end.ensures
