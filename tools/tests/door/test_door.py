@@ -24,7 +24,9 @@ WRONG = [[], ["nothing"], ["run"], ["run", "a"], ["run", "a", "b", "c"], ["run",
          ["verdict", *TWO_FILES, "--cycles", "x"], ["certify"], ["certify", "f", "--levels", "9"], ["draw", "/nowhere/at/all"],
          ["draw", "f", "--draws", "0"], ["defences", "one"], ["defences", "--set", "x"], ["sweep", "/nowhere/at/all"],
          ["sweep", "f", "--jobs", "0"], ["sweep", "f", "--programs", "x"], ["view"], ["view", "list"], ["view", "list", "x"],
-         ["view", "nothing"], ["path", "log"], ["path", "log", "/nowhere/at/all"], ["path", "log", support.ROOT], ["-x"]]
+         ["view", "nothing"], ["path", "log"], ["path", "log", "/nowhere/at/all"], ["path", "log", support.ROOT], ["-x"],
+         ["secrets", *TWO_FILES, "--secret", "1:1", "--public-stream", "3"], ["verdict", *TWO_FILES, "--secret", "1:1", "--public-stream", "0"],
+         ["certify", "f", "--public-stream", "2", "--public-stream", "2"], ["draw", "f", "--public-stream", "1,2"]]
 
 
 def run(*words, program=support.TOOL, **more):

@@ -60,7 +60,9 @@ class StandIn(unittest.TestCase):
                 (["run", "d", "i"], "run d i --cycles 4294967295"), (["trace", "d", "i"], "trace d i --cycles 1000000"),
                 (["isa", "i", "--desc", "d", "--steps", "7"], "isa i --steps 7 --desc d"), (["pair", "d", "i", "j"], "pair d i j --cycles 4294967295"),
                 (["bench", "d", "--seed", "1", "--blocks", "2", "--cycles", "9"], "bench d --seed 1 --blocks 2 --cycles 9"),
-                (["secrets", "d", "i", "--secret", "1:2", "--secret", "3:4"], "d i --secret 1:2 --secret 3:4 --cycles 4294967295")):
+                (["secrets", "d", "i", "--secret", "1:2", "--secret", "3:4"], "d i --secret 1:2 --secret 3:4 --cycles 4294967295"),
+                (["secrets", "d", "i", "--public-stream", "2", "--secret", "1:2", "--public-stream=+01"],
+                 "d i --secret 1:2 --public-stream 1 --public-stream 2 --cycles 4294967295")):
             self.assertEqual(self.ask(*words, "--program", program), (f"{asked}\n".encode(), "", 0))
 
     def test_a_trap(self):

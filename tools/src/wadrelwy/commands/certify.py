@@ -2,6 +2,7 @@
 under settings.
 
     wadrelwy certify FOLDER --programs IMAGE.. --secret SYMBOL.. --descriptions DESCRIPTION.. [--set KEY=VALUE,..].. [--defences]
+                     [--public-stream N]..
     wadrelwy certify FOLDER --build SOURCES [--compilers gcc clang] [--levels 1 2] [--only NAME] --secret .. --descriptions .. [..]
     wadrelwy certify FOLDER
 
@@ -10,6 +11,11 @@ stt.model=off,spectre; --defences is each model and defence: off, spectre, futur
 wadrelwy verdict; of several each image takes those whose symbols it has, and it has to have one. SOURCES is a folder whose Makefile
 builds each NAME.c of it, as that of examples/crypto does, into FOLDER/build/COMPILER-OLEVEL; a compiler that isn't there is left out, with a
 word on standard error. NAME is a part of a program's name.
+
+With --public-stream 1 or 2 (both where it stands twice) what the programs write there is public from then on (docs/secrets.md, "Make something
+public"): all cells are asked so, and one in which nothing shows says `certified for what is published`, and how many bytes these were.
+FOLDER/table.csv has the bytes, by a run of the instruction set. Which streams are public belongs to what was asked: no answer is kept or shown
+that was asked with others, and `wadrelwy certify FOLDER --public-stream N` is refused where FOLDER has others.
 
 A cell of the table says `certified` where nothing shows and the run exited with 0: proved for every value of the secret. `certified in the
 first N cycles` says that the budget ended it, `certified, to a trap in cycle N` and `certified, exit 1` how else it ended; `vacuous` that the
@@ -23,11 +29,12 @@ asked. FOLDER has copies of all that was asked of. FOLDER alone is refused where
 
 N of --cycles is 4294967295 without it, and as many --jobs as processors. P of --secrets-program is the program that is asked: without it the
 variable STT_SECRETS, else crates/stt_secrets/out/stt_secrets. The status is that of the worst cell: 0 certified, 1 something shows, 3 a
-budget ended a run or a description is refused, 12 a trap, 13 vacuous, 11 another exit value; 2 for a refusal, and 130 if interrupted."""
+budget ended a run or a description is refused, 12 a trap, 13 vacuous, 11 another exit value, 10 certified for what is published; 2 for a refusal, and 130 if interrupted."""
 import os
 import sys
 
 from wadrelwy import Fault, built_programs, statuses
+from wadrelwy.machine import words as asking
 from wadrelwy.sweep import plan, results, running
 from wadrelwy.sweep.kept import write
 from wadrelwy.verdict import certificates, certifying
@@ -42,6 +49,7 @@ def words(parser):
     parser.add_argument("--levels", nargs="+", choices="0123s", default=["1", "2"])
     parser.add_argument("--only", default="", metavar="NAME")
     parser.add_argument("--secret", nargs="+", action="extend", default=[], metavar="SYMBOL[+OFFSET][:BYTES]")
+    asking.public_streams(parser)
     parser.add_argument("--descriptions", nargs="+", default=[], metavar="DESCRIPTION")
     parser.add_argument("--set", action="append", default=[], metavar="KEY=VALUE,..")
     parser.add_argument("--defences", action="store_true")
@@ -63,7 +71,7 @@ def checked(asked):
 def planned(asked, program):
     """The plan of the words, or the one that the folder has."""
     if not asked.secret:
-        made = certifying.read(asked.folder)
+        made = certifying.read(asked.folder, asked.public_stream)
         if not asked.copies:
             plan.check_sources(made, built_programs.said(built_programs.SECRETS, asked.secrets_program))
         return made
@@ -80,8 +88,9 @@ def main(asked):
         raise Fault("no program stt_secrets: build it (docs/secrets.md, \"Before you ask\"), or name it with --secrets-program")
     made = planned(asked, program)
     try:
-        running.Runner(made, asked.jobs, certifying.ASKS).all()
-        found, _ = certificates.rows(made, certifying.ASKS)
+        asks = certifying.Asks(made)
+        running.Runner(made, asked.jobs, asks).all()
+        found, _ = certificates.rows(made, asks)
         simulator = built_programs.simulator(asked.program)
         if simulator is None and asked.program:
             raise Fault(f"no simulator {asked.program}")

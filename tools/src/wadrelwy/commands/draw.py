@@ -1,6 +1,6 @@
 """Holds each answer of a table of certificates against the machine: other values of the secret, and `pair`.
 
-    wadrelwy draw FOLDER [--draws N] [--seed S] [--only NAME] [--except NAME] [--jobs N] [--program P]
+    wadrelwy draw FOLDER [--draws N] [--seed S] [--only NAME] [--except NAME] [--public-stream N].. [--jobs N] [--program P]
 
 FOLDER is that of wadrelwy certify. Of each certified run `pair` is asked of values of the secret, of two at a time, of the first and the
 image's own to begin with, whether they have one trace: two that haven't contradict what is proved. Of each run in which something shows it
@@ -11,9 +11,14 @@ is met by few values only, and the line says by how few. A secret of which there
 the file has no bytes for (.bss) is skipped, and told. A line is written for each run; its NAME, of --only and --except, is a part of
 `chacha20 gcc-O2 spectre`, with the description behind the second word where there are several. The cycles are those that the run was looked at.
 
+Where FOLDER was asked with public streams, only values are compared with which the program publishes what it does with the image's own, in as
+many steps of the instruction set; of what shows, up to the run's end. The line says how many values were tried, and how many of them publish
+the same. Where none does, nothing is compared, and the line says so: as a rule of a long output, since hardly a second secret gives it.
+--public-stream needn't stand; where it does, it names the streams that FOLDER was asked with, or is refused.
+
 N is 20 and S is 1 without them, and as many --jobs as processors; P is the simulator: without --program the variable STT_CLI, else
-crates/stt_cli/out/stt_cli. The status is 0; 16 where traces that are proved equal aren't; 3 where a run was skipped; 2 for a refusal, and 130
-if interrupted."""
+crates/stt_cli/out/stt_cli. The status is 0; 16 where traces that are proved equal aren't; 3 where a run was skipped, or nothing of it was
+compared; 2 for a refusal, and 130 if interrupted."""
 import itertools
 import os
 import sys
@@ -21,8 +26,9 @@ import tempfile
 from concurrent.futures import ThreadPoolExecutor
 
 from wadrelwy import Fault, built_programs, statuses
+from wadrelwy.machine import words as asking
 from wadrelwy.sweep.results import Store
-from wadrelwy.verdict import certificates, certifying, drawing, ranges, report, simulator
+from wadrelwy.verdict import certificates, certifying, drawing, published, ranges, report, secrecy, simulator
 from wadrelwy.verdict.certificate import MOST_RETIRED
 from wadrelwy.verdict.loaded import load
 from wadrelwy.verdict.patched import Patches
@@ -36,6 +42,7 @@ def words(parser):
     parser.add_argument("--seed", type=int, default=1, metavar="S")
     parser.add_argument("--only", default="", metavar="NAME")
     parser.add_argument("--except", dest="left_out", metavar="NAME")
+    asking.public_streams(parser)
     parser.add_argument("--jobs", type=int, default=len(os.sched_getaffinity(0)), metavar="N")
     parser.add_argument("--program", metavar="P")
 
@@ -56,7 +63,7 @@ class Drawing:
         self.name = name_of(plan, run)
         self.description, self.program = plan.path(run.description), program
         self.patches = Patches(self.row.image)
-        self.secret = [ranges.named(certificates.image_of(self.row.image), word) for word in run.words[1::2]]
+        self.secret = [ranges.named(certificates.image_of(self.row.image), word) for word in secrecy.secrets_in(run.words)]
         shown, end = self.row.answer.shown, self.row.answer.end
         self.cycles = plan.cycles if shown or end.how != "budget" else end.cycles
 
@@ -77,39 +84,60 @@ class Drawing:
         found += drawing.drawn(own, draws, seed) + (drawing.changed(own) if shown else [])
         return drawing.others(own, found), machine.size
 
+    def alike(self, values):
+        """Those values with which the program publishes what it does with the secret's own, in as many steps; all where no stream is public."""
+        if not self.row.streams:
+            return values
+        image, end = load(self.row.image, read_description(self.description)), self.row.answer.end
+        wanted = published.output(image, self.row.streams, end.retired if end else MOST_RETIRED * self.cycles)
+        return [value for value in values if published.is_published(published.with_value(image, self.secret, value), wanted)]
+
     def told(self, draws, seed):
         """The line of this run, and its status: whether it contradicts what is proved, or can't be tried."""
+        line, status = self.tried(draws, seed)
+        return f"{self.name}: {self.row.verdict()}; {line}", status
+
+    def tried(self, draws, seed):
+        """What came of the values that are tried, and the status."""
         shown = self.row.answer.shown
         try:
             own = self.patches.value(self.secret)
         except Fault as fault:
-            return f"{self.name}: {self.row.verdict()}; skipped: {fault}", statuses.CUT
-        values, size = self.values(own, draws, seed)
+            return f"skipped: {fault}", statuses.CUT
+        drawn, size = self.values(own, draws, seed)
+        values = self.alike(drawn)
+        same = f"; of {report.plural(len(drawn), 'value')} tried {len(values)} publish the same" if self.row.streams else ""
+        if not values:
+            rest = ", and there are no others" if self.is_whole(len(drawn)) else ": --draws N looks further"
+            return f"nothing compared{same}{rest}", statuses.CUT
         pairs = [(own, value) for value in values] if shown else list(itertools.zip_longest([own, *values][::2], values[::2], fillvalue=own))
         with tempfile.TemporaryDirectory() as folder:
-            for tried, two in enumerate(pairs, 1):
+            for number, two in enumerate(pairs, 1):
                 cycle = self.unequal(two, folder)
                 if cycle is not None:
                     secrets = " and ".join(value.hex() for value in two)
-                    line = f"unequal in cycle {cycle}, with the secrets {secrets}, pair {tried} of those tried"
-                    return f"{self.name}: {self.row.verdict()}; {line}", statuses.HOLDS if shown else statuses.REFUTED
-        return f"{self.name}: {self.row.verdict()}; {self.none_of(len(values), min(draws, 256 ** len(own)), size)}", statuses.HOLDS
+                    line = f"unequal in cycle {cycle}, with the secrets {secrets}, pair {number} of those tried{same}"
+                    return line, statuses.HOLDS if shown else statuses.REFUTED
+        none = f"none of {report.plural(len(values), 'value')} unequal{same}"
+        return none + (self.none_of(len(drawn), min(draws, 256 ** len(own)), size) if shown else ""), statuses.HOLDS
+
+    def is_whole(self, count):
+        """Whether so many values besides the secret's own are all there are."""
+        return count >= 256 ** sum(each.size for each in self.secret) - 1
 
     def none_of(self, count, draws, size):
-        """What it says that no value has another trace."""
-        line = f"none of {report.plural(count, 'value')} unequal"
-        if not self.row.answer.shown:
-            return line
-        whole = 256 ** sum(each.size for each in self.secret)
-        if count >= whole - 1:
-            return f"{line}, and there are no others: what shows is conservative"
-        return f"{line}: what shows may be conservative, or is hardly ever met: of the {draws} drawn none is, so {drawing.odds(draws, size)}"
+        """What it says of what shows that none of so many values has another trace."""
+        if self.is_whole(count):
+            return f", and there are no others{' that do' if self.row.streams else ''}: what shows is conservative"
+        if self.row.streams:
+            return ": what shows may be conservative, or is hardly ever met, and --draws N looks further"
+        return f": what shows may be conservative, or is hardly ever met: of the {draws} drawn none is, so {drawing.odds(draws, size)}"
 
 
 def drawings(asked, program):
     """The runs that are over and asked for."""
-    made = certifying.read(asked.folder)
-    store = Store(made, certifying.ASKS)
+    made = certifying.read(asked.folder, asked.public_stream)
+    store = Store(made, certifying.Asks(made))
     runs = [run for run in made.runs if run.id in store.found and asked.only in name_of(made, run)]
     found = [Drawing(made, run, program, store) for run in runs if asked.left_out is None or asked.left_out not in name_of(made, run)]
     if not found:

@@ -1,18 +1,31 @@
 """What an answer about secret bytes is called, and the status that goes with it: the same for one verdict and for a cell of a table."""
 from wadrelwy import statuses
 
-CERTIFIED, VACUOUS, EXPOSED = "certified", "vacuous", "exposed"
+CERTIFIED, PUBLISHED, VACUOUS, EXPOSED = "certified", "certified for what is published", "vacuous", "exposed"
+OF_ALL = "for every value of these bytes the trace is the one of this run, and that is proved"
+OF_PUBLISHED = "every value of these bytes with which the program publishes the same gives the trace of this run, and that is proved"
 MEANING = {
-    CERTIFIED: "for every value of these bytes the trace is the one of this run, and that is proved",
-    VACUOUS: "for every value of these bytes the trace is the one of this run, and that is proved; but the path loads none of them as they "
-             "were before the run, so it says nothing of what the program computes with later",
+    CERTIFIED: "",
+    PUBLISHED: "",
+    VACUOUS: "; but the path loads none of them as they were before the run, so it says nothing of what the program computes with later",
     EXPOSED: "something shows that may depend on these bytes, so nothing is proved; `pair` tells of two values whether their traces are equal",
 }
 
 
 def kind(answer, found):
-    """`certified`, `vacuous` where the path loads none of the bytes, or `exposed`."""
-    return EXPOSED if answer.shown else CERTIFIED if found is None or found.loaded else VACUOUS
+    """`exposed`, `vacuous` where the path loads none of the bytes, `certified for what is published` where a stream is public, else
+    `certified`."""
+    if answer.shown:
+        return EXPOSED
+    if found is not None and not found.loaded:
+        return VACUOUS
+    return CERTIFIED if answer.published is None else PUBLISHED
+
+
+def meaning(answer, found):
+    """What the word says."""
+    claim = "" if answer.shown else OF_ALL if answer.published is None else OF_PUBLISHED
+    return claim + MEANING[kind(answer, found)]
 
 
 def how_far(end):
@@ -33,4 +46,5 @@ def status(answer, found):
         return statuses.SHOWS
     by_end = {"budget": statuses.CUT, "trap": statuses.TRAPPED}.get(
         answer.end.how.split()[0], statuses.HOLDS if answer.end.how == "exit 0" else statuses.EXIT_VALUE)
-    return statuses.worst([by_end, statuses.VACUOUS if kind(answer, found) == VACUOUS else statuses.HOLDS])
+    published = statuses.HOLDS if answer.published is None else statuses.PUBLISHED
+    return statuses.worst([by_end, published, statuses.VACUOUS if kind(answer, found) == VACUOUS else statuses.HOLDS])

@@ -5,7 +5,7 @@ from wadrelwy.view.description import HOLD, Description, read_description
 from wadrelwy.view.disassembly import CALLERS, Disassembler
 from wadrelwy.view.trace import Trace
 
-from . import answered, ranges, report, secrecy, touched, wrong_path
+from . import answered, published, ranges, report, secrecy, touched, wrong_path
 from .loaded import Loaded, load
 from .secrecy import Answer
 from .simulator import Written
@@ -17,7 +17,8 @@ from .wrong_path import Fate, fate_of
 MOST_RETIRED = 4
 
 class Case(NamedTuple):
-    """An image under a description, its secret bytes as ranges, what the program says of them, and what the path does with them first."""
+    """An image under a description, its secret bytes as ranges, what the program says of them, and what the path does with them first; the
+    public streams, and what was published, where the program says how much."""
     description: str
     machine: Description
     image: Loaded
@@ -26,6 +27,8 @@ class Case(NamedTuple):
     touched: Touched
     fate: Optional[Fate] = None
     all: Optional[dict] = None
+    streams: tuple = ()
+    published: Optional[bytes] = None
 
     def word(self):
         return answered.word(self.answer, self.touched)
@@ -34,17 +37,18 @@ class Case(NamedTuple):
         return answered.status(self.answer, self.touched)
 
 
-def case_of(program, description, image, words, cycles, simulator=None, goes_on=False):
-    """What the program says of an image's secrets, by these words. The simulator, if there is one, tells whether what shows is of the path; and
-    where it `goes_on`, what else may show."""
+def case_of(program, asked, simulator=None):
+    """What the program says of an image's secrets, by the words of the command. The simulator, if there is one, tells whether what shows is of
+    the path; and where all is asked for, what else may show."""
+    description, image, cycles, streams = asked.description, asked.one, asked.cycles, tuple(asked.public_stream)
     machine = read_description(description)
     loaded = load(image, machine)
-    secret = [ranges.named(loaded, word) for word in words]
-    answer = secrecy.ask(program, description, image, secret, cycles)
+    secret = [ranges.named(loaded, word) for word in asked.secret]
+    answer = secrecy.ask(program, (description, image), secret, cycles, streams)
     found = touched.look(loaded, secret, steps_of(answer))
     fate = fate_of(simulator, description, image, answer.shown, cycles) if simulator and answer.shown else None
-    return Case(description, machine, loaded, secret, answer, found, fate, all_of(simulator, description, loaded, machine, secret, cycles)
-                if goes_on else None)
+    others = all_of(simulator, description, loaded, machine, secret, cycles) if asked.all else None
+    return Case(description, machine, loaded, secret, answer, found, fate, others, streams, published.of_answer(loaded, streams, answer))
 
 
 def all_of(simulator, description, image, machine, secret, cycles):
@@ -68,15 +72,19 @@ def lines(case, notation=CALLERS):
     yield report.row("image", case.image.name)
     for number, each in enumerate(case.secret):
         yield report.row("" if number else "secret", told(case.image, each))
+    if case.streams:
+        yield report.row("public", published.told_streams(case.streams))
     yield report.row("path", touched.told(case.touched))
     yield report.row("run", end.text if end else f"looked at up to cycle {shown.cycle}, in which something shows")
+    if case.published is not None:
+        yield report.row("published", published.told(case.published))
     texts = Disassembler(case.image, notation)
     yield report.row("shown", secrecy.place(shown, texts) if shown else "nothing that may depend on these bytes")
     if case.fate is not None:
         yield report.row("", wrong_path.sentence(case.fate, texts))
     yield from listed(case, texts)
     goes_on = ", of a run that goes on" if case.answer.is_cut else ""
-    yield report.row("verdict", f"{case.word()}{goes_on}: {answered.MEANING[answered.kind(case.answer, case.touched)]}")
+    yield report.row("verdict", f"{case.word()}{goes_on}: {answered.meaning(case.answer, case.touched)}")
 
 
 def listed(case, texts):
@@ -87,7 +95,8 @@ def listed(case, texts):
                          f"{texts.place(pc)}: its {what}, {report.plural(shown.times, 'time')}, first in cycle {shown.cycle}, {where}")
     if case.all is not None:
         yield report.row("" if case.all else "list", f"{report.plural(len(case.all), 'instruction')}, by marks on whole values: a list without a "
-                                                     f"claim, of what may be no secret, and not proved to be all")
+                                                     f"claim, of what may be no secret, and not proved to be all" +
+                         ("; what is published keeps its mark here" if case.streams else ""))
 
 
 def told(image, secret):

@@ -17,20 +17,21 @@ from wadrelwy.view.description import read_description
 from wadrelwy.view.disassembly import Disassembler
 from wadrelwy.view.image import Image
 
-from . import answered, certificate, ranges, report, secrecy, wrong_path
+from . import answered, certificate, published, ranges, report, secrecy, wrong_path
 from .loaded import Loaded
 from .touched import Touched, look
 from .wrong_path import Fate, fate_of
 
 SHORT = {secrecy.ACCESS: "address", secrecy.DIVISION: "time", secrecy.BRANCH: "branch", secrecy.CALL: "call"}
 REFUSED = "refused"
-KINDS = {statuses.CUT: "certified in their first cycles alone", statuses.TRAPPED: "to a trap", statuses.VACUOUS: "vacuous",
-         statuses.EXIT_VALUE: "certified with another exit value than 0", REFUSED: "refused"}
+KINDS = {statuses.CUT: "{certified} in their first cycles alone", statuses.TRAPPED: "to a trap", statuses.VACUOUS: "vacuous",
+         statuses.EXIT_VALUE: "{certified} with another exit value than 0", REFUSED: "refused"}
 
 
 class Row(NamedTuple):
     """A run that is over: the program and its folder, which is named for what built it; its secret; the setting, which names its column: the
-    description, the defence and what else is set; all values that are set; the answer; and the image's file."""
+    description, the defence and what else is set; all values that are set; the answer; the image's file; and, where streams are public, which, and
+    what was published."""
     program: str
     build: str
     secret: str
@@ -42,9 +43,12 @@ class Row(NamedTuple):
     refused: Optional[str] = None
     fate: Optional[Fate] = None
     id: str = ""
+    streams: tuple = ()
+    published: Optional[bytes] = None
 
     def verdict(self):
-        """`certified`, `certified in the first 1000 cycles`, `certified, exit 1`, `vacuous`, `exposed`, or `refused K6`."""
+        """`certified`, `certified for what is published`, `certified in the first 1000 cycles`, `certified, exit 1`, `vacuous`, `exposed`, or
+        `refused K6`."""
         return self.refused or answered.word(self.answer, self.touched)
 
     def status(self):
@@ -103,12 +107,28 @@ def told_setting(plan, run):
 
 def row_of(plan, run, store):
     build, program = run.origin.split("/")[-2:]
-    answer = None if run.refused else secrecy.read_answer(store.found[run.id])
-    image = plan.path(run.image)
-    setting = (run.base, *told_setting(plan, run))
-    found = None if run.refused else touched_in(image, plan.path(run.description), tuple(run.words[1::2]), certificate.steps_of(answer))
-    return Row(os.path.splitext(program)[0], build, secret_of(image, run.words), setting, run.values, answer, image, found, run.refused,
-               None, run.id)
+    image, streams, setting = plan.path(run.image), secrecy.streams_in(run.words), (run.base, *told_setting(plan, run))
+    row = Row(os.path.splitext(program)[0], build, secret_of(image, run.words), setting, run.values, None, image, refused=run.refused, id=run.id,
+              streams=streams)
+    if run.refused:
+        return row
+    answer, description = secrecy.read_answer(store.found[run.id], streams), plan.path(run.description)
+    found = touched_in(image, description, tuple(secrecy.secrets_in(run.words)), certificate.steps_of(answer))
+    return row._replace(answer=answer, touched=found, published=published_in(image, description, streams, answer, f"{plan.folder}, {run.name}"))
+
+
+def published_in(path, description, streams, answer, name):
+    """The bytes that a run published, where the program says how many."""
+    if answer.published is None:
+        return None
+    machine = read_description(description)
+    return published.checked(output_of(path, machine.base, machine.size, machine.misaligned, streams, answer.end.retired), answer, name)
+
+
+@cache
+def output_of(path, base, size, misaligned, streams, steps):
+    """What so many steps publish: one walk for one memory."""
+    return published.output(Loaded(path, base, size, misaligned), streams, steps)
 
 
 @cache
@@ -127,7 +147,7 @@ def touched_of(path, base, size, misaligned, words, steps):
 def secret_of(path, words):
     """The ranges with their symbols: `key, 16 bytes`."""
     image = image_of(path)
-    found = [ranges.named(image, word) for word in words[1::2]]
+    found = [ranges.named(image, word) for word in secrecy.secrets_in(words)]
     return "; ".join(f"{image.symbol(each.address) or f'{each.address:08x}'}, {report.plural(each.size, 'byte')}" for each in found)
 
 
@@ -139,13 +159,14 @@ def where(row, pc):
 
 def record(row, keys, cited):
     """A row with a name for each value."""
-    shown, end = row.answer or (None, None)
+    shown, end, _ = row.answer or (None, None, None)
     image = image_of(row.image)
     return ({"program": row.program, "build": row.build, "secret": row.secret, "description": row.setting[0]}
             | {key: row.values[key] for key in keys}
             | {"defence": row.setting[1], "verdict": row.verdict(), "cycles": shown.cycle if shown else end.cycles if end else "",
                "end": end.how if end else row.refused or "", "loaded": row.touched.loaded if row.touched else "",
-               "overwritten": row.touched.overwritten if row.touched else "", "what": SHORT[shown.what] if shown else "",
+               "overwritten": row.touched.overwritten if row.touched else "", "public_streams": " ".join(map(str, row.streams)),
+               "published": len(row.published) if row.published is not None else "", "published_bytes": (row.published or b"").hex(), "what": SHORT[shown.what] if shown else "",
                "address": f"{shown.pc:08x}" if shown else "", "instruction": texts_of(row.image).text(shown.pc) if shown else "",
                "symbol": image.symbol(shown.pc) if shown else "", "line": image.sources.told(shown.pc) if shown else "", "path": row.fate.kind if row.fate else "",
                "behind": f"{row.fate.pc:08x}" if row.fate and row.fate.pc is not None else "", "made_by": cited})
@@ -160,13 +181,14 @@ def as_csv(found, keys, cited):
 
 
 def cell(row):
-    """The verdict, with how many of the bytes are written over before they are loaded; or what shows: ``address, `table.c:9`, cycle 106``."""
+    """The verdict, with how many of the bytes are written over before they are loaded, and how many are published; or what shows: ``address, `table.c:9`, cycle 106``."""
     shown = row.answer and row.answer.shown
     if shown:
         fate = wrong_path.short(row.fate, lambda pc: where(row, pc)) if row.fate else ""
         return f"**{SHORT[shown.what]}**, `{where(row, shown.pc)}`, cycle {shown.cycle}{fate}"
     over = row.touched and row.touched.overwritten
-    return row.verdict() + (f"; {over} of {row.touched.size} bytes written over" if over else "")
+    told = f"; {report.plural(len(row.published), 'byte')} published" if row.published is not None else ""
+    return row.verdict() + (f"; {over} of {row.touched.size} bytes written over" if over else "") + told
 
 
 def heading(setting, several):
@@ -195,8 +217,10 @@ def line(cells):
 def summary(found):
     """How many of each kind."""
     kinds = Counter(kind(row) for row in found)
-    more = [f"{kinds[name]} {text}" for name, text in KINDS.items() if kinds[name]]
-    return ", ".join([f"{kinds[statuses.HOLDS]} certified", f"{kinds[statuses.SHOWS]} exposed", *more])
+    is_public = any(row.streams for row in found)
+    certified, best = (answered.PUBLISHED, statuses.PUBLISHED) if is_public else (answered.CERTIFIED, statuses.HOLDS)
+    more = [f"{kinds[name]} {text.format(certified=certified)}" for name, text in KINDS.items() if kinds[name]]
+    return ", ".join([f"{kinds[best]} {certified}", f"{kinds[statuses.SHOWS]} exposed", *more])
 
 
 def kind(row):

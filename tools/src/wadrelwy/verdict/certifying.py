@@ -10,7 +10,7 @@ from wadrelwy.sweep import plan, running
 from wadrelwy.view import Fault
 from wadrelwy.view.image import Image
 
-from . import ranges, secrecy
+from . import published, ranges, secrecy
 
 PLAN = "certify.json"
 NEEDS = {"gcc": ("make", "riscv64-unknown-elf-gcc"), "clang": ("make", "clang", "ld.lld")}
@@ -41,11 +41,11 @@ def is_there(compiler):
 
 
 def secrets_of(image, words):
-    """The ranges of those words whose symbols an image has, at least one, as words of the program."""
+    """The ranges of those words whose symbols an image has, at least one."""
     found, last = [], None
     for word in words:
         try:
-            found += ["--secret", ranges.named(image, word).word]
+            found.append(ranges.named(image, word).word)
         except Fault as fault:
             last = fault
     if not found:
@@ -58,8 +58,9 @@ def make(folder, program, asked):
     for word in asked.secret:
         if not any(has(Image(image), word) for image in asked.programs):
             ranges.named(Image(asked.programs[0]), word)
-    made = plan.make(folder, program, asked, PLAN, lambda image: secrets_of(Image(image), asked.secret))
-    return plan.keep(running.Checked(made, asked.jobs, ASKS, steps=False).checked(), PLAN)
+    made = plan.make(folder, program, asked, PLAN,
+                     lambda image: secrecy.words_of(secrets_of(Image(image), asked.secret), asked.public_stream))
+    return plan.keep(running.Checked(made, asked.jobs, Asks(made), steps=False).checked(), PLAN)
 
 
 def has(image, word):
@@ -70,13 +71,25 @@ def has(image, word):
         return False
 
 
-def read(folder):
-    """The plan that a folder has."""
-    return plan.read(folder, PLAN)
+def read(folder, streams=()):
+    """The plan that a folder has. Where public streams are named, they are those that it was asked with."""
+    made = plan.read(folder, PLAN)
+    if streams and tuple(streams) != streams_of(made):
+        raise Fault(f"{folder} was asked with {published.told_streams(streams_of(made))} public, and not with {published.told_streams(streams)}: "
+                    "without --public-stream it is what it was asked with")
+    return made
+
+
+def streams_of(made):
+    """The streams that are public in all runs of a plan."""
+    return secrecy.streams_in(made.runs[0].words)
 
 
 class Asks:
-    """The question about secrets, and its whole answer."""
+    """The question about secrets, and its whole answer, which is of a plan's public streams."""
+
+    def __init__(self, made):
+        self.streams = streams_of(made)
 
     def words(self, made, run):
         return [made.path(run.description), made.path(run.image), *run.words]
@@ -84,10 +97,7 @@ class Asks:
     def kept(self, said):
         text = f"{said.rstrip()}\n"
         try:
-            secrecy.read_answer(text)
+            secrecy.read_answer(text, self.streams)
         except Fault:
             return None
         return text
-
-
-ASKS = Asks()

@@ -1,7 +1,7 @@
 """What the program stt_secrets says of secret bytes: that nothing of them shows in a run, so that it is the run of each value of theirs, or
 what shows first (docs/secrets.md)."""
 import re
-from typing import NamedTuple, Optional
+from typing import NamedTuple, Optional, Sequence
 
 from wadrelwy import built_programs
 from wadrelwy.view import Fault
@@ -15,7 +15,8 @@ from .premises import Premises
 ACCESS, DIVISION, BRANCH, CALL = "access", "division", "branch", "call"
 # what of an instruction shows
 WHAT = {ACCESS: "its address", DIVISION: "its time", BRANCH: "where it goes", CALL: "what it asks for"}
-HIDDEN = re.compile(r"hidden\n(end .*)\n")
+HIDDEN = re.compile(r"hidden\n(?:published (\d+)\n)?(end .*)\n")
+SECRET, PUBLIC_STREAM = "--secret", "--public-stream"
 SHOWN = re.compile(rf"shown (\d+) ({'|'.join(WHAT)}) (\d+) ([0-9a-f]{{8}})\n")
 
 
@@ -28,9 +29,10 @@ class Shown(NamedTuple):
 
 
 class Answer(NamedTuple):
-    """Either what shows, or how the run ended in which nothing did."""
+    """Either what shows, or how the run ended in which nothing did; then, where a stream is public, how many bytes it published."""
     shown: Optional[Shown]
     end: Optional[End]
+    published: Optional[int] = None
 
     @property
     def is_cut(self) -> bool:
@@ -47,23 +49,36 @@ class Asked(NamedTuple):
 NOT_ASKED = Asked(None, f"no program {built_programs.SECRETS}")
 
 
-def words_of(description: str, image: str, secret: list, cycles: int) -> list:
-    """The words that ask the program of these ranges."""
-    return [description, image, *(word for each in secret for word in ("--secret", each.word)), "--cycles", str(cycles)]
+def words_of(secret: Sequence[str], streams: Sequence[int] = ()) -> list:
+    """The words by which the program is asked of ranges, and which name the public streams."""
+    named = [(SECRET, each) for each in secret] + [(PUBLIC_STREAM, str(each)) for each in streams]
+    return [word for each in named for word in each]
 
 
-def ask(program: str, description: str, image: str, secret: list, cycles: int) -> "Answer":
-    """What the program says of these ranges."""
-    return read_answer(simulator.run(program, *words_of(description, image, secret, cycles)), program)
+def secrets_in(words: Sequence[str]) -> list:
+    """The ranges that such words ask of."""
+    return [value for name, value in zip(words[::2], words[1::2]) if name == SECRET]
 
 
-def read_answer(text: str, program: str = "the program") -> "Answer":
+def streams_in(words: Sequence[str]) -> tuple:
+    """The public streams that such words name."""
+    return tuple(int(value) for name, value in zip(words[::2], words[1::2]) if name == PUBLIC_STREAM)
+
+
+def ask(program: str, files: Sequence[str], secret: list, cycles: int, streams: Sequence[int] = ()) -> "Answer":
+    """What the program says of these ranges. The files are the description and the image."""
+    words = [*files, *words_of([each.word for each in secret], streams), "--cycles", str(cycles)]
+    return read_answer(simulator.run(program, *words), streams, program)
+
+
+def read_answer(text: str, streams: Sequence[int] = (), program: str = "the program") -> "Answer":
+    """An answer from its text: it says how many bytes are published where a stream is public, and nothing of them where none is."""
     shown, hidden = SHOWN.fullmatch(text), HIDDEN.fullmatch(text)
     if shown:
         cycle, what, serial, pc = shown.groups()
         return Answer(Shown(int(cycle), what, int(serial), int(pc, 16)), None)
-    if hidden:
-        return Answer(None, read_end(hidden[1]))
+    if hidden and (hidden[1] is not None) == bool(streams):
+        return Answer(None, read_end(hidden[2]), int(hidden[1]) if streams else None)
     raise Fault(f"{program} doesn't answer as {built_programs.SECRETS} does: is it that program?")
 
 
@@ -77,7 +92,7 @@ def asked_of_pair(program: Optional[str], description: str, one: Loaded, premise
     if not premises.memory:
         return Asked(None, "no byte differs")
     try:
-        return Asked(ask(program, description, one.name, ranges.of_addresses(premises.memory), cycles))
+        return Asked(ask(program, (description, one.name), ranges.of_addresses(premises.memory), cycles))
     except Fault as fault:
         return Asked(None, str(fault))
 
