@@ -2,12 +2,14 @@
 import csv
 import glob
 import os
+import re
+import subprocess
 import tempfile
 import unittest
 
 import material
 from material import CORE, command, support
-from test_secrets import EXITS, HIDDEN, LOADS, SHOWN, STORES, WORD, asked_of, loading, program
+from test_secrets import EXITS, HIDDEN, LOADS, PROGRAM, SHOWN, STORES, WORD, asked_of, loading, needs_secrets, program
 from wadrelwy.verdict import published
 from wadrelwy.verdict.ranges import Range
 
@@ -25,6 +27,8 @@ LOWEST_BIT = (LOADS, 0x00137313, 0x00610623, *writes(2, 12), ZERO, *EXITS)
 # the secret itself
 ITSELF = (LOADS, *writes(2, 8), ZERO, *EXITS)
 BIT, BIT_ITSELF = (f"hidden\npublished 1\nend exit 0 retired {steps} cycles 33\n" for steps in (11, 9))
+# of docs/formats.md, "The program stt_secrets": the secret goes to stream 2, is loaded anew, and something is looked up by it
+LOOKED_UP = (0x00814283, 0x00510623, 0x00200513, 0x00c10593, 0x00100613, 0x04000893, 0x00000073, 0x00c14383, 0x002383b3, 0xf003c403, ZERO, *EXITS)
 PUBLIC = "--public-stream", "2"
 CLAIM = "every value of these bytes with which the program publishes the same gives the trace of this run, and that is proved"
 
@@ -78,6 +82,13 @@ class OneImage(unittest.TestCase):
         self.assertIn("\nrun           end exit 0 retired 11 cycles 33\npublished     1 byte, 01\nshown         nothing ", told.stdout)
         self.assertTrue(told.stdout.endswith(f"\nverdict       certified for what is published: {CLAIM}\n"), told.stdout)
         self.assertEqual(asked_of(self.program), [f"{CORE} {self.image} --secret {WORD} --public-stream 2 --cycles 500"])
+
+    def test_the_page(self):
+        """The answer that docs/formats.md has is of as many bytes and steps as the instruction set takes."""
+        [said] = re.findall(r"```\n(hidden\npublished 1\n.*\n)```", material.read("docs", "formats.md"))
+        told = self.told(said, *PUBLIC, numbers=LOOKED_UP)
+        self.assertEqual((told.returncode, told.stderr), (10, ""))
+        self.assertIn("\nrun           end exit 0 retired 13 cycles 33\npublished     1 byte, 11\n", told.stdout)
 
     def test_both(self):
         told = self.told(BIT, *PUBLIC, "--public-stream", "1", "--cycles", "500")
@@ -153,6 +164,25 @@ for image in $3 $4; do
 done
 printf 'premise no\\nequal\\nretired 11 cycles 33\\n'
 """
+
+
+@needs_secrets
+class Program(unittest.TestCase):
+    """What the built program says of the small program of docs/formats.md."""
+
+    def test_looked_up(self):
+        """The look-up by the byte that was published shows nothing, and shows where its stream isn't public."""
+        image = loading(*LOOKED_UP)
+        asked = subprocess.run([PROGRAM, CORE, image, "--secret", WORD, *PUBLIC, "--cycles", "1"], capture_output=True, text=True, check=False)
+        if (asked.returncode, asked.stderr) == (2, "words\n"):
+            self.skipTest("the built program stt_secrets is an older one, without public streams")
+        told = command("verdict", CORE, image, "--secret", WORD, *PUBLIC)
+        self.assertEqual((told.returncode, told.stderr), (10, ""))
+        self.assertIn("\nrun           end exit 0 retired 13 cycles 33\npublished     1 byte, 11\n", told.stdout)
+        for words in ((), ("--public-stream", "1")):
+            told = command("verdict", CORE, image, "--secret", WORD, *words)
+            self.assertEqual((told.returncode, told.stderr), (1, ""))
+            self.assertIn(": its address, in cycle ", told.stdout)
 
 
 class Table(unittest.TestCase):
