@@ -254,7 +254,7 @@ class Table(unittest.TestCase):
                                              "same\n"), told.stdout)
         told = self.draw(UNEQUAL, "--draws", "3", *PUBLIC)
         self.assertEqual(told.returncode, 16)
-        self.assertRegex(told.stdout, r"; unequal in cycle 16, with the secrets 11 and [0-9a-f][13579bdf], pair 1 of those tried; of [45] values tried ")
+        self.assertRegex(told.stdout, "; unequal in cycle 16, with the secrets 11 and [0-9a-f][13579bdf], pair 1 of those tried; of [45] values tried ")
         self.assertIn("traces that are proved equal aren't", told.stderr)
 
     def test_nothing_to_compare(self):

@@ -12,8 +12,8 @@ wadrelwy verdict; of several each image takes those whose symbols it has, and it
 builds each NAME.c of it, as that of examples/crypto does, into FOLDER/build/COMPILER-OLEVEL; a compiler that isn't there is left out, with a
 word on standard error. NAME is a part of a program's name.
 
-With --public-stream 1 or 2 (both where it stands twice) what the programs write there is public from then on (docs/secrets.md, "Make something
-public"): all cells are asked so, and one in which nothing shows says `certified for what is published`, and how many bytes these were.
+With --public-stream 1 or 2 (both where it stands twice) what the programs write there is public from then on (docs/secrets.md, "Make
+something public"): all cells are asked so, and one in which nothing shows says `certified for what is published`, and how many bytes these were.
 FOLDER/table.csv has the bytes, by a run of the instruction set. Which streams are public belongs to what was asked: no answer is kept or shown
 that was asked with others, and `wadrelwy certify FOLDER --public-stream N` is refused where FOLDER has others.
 

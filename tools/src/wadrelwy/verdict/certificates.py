@@ -166,7 +166,8 @@ def record(row, keys, cited):
             | {"defence": row.setting[1], "verdict": row.verdict(), "cycles": shown.cycle if shown else end.cycles if end else "",
                "end": end.how if end else row.refused or "", "loaded": row.touched.loaded if row.touched else "",
                "overwritten": row.touched.overwritten if row.touched else "", "public_streams": " ".join(map(str, row.streams)),
-               "published": len(row.published) if row.published is not None else "", "published_bytes": (row.published or b"").hex(), "what": SHORT[shown.what] if shown else "",
+               "published": len(row.published) if row.published is not None else "", "published_bytes": (row.published or b"").hex(),
+               "what": SHORT[shown.what] if shown else "",
                "address": f"{shown.pc:08x}" if shown else "", "instruction": texts_of(row.image).text(shown.pc) if shown else "",
                "symbol": image.symbol(shown.pc) if shown else "", "line": image.sources.told(shown.pc) if shown else "", "path": row.fate.kind if row.fate else "",
                "behind": f"{row.fate.pc:08x}" if row.fate and row.fate.pc is not None else "", "made_by": cited})
@@ -181,7 +182,8 @@ def as_csv(found, keys, cited):
 
 
 def cell(row):
-    """The verdict, with how many of the bytes are written over before they are loaded, and how many are published; or what shows: ``address, `table.c:9`, cycle 106``."""
+    """The verdict, with how many of the bytes are written over before they are loaded, and how many are published; or what shows:
+    ``address, `table.c:9`, cycle 106``."""
     shown = row.answer and row.answer.shown
     if shown:
         fate = wrong_path.short(row.fate, lambda pc: where(row, pc)) if row.fate else ""
