@@ -43,7 +43,7 @@ def named(image: "Image", word: str) -> "Range":
     return part(word, address, whole, number(word, found["offset"] or "0"), size)
 
 
-def number(word, text):
+def number(word: str, text: str) -> int:
     """A number of a word: hexadecimal behind `0x`, else decimal."""
     base, digits = (16, text[2:]) if text.startswith("0x") else (10, text)
     digits = digits.lstrip("+").lstrip("0") or "0"
