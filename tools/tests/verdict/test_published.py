@@ -9,7 +9,7 @@ import unittest
 
 import material
 from material import CORE, command, support
-from test_secrets import EXITS, HIDDEN, LOADS, PROGRAM, SHOWN, STORES, WORD, asked_of, loading, needs_secrets, program
+from test_secrets import EXITS, HIDDEN, LOADS, PROGRAM, SHOWN, STORES, WORD, asked_of, loading, needs_secrets, program, traces
 from wadrelwy.verdict import published
 from wadrelwy.verdict.ranges import Range
 
@@ -73,7 +73,7 @@ class OneImage(unittest.TestCase):
 
     def told(self, said, *words, numbers=LOWEST_BIT, status=0):
         self.program, self.image = says(said, status), loading(*numbers)
-        return command("verdict", CORE, self.image, "--secret", WORD, *words, "--secrets-program", self.program)
+        return command("verdict", CORE, self.image, "--secret", WORD, *words, "--secrets-program", self.program, "--program", traces())
 
     def test_certified(self):
         told = self.told(BIT, *PUBLIC, "--cycles", "500")
@@ -200,7 +200,7 @@ class Table(unittest.TestCase):
         """The whole command where there are words, else the folder alone."""
         said = self.stand_in("answers", ANSWERS.replace("RAN", self.ran).replace("STEPS", str(len(numbers))))
         whole = ("--programs", loading(*numbers), "--secret", WORD, "--descriptions", CORE) if words else ()
-        return command("certify", self.folder, *whole, *words[1:], "--secrets-program", said)
+        return command("certify", self.folder, *whole, *words[1:], "--secrets-program", said, "--program", traces())
 
     def draw(self, text, *words):
         return command("draw", self.folder, *words, "--program", self.stand_in("pairs", text))
@@ -232,7 +232,7 @@ class Table(unittest.TestCase):
         """A folder that is asked for other streams than its own is refused, and so is one of other bytes than are published."""
         self.certify("all", *PUBLIC)
         said = self.stand_in("answers", ANSWERS.replace("RAN", self.ran).replace("STEPS", "11"))
-        for name, words in [("certify", ("--secrets-program", said)), ("draw", ("--program", self.stand_in("pairs", EQUAL)))]:
+        for name, words in [("certify", ("--secrets-program", said, "--program", traces())), ("draw", ("--program", self.stand_in("pairs", EQUAL)))]:
             told = command(name, self.folder, "--public-stream", "1", *words)
             self.assertEqual((told.returncode, told.stdout), (2, ""))
             self.assertIn("was asked with stream 2 public, and not with stream 1", told.stderr)
