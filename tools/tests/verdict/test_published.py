@@ -59,6 +59,8 @@ class Outputs(unittest.TestCase):
         for value, same in [(0x11, True), (0x13, True), (0x10, False), (0, False)]:
             self.assertEqual(published.is_published(published.with_value(image, secret, bytes([value])), wanted), same, value)
         self.assertEqual(image.memory[material.SECRET - image.base], 0x11)
+        for data in (b"\1\1", b""):
+            self.assertFalse(published.is_published(image, wanted._replace(data=data)), "a part of what is published isn't the same")
         earlier = published.output(image, (2,), 7)
         self.assertTrue(published.is_published(published.with_value(image, secret, b"\0"), earlier))
 
