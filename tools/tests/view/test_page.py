@@ -11,9 +11,12 @@ import unittest
 import zlib
 
 import support
+from programs import EXIT
 from test_pictures import panels
-from wadrelwy.view import page
+from wadrelwy.riscv.encoding import addi, lw
+from wadrelwy.view import difference, drawing, page
 from wadrelwy.view.drawing import STATES
+from wadrelwy.view.trace import Trace
 
 CHROMIUM = shutil.which("chromium") or shutil.which("chromium-browser")
 NO_CHROMIUM = None if CHROMIUM else "no chromium"
@@ -26,7 +29,7 @@ found.wide=document.documentElement.scrollWidth;found.inner=innerWidth;
 found.panels=[...document.querySelectorAll('.panel')].map(box);
 found.cycles=charts.map(chart=>chart.clientWidth-chart.querySelector('.labels').getBoundingClientRect().width);
 found.cut=[...document.querySelectorAll('.legend li,h2,.panel p,form')].filter(one=>one.scrollWidth>one.clientWidth+1).length;
-charts[0].scrollLeft=30;charts[0].dispatchEvent(new Event('scroll'));setTimeout(()=>{found.moved=charts.map(chart=>chart.scrollLeft);
+clear();setTimeout(()=>{charts[0].scrollLeft=0;charts[0].dispatchEvent(new Event('scroll'));charts[0].scrollLeft=30;charts[0].dispatchEvent(new Event('scroll'));setTimeout(()=>{found.moved=charts.map(chart=>chart.scrollLeft);
 setTimeout(()=>{go('16');found.column=charts.map(chart=>chart.querySelector('.column').getAttribute('visibility'));
 found.seen=charts.map(chart=>{const one=box(chart.querySelector('.column')),all=box(chart);return one[0]>=all[0]&&one[2]<=all[2]+1});
 go('#5');found.serial=[...document.querySelectorAll('.found')].map(row=>row.dataset.a);
@@ -34,10 +37,31 @@ go('_start');found.name=[...document.querySelectorAll('.found')].map(row=>row.da
 go('nowhere');found.told=document.getElementById('told').textContent;
 document.querySelectorAll('.label')[5].dispatchEvent(new MouseEvent('click',{bubbles:true}));found.pinned=document.getElementById('pins').textContent;
 document.querySelector('#pins pre').click();found.unpinned=document.getElementById('pins').textContent;
-parent.postMessage(JSON.stringify(found),'*')},200)},200)})</script>"""
+parent.postMessage(JSON.stringify(found),'*')},200)},200)},200)})</script>"""
+# where a page of two unequal traces opens, and what its link does once it was moved away
+OPENED = """<script>addEventListener('load',()=>{const found={},charts=[...document.querySelectorAll('.chart')];
+const box=element=>{const one=element.getBoundingClientRect();return [one.left,one.top,one.right,one.bottom]};
+const within=(one,all)=>one[1]>=all[1]&&one[3]<=all[3];
+const look=()=>({serials:[...document.querySelectorAll('.found')].map(row=>row.dataset.s),
+rows:charts.map(chart=>{const row=chart.querySelector('.found');return !!row&&within(box(row.querySelector('.row')),box(chart))}),
+columns:charts.map(chart=>{const one=box(chart.querySelector('.column')),all=box(chart);return one[0]>=all[0]&&one[2]<=all[2]+1}),
+top:charts[0].scrollTop});
+setTimeout(()=>{found.opened=look();clear();for(const chart of charts)chart.scrollTop=chart.scrollLeft=0;found.away=look();
+document.querySelector('a.go').click();setTimeout(()=>{found.linked=look();
+parent.postMessage(JSON.stringify(found),'*')},200)},300)})</script>"""
 # a window of Chromium has at least 500 pixels, a frame may have fewer
 FRAME = """<body style="margin:0"><script>addEventListener('message',event=>{document.body.dataset.found=event.data})</script>
 <iframe src="measured.html" width="%d" height="800" style="border:0"></iframe></body>"""
+
+
+def far_panels():
+    """Two runs that are equal up to a load of entry 90, which finds another line."""
+    words = [[*[addi(5, 0, 1)] * 90, lw(6, offset, 2), *EXIT] for offset in (0, -64)]
+    images = [support.image_of_words(f"far_{side}", each) for side, each in enumerate(words)]
+    described = support.example("core.toml")
+    runs = [support.fresh(support.modelled(described, image, 100), image, described) for image in images]
+    marks = difference.first_unequal([Trace(iter(support.modelled(described, image, 100))) for image in images])
+    return [drawing.Panel(title, run, disassembler, (1, 60), mark) for title, (run, disassembler), mark in zip("AB", runs, marks)]
 
 
 def browse(folder, path, width, option):
@@ -75,20 +99,19 @@ def unfiltered(kind, line, above, depth):
 
 @unittest.skipIf(NO_CHROMIUM, NO_CHROMIUM)
 class Browser(unittest.TestCase):
-    @classmethod
-    def setUpClass(cls):
-        cls.folder = tempfile.TemporaryDirectory()
-        text = page.page(panels())
-        for name, more in (("plain", ""), ("measured", MEASURE)):
-            with open(os.path.join(cls.folder.name, name + ".html"), "w", encoding="utf-8") as file:
-                file.write(text.replace("</body>", more + "</body>"))
-
-    @classmethod
-    def tearDownClass(cls):
-        cls.folder.cleanup()
+    def setUp(self):
+        self.folder = tempfile.TemporaryDirectory()
+        self.addCleanup(self.folder.cleanup)
+        self.write(page.page(panels()), MEASURE)
 
     def path(self, name):
         return os.path.join(self.folder.name, name)
+
+    def write(self, text, script):
+        """The page as it is, and with a script that measures it."""
+        for name, more in (("plain", ""), ("measured", script)):
+            with open(self.path(name + ".html"), "w", encoding="utf-8") as file:
+                file.write(text.replace("</body>", more + "</body>"))
 
     def measured(self, width):
         with open(self.path("frame.html"), "w", encoding="utf-8") as file:
@@ -110,6 +133,19 @@ class Browser(unittest.TestCase):
                 self.assertIn("nowhere isn’t on this page (cycles 1 to 23)", found["told"])
                 self.assertTrue(found["pinned"].startswith("5 00010014 load x7, x6 <_start+0x14>"), found["pinned"])
                 self.assertEqual(found["unpinned"], "")
+
+    def test_it_opens_at_the_first_unequal_cycle(self):
+        """The load that differs is 90 instructions behind the first row, and seen all the same; the link comes back to it."""
+        self.write(page.page(far_panels()), OPENED)
+        for width in (900, 1600):
+            with self.subTest(width=width):
+                found = self.measured(width)
+                seen = {"serials": ["90"] * 2, "rows": [True] * 2, "columns": [True] * 2}
+                self.assertGreater(found["opened"].pop("top"), 800)
+                self.assertEqual(found["opened"], seen)
+                self.assertEqual((found["away"]["rows"], found["away"]["top"]), ([False] * 2, 0))
+                self.assertGreater(found["linked"].pop("top"), 800)
+                self.assertEqual(found["linked"], seen)
 
     def test_what_is_seen(self):
         """Of each width the colours of what the first rows do."""

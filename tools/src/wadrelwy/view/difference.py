@@ -38,10 +38,12 @@ def texts(traces: list) -> list:
 
 
 class Mark(NamedTuple):
-    """The first unequal cycle, and the events that one of the two traces alone has there."""
+    """The first unequal cycle, the events that one of the two traces alone has there, and the entry that the first of them is about, of
+    whichever trace, where there is one. Up to this cycle an entry's serial names one instruction in both."""
 
     cycle: int
     only: list
+    serial: Optional[int] = None
 
 
 def first_unequal(traces: list) -> Optional[list]:
@@ -50,9 +52,16 @@ def first_unequal(traces: list) -> Optional[list]:
     for rows in zip_longest(*traces):
         if None in rows or rows[0].events != rows[1].events:
             cycle = next(row.cycle for row in rows if row)
-            return [Mark(cycle, only(rows, side)) for side in (0, 1)]
+            alone = [only(rows, side) for side in (0, 1)]
+            return [Mark(cycle, events, entry_of(alone[0] + alone[1])) for events in alone]
         cycle = rows[0].cycle
     return [Mark(cycle, [])] * 2 if texts(traces)[0] != texts(traces)[1] else None
+
+
+def entry_of(events: list) -> Optional[int]:
+    """The serial of the first event that is about an entry."""
+    words = (event.split(":") for event in events)
+    return next((int(each[1]) for each in words if each[0] in OF_AN_ENTRY), None)
 
 
 def only(rows: Sequence, side: int) -> list:

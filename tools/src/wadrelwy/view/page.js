@@ -53,10 +53,17 @@ function clear() {
   for (const column of document.querySelectorAll('.column')) column.setAttribute('visibility', 'hidden');
   told.textContent = '';
 }
+// of the first unequal cycle the row that is unequal, else the oldest that is there
+function rowAt(chart, cycle) {
+  const there = rows(chart).filter(one => +one.dataset.from <= cycle && cycle <= +one.dataset.to);
+  const unequal = cycle === +chart.dataset.mark && there.find(one => one.dataset.s === chart.dataset.serial);
+  return unequal || there[0];
+}
 function goToCycle(chart, cycle) {
   const first = +chart.dataset.first;
   if (cycle < first || cycle > +chart.dataset.last) return false;
-  const row = rows(chart).find(one => +one.dataset.from <= cycle && cycle <= +one.dataset.to);
+  const row = rowAt(chart, cycle);
+  if (row && row.dataset.s === chart.dataset.serial && cycle === +chart.dataset.mark) row.classList.add('found');
   const column = chart.querySelector('.column');
   column.setAttribute('x', (cycle - first) * CELL);
   column.setAttribute('visibility', 'visible');
@@ -86,4 +93,10 @@ document.querySelector('form').addEventListener('submit', event => {
   event.preventDefault();
   go(document.getElementById('where').value);
 });
-if (location.hash) go(decodeURIComponent(location.hash.slice(1)));
+for (const link of document.querySelectorAll('a.go')) link.addEventListener('click', () => go(asked(link.hash)));
+addEventListener('hashchange', () => go(asked(location.hash)));
+function asked(hash) { return decodeURIComponent(hash.slice(1)); }
+// opens at what the address names, else at the first unequal cycle, if that is on the page
+const mark = charts[0].dataset.mark;
+if (location.hash) go(asked(location.hash));
+else if (mark && charts.some(chart => +chart.dataset.first <= mark && mark <= +chart.dataset.last)) go(mark);

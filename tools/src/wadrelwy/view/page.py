@@ -1,6 +1,6 @@
 """`html`: the picture as a page that stands alone. Instructions and cycles stay in sight where it is moved, two panels move together and
-stand one below the other where it is narrow; one goes to a cycle, an instruction or a function; a touch of a row pins its times. How it
-looks stands in `page.css`, what it does in `page.js`."""
+stand one below the other where it is narrow; one goes to a cycle, an instruction or a function; a touch of a row pins its times. Of two
+unequal traces it opens at the first unequal cycle. How it looks stands in `page.css`, what it does in `page.js`."""
 import os
 from html import escape
 
@@ -42,9 +42,27 @@ def panel_drawn(panel):
     head, rest, labels, chart = TOP - 6, panel.height, panel.label_width, panel.chart_width
     parts = [svg("", labels, head, ABOVE, "corner"), svg(panel.numbers_drawn(TOP - 12), chart, head, ABOVE, "numbers"),
              svg(panel.labels_drawn(), labels, rest, head, "labels"), svg(column(panel) + panel.chart_drawn(framed=False), chart, rest, head)]
-    mark = f'<p class="mark">{escape(panel.mark_told())}</p>' if panel.mark else ""
-    return (f'<div class="panel"><h2>{escape(panel.title)}</h2><p>{escape(panel.subtitle)}</p>{mark}\n'
-            f'<div class="chart" data-first="{panel.first}" data-last="{panel.last}">{"".join(parts)}</div></div>')
+    return (f'<div class="panel"><h2>{escape(panel.title)}</h2><p>{escape(panel.subtitle)}</p>{mark_linked(panel)}\n'
+            f'<div class="chart" data-first="{panel.first}" data-last="{panel.last}"{mark_named(panel)}>{"".join(parts)}</div></div>')
+
+
+def mark_linked(panel):
+    """What is told of the first unequal cycle, as a link to it where the page has it."""
+    if not panel.mark:
+        return ""
+    told, there = escape(panel.mark_told()), panel.first <= panel.mark.cycle <= panel.last
+    return f'<p class="mark">{told_as_link(told, panel.mark.cycle) if there else told}</p>'
+
+
+def told_as_link(told, cycle):
+    return f'<a class="go" href="#{cycle}">{told}</a>'
+
+
+def mark_named(panel):
+    """The first unequal cycle and the entry that is unequal there, for what the page does."""
+    if not panel.mark:
+        return ""
+    return f' data-mark="{panel.mark.cycle}"' + (f' data-serial="{panel.mark.serial}"' if panel.mark.serial is not None else "")
 
 
 def column(panel):
