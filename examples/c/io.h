@@ -1,4 +1,8 @@
-/* Output, over system call 64. */
+/* Output, over system call 64. C++ includes it as C does. */
+
+#ifdef __cplusplus
+extern "C" {
+#endif
 
 /* Puts out bytes, 1024 a call at most: the answer is how many. */
 int write(int stream, const void *bytes, unsigned count);
@@ -8,3 +12,7 @@ int putchar(int byte);
 
 /* Puts a text and a newline. */
 int puts(const char *text);
+
+#ifdef __cplusplus
+}
+#endif

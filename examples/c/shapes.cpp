@@ -1,8 +1,6 @@
 // A program in C++: a template, virtual functions, an object that is constructed before main. No victim.
 // It needs no library; with one (make build/picolibc/shapes.elf) `new` is there too.
-extern "C" {
 #include "io.h"
-}
 
 struct Shape {
   virtual unsigned area() const = 0;
