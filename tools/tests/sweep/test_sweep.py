@@ -432,6 +432,22 @@ class Plots(Folder):
         self.assertGreater(heights[0][1], 100)
 
 
+    def test_long_names_are_in_the_picture(self):
+        """Turned names end below their bars: neither the left edge nor the bottom, nor the panel below, cuts them."""
+        row = results.Row("clang-O0/b64_ct_with_a_long_name_of_its_own", "d", {}, "off", "exit 0", 10, 90, 0.0)
+        rows = [each._replace(description=name, defence=defence) for each in (row, row._replace(program="p")) for name in "de"
+                for defence in ("off", "spectre")]
+        drawn = ElementTree.fromstring(plots.bars(rows))
+        height, cos, sin = float(drawn.get("height")), 0.882, 0.470
+        turned = [text for text in drawn.iter("{http://www.w3.org/2000/svg}text") if "rotate(-28" in (text.get("transform") or "")]
+        self.assertEqual(len(turned), 2 * 3)
+        tops = sorted(float(text.get("y")) for text in drawn.iter("{http://www.w3.org/2000/svg}text") if text.text.startswith("slowdown"))
+        for text in turned:
+            length, x, y = 6 * len(text.text), float(text.get("x")), float(text.get("y"))
+            self.assertGreaterEqual(x - length * cos, 0, text.text)
+            self.assertLessEqual(y + length * sin, min([top for top in tops if top > y], default=height), text.text)
+
+
 @unittest.skipUnless(PROGRAM, "the program isn't built")
 class WithProgram(Folder):
     def test_a_gadget(self):

@@ -10,6 +10,8 @@ from . import results, settings
 COLOURS = ["#555555", "#2e86c1", "#c0392b", "#7fb3d5", "#e6a49c"]
 HEIGHT, LEFT, TOP, BOTTOM, RIGHT = 190, 58, 46, 44, 16
 BAR, BETWEEN, CURVE = 9, 14, 420
+# of names below bars: how they are turned, in degrees, how far below the axis they end, and how wide a character is at most
+TURNED, BELOW, CHARACTER = 28, 14, 6.8
 
 
 class Drawing:
@@ -82,6 +84,12 @@ def legend(drawing, names, colours, x, y):
     drawing.width = max(drawing.width, x)
 
 
+def room(names):
+    """What turned names take to the left of where they end, and below the axis."""
+    longest, angle = CHARACTER * max(map(len, names), default=0), math.radians(TURNED)
+    return longest * math.cos(angle), BELOW + longest * math.sin(angle)
+
+
 def colours_of(defences):
     order = [OFF, "spectre", "futuristic", "spectre+hold", "futuristic+hold"]
     return {name: COLOURS[order.index(name)] for name in defences}
@@ -90,8 +98,10 @@ def colours_of(defences):
 def bars(found):
     """A panel for each description and what is set besides, with the defences' bars of each program and of their mean."""
     defences, drawing = results.defences_of(found), Drawing()
-    colours = colours_of(defences)
-    for title, rows in results.groups([row for row in found if row.slowdown is not None]).items():
+    colours, free = colours_of(defences), [row for row in found if row.slowdown is not None]
+    before, below = room({row.program for row in free})
+    left, bottom = max(LEFT, before - BAR * len(defences) / 2), max(BOTTOM, below + BETWEEN)
+    for title, rows in results.groups(free).items():
         top = drawing.height + TOP
         programs = list(dict.fromkeys(row.program for row in rows))
         slowdowns, tips = {(row.program, row.defence): row.slowdown for row in rows}, {}
@@ -102,13 +112,13 @@ def bars(found):
                 slowdowns["mean", defence] = spread.mean
                 tips["mean", defence] = f" ({told(spread)})"
         scale, step = Scale(slowdowns.values(), top), BAR * len(defences) + BETWEEN
-        right = LEFT + step * (len(programs) + 1)
-        drawing.width, drawing.height = max(drawing.width, right + RIGHT), top + HEIGHT + BOTTOM
-        heading(drawing, LEFT, top - 26, f"slowdown against no protection: {title}; mean of n = {len(programs)}")
-        legend(drawing, defences, colours, LEFT, top - 10)
-        axis(drawing, scale, LEFT, right, percent)
+        right = left + step * (len(programs) + 1)
+        drawing.width, drawing.height = max(drawing.width, right + RIGHT), top + HEIGHT + bottom
+        heading(drawing, left, top - 26, f"slowdown against no protection: {title}; mean of n = {len(programs)}")
+        legend(drawing, defences, colours, left, top - 10)
+        axis(drawing, scale, left, right, percent)
         for place, program in enumerate([*programs, "mean"]):
-            group(drawing, scale, LEFT + step * place + BETWEEN / 2, program,
+            group(drawing, scale, left + step * place + BETWEEN / 2, program,
                   [(it, slowdowns.get((program, it)), tips.get((program, it), "")) for it in defences], colours)
     return drawing.svg()
 
@@ -116,9 +126,8 @@ def bars(found):
 def group(drawing, scale, x, program, values, colours):
     """The bars of a program, and its name below them."""
     weight = 'font-weight="bold"' if program == "mean" else ""
-    middle = x + BAR * len(values) / 2
-    drawing.text(middle, scale.top + HEIGHT + 14, program, "end", 11,
-                 f'{weight} transform="rotate(-28 {middle:.1f} {scale.top + HEIGHT + 14:.1f})"')
+    middle, foot = x + BAR * len(values) / 2, scale.top + HEIGHT + BELOW
+    drawing.text(middle, foot, program, "end", 11, f'{weight} transform="rotate(-{TURNED} {middle:.1f} {foot:.1f})"')
     for place, (defence, value, more) in enumerate(values):
         if value is not None:
             length = max(abs(scale.y(value) - scale.y(0)), 1)
