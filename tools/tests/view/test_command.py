@@ -29,6 +29,20 @@ class Command(unittest.TestCase):
                 self.assertEqual((answer.returncode, answer.stderr), (0, ""))
                 self.assertGreater(len(answer.stdout), 400)
 
+    def test_a_page_says_what_it_is_of(self):
+        """Of each panel the image, the description and the model; where it doesn't reach to the end, how the run ended, also of a packed trace."""
+        page = view("html", self.trace, self.other, *self.files, "-D", support.example("core_hold.toml")).stdout
+        self.assertIn("<p>image bounds_check.elf, description core.toml, model spectre</p>", page)
+        self.assertIn("<p>image bounds_check.elf, description core_hold.toml, model spectre, defence hold</p>", page)
+        self.assertNotIn("the whole run", page)
+        self.assertIn('<a class="go" href="#3">first unequal cycle: 3', page)
+        packed = support.file_of("facts.gz", gzip.compress(self.text.encode()))
+        for trace in (self.trace, packed):
+            page = view("html", trace, *self.files, "--to", "8").stdout
+            self.assertIn("<p>the whole run: end exit 0 retired 5 cycles 21</p><p>shown up to cycle 8", page)
+        cut = support.file_of("facts.trace", self.text.rsplit("end ", 1)[0].encode())
+        self.assertNotIn("the whole run", view("html", cut, *self.files, "--to", "8").stdout)
+
     def test_diff_tells_by_its_status(self):
         self.assertEqual(view("diff", self.trace, self.trace, *self.files).returncode, 0)
         answer = view("diff", self.trace, self.other, *self.files)

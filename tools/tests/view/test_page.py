@@ -37,6 +37,13 @@ go('_start');found.name=[...document.querySelectorAll('.found')].map(row=>row.da
 go('nowhere');found.told=document.getElementById('told').textContent;
 document.querySelectorAll('.label')[5].dispatchEvent(new MouseEvent('click',{bubbles:true}));found.pinned=document.getElementById('pins').textContent;
 document.querySelector('#pins pre').click();found.unpinned=document.getElementById('pins').textContent;
+const key=(where,name)=>where.dispatchEvent(new KeyboardEvent('keydown',{key:name,bubbles:true,cancelable:true}));
+found.reached=charts.map(chart=>chart.querySelectorAll('.label[tabindex="0"]').length);
+const label=charts[1].querySelector('.label[tabindex="0"]');label.focus();key(label,'ArrowDown');key(document.activeElement,'ArrowDown');
+found.stepped=document.activeElement.dataset.row;key(document.activeElement,'Enter');found.keyed=document.getElementById('pins').textContent;
+found.pressed=document.activeElement.getAttribute('aria-pressed');
+key(document.activeElement,'Escape');found.escaped=document.getElementById('pins').textContent;
+found.labels=[widthOf(charts[0])];for(const name of ['wider','narrower','narrower']){document.getElementById(name).click();found.labels.push(widthOf(charts[0]))}
 parent.postMessage(JSON.stringify(found),'*')},200)},200)},200)})</script>"""
 # where a page of two unequal traces opens, and what its link does once it was moved away
 OPENED = """<script>addEventListener('load',()=>{const found={},charts=[...document.querySelectorAll('.chart')];
@@ -102,7 +109,10 @@ class Browser(unittest.TestCase):
     def setUp(self):
         self.folder = tempfile.TemporaryDirectory()
         self.addCleanup(self.folder.cleanup)
-        self.write(page.page(panels()), MEASURE)
+        both = panels()
+        for panel in both:
+            panel.whole_width += 300
+        self.write(page.page(both), MEASURE)
 
     def path(self, name):
         return os.path.join(self.folder.name, name)
@@ -131,8 +141,12 @@ class Browser(unittest.TestCase):
                 self.assertEqual((found["column"], found["seen"]), (["visible"] * 2, [True] * 2))
                 self.assertEqual((found["serial"], found["name"]), (["00010014"] * 2, ["0"] * 2))
                 self.assertIn("nowhere isn’t on this page (cycles 1 to 23)", found["told"])
-                self.assertTrue(found["pinned"].startswith("5 00010014 load x7, x6 <_start+0x14>"), found["pinned"])
+                self.assertTrue(found["pinned"].startswith("A: under <spectre> \u2014 5 00010014 load x7, x6 <_start+0x14>"), found["pinned"])
                 self.assertEqual(found["unpinned"], "")
+                self.assertEqual((found["reached"], found["stepped"], found["pressed"], found["escaped"]), ([1, 1], "2", "true", ""))
+                self.assertTrue(found["keyed"].startswith("B: under futuristic \u2014 2 00010008 "), found["keyed"])
+                first, wider, again, narrower = found["labels"]
+                self.assertTrue(first < wider and narrower < again < wider, found["labels"])
 
     def test_it_opens_at_the_first_unequal_cycle(self):
         """The load that differs is 90 instructions behind the first row, and seen all the same; the link comes back to it."""

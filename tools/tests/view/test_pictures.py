@@ -95,6 +95,26 @@ class Pictures(unittest.TestCase):
         self.assertEqual(len(struck), 7)
         self.assertIn("00010018 load x7, x6", struck)
 
+    def test_the_legend_has_a_letter_and_colour_once(self):
+        """Three ports are one letter in one colour; on the page a colour is one item."""
+        for letter in "psr":
+            self.assertEqual(len({state[1] for state in drawing.STATES.values() if state[0] == letter}), 1, letter)
+        told = drawing.entries(panels())
+        self.assertEqual(len(told), len({(letter, colour) for letter, colour, *_ in told}))
+        text = page.legend(panels())
+        self.assertEqual(text.count("<li>"), len({colour for _, colour, *_ in told}))
+
+    def test_a_page_has_labels_whole(self):
+        one, _ = panels()
+        one.whole_labels[3] = "0001000c " + "long " * 30
+        self.assertIn("long " * 30, page.page([one]))
+
+    def test_the_entry_that_is_unequal(self):
+        marks = difference.first_unequal([run.trace for run, _ in fault_shadow()])
+        self.assertEqual([(mark.cycle, mark.serial) for mark in marks], [(16, 5), (16, 5)])
+        self.assertEqual(difference.entry_of(["fill:0001f900", "fet:00010000", "res:12:T", "ld:5:0001f900:m"]), 12)
+        self.assertIsNone(difference.entry_of(["fill:0001f900"]))
+
     def test_a_page_stands_alone(self):
         text = page.page(panels())
         self.assertEqual(text.count("http"), text.count("http://www.w3.org/2000/svg"))

@@ -8,11 +8,11 @@ from typing import IO, Any, Generator, Iterator
 
 from wadrelwy import Fault, Unwritten
 from wadrelwy.view import annotate, compare, difference, drawing, index, konata, listing, numbers, o3, page, stack, stats, why
-from wadrelwy.view.description import read_description
+from wadrelwy.view.description import HOLD, OFF, read_description
 from wadrelwy.view.disassembly import CALLERS, KINDS, MANUAL, Disassembler
 from wadrelwy.view.image import Image
 from wadrelwy.view.replay import Replay
-from wadrelwy.view.trace import Progress, Trace, open_trace
+from wadrelwy.view.trace import Progress, Trace, end_of, open_trace
 
 SUBCOMMANDS = {
     "stats": "the numbers of the run: cycles, what was fetched, retired, squashed, held by taint, and where time went; of two runs, how "
@@ -191,9 +191,20 @@ def lines_of_picture(words: argparse.Namespace, inputs: Inputs) -> Iterator[str]
         mark = marks[side] if marks else None
         replay = inputs.replay(side, first)
         panels.append(drawing.Panel(inputs.title(side), replay, inputs.disassembler(side), (first, last), mark))
+        panels[-1].facts = facts_of(inputs, side, replay)
         if replay.pipeline.cycle < first:
             raise Fault(f"--from {first} is behind the last cycle of the trace, {replay.pipeline.cycle}")
     yield (page.page if words.what == "html" else drawing.picture)(panels)
+
+
+def facts_of(inputs: Inputs, side: int, replay: Replay) -> list:
+    """What a page says of where a trace is from, and how the run ended where the page doesn't reach so far."""
+    image, path = inputs.of(inputs.words.image, side), inputs.of(inputs.words.description, side)
+    description = inputs.of(inputs.descriptions, side)
+    defence = f", defence {HOLD}" if description.model != OFF and description.defence == HOLD else ""
+    found = [f"image {os.path.basename(image)}, description {os.path.basename(path)}, model {description.model}{defence}"]
+    end = None if replay.trace.end else end_of(inputs.names[side])
+    return found + ([f"the whole run: {end.text}"] if end else [])
 
 
 def main(asked: argparse.Namespace) -> int:

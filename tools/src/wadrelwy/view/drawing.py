@@ -27,15 +27,15 @@ STATES = {
     HELD_BACK: ("k", "#d7301f", "#fff", "a load's result is held back"),
     OLDER_STORE: ("s", "#d9c29b", "#432", "waits for an older store"),
     STORE_ADDRESS: ("a", "#d9c29b", "#432", "waits for an older store's address"),
-    STORE_DATA: ("s", "#e8d9bd", "#432", "waits for an older store's data"),
+    STORE_DATA: ("s", "#d9c29b", "#432", "waits for an older store's data"),
     STORE_TAINT: ("t", "#d7301f", "#fff", "held by taint of a store's address"),
     BASE: ("b", "#fdf3c4", "#765", "store: waits for its base"),
     DATA: ("w", "#fbe8a0", "#765", "store: waits for its data"),
     PORT: ("p", "#f4c7dc", "#524", "waits for a port"),
     ADDRESS_PORT: ("p", "#f4c7dc", "#524", "store: waits for the address port"),
-    DATA_PORT: ("p", "#eab0cc", "#524", "store: waits for the data port"),
+    DATA_PORT: ("p", "#f4c7dc", "#524", "store: waits for the data port"),
     MISS_REGISTER: ("r", "#e9a3c9", "#413", "waits for a miss register"),
-    TWO_REGISTERS: ("r", "#d98fb8", "#413", "waits for two miss registers"),
+    TWO_REGISTERS: ("r", "#e9a3c9", "#413", "waits for two miss registers"),
     DIVIDER: ("v", "#cab2d6", "#324", "waits for the divider"),
     "alu": ("+", "#6fa8dc", "#123", "executes: simple, jump"),
     "mul": ("*", "#4f7fc4", "#fff", "executes: multiplication"),
@@ -60,10 +60,11 @@ OUTCOMES = "T, N, J: resolved as taken, not taken, a jump; framed: mispredicted,
 class Panel:
     """One trace's part of a picture: the rows of its instructions in a span of cycles, from the first to the last.
 
-    `mark` is where it is first unequal to the other trace, if it is. With `named_rows` a page finds its rows.
+    `mark` is where it is first unequal to the other trace, if it is. With `named_rows` a page finds its rows, whose labels it has in whole;
+    `facts` are what the page says of where the trace is from, `letter` is the panel's where there are two.
     """
 
-    named_rows = False
+    named_rows, facts, letter = False, (), ""
 
     def __init__(self, title, replay, disassembler, span, mark=None):
         first, last = span
@@ -78,9 +79,9 @@ class Panel:
         self.subtitle += f", the first {MOST_ROWS} instructions; the next is fetched in cycle {more.fetched}" if more is not None else ""
         self.last = min(last, pipeline.cycle)
         self.fills = [(cycle, line) for cycle, line in pipeline.fills if first <= cycle <= self.last]
-        self.labels = [self.label(item) for item in self.items]
-        widest = max([len(label) for label in self.labels] + [len(self.title), 20])
-        self.label_width = widest * CHARACTER + SERIAL + 2 * MARGIN
+        self.whole_labels = [self.label(item) for item in self.items]
+        self.labels = [shortened(label) for label in self.whole_labels]
+        self.label_width, self.whole_width = (self.width_of(labels) for labels in (self.labels, self.whole_labels))
         self.chart_width = (self.last - first + 1) * CELL + MARGIN
         if mark is not None:
             self.chart_width = max(self.chart_width, len(self.mark_told()) * CHARACTER + MARGIN)
@@ -93,8 +94,11 @@ class Panel:
 
     def label(self, item):
         tell = self.disassembler.address_and_text if self.only else self.disassembler.place
-        text = tell(item.pc)
-        return text if len(text) <= LONGEST_LABEL else text[:LONGEST_LABEL - 2] + ".."
+        return tell(item.pc)
+
+    def width_of(self, labels):
+        """How wide the column of these labels is."""
+        return max([len(label) for label in labels] + [len(self.title), 20]) * CHARACTER + SERIAL + 2 * MARGIN
 
     def x(self, cycle):
         return (cycle - self.first) * CELL
@@ -110,9 +114,9 @@ class Panel:
     def labels_drawn(self):
         """The column of instructions, those that were squashed struck through."""
         lines = []
-        for row, (item, label) in enumerate(zip(self.items, self.labels)):
+        for row, (item, label) in enumerate(zip(self.items, self.whole_labels if self.named_rows else self.labels)):
             struck, y = ' class="struck"' if item.squashed is not None else "", self.y(row) + 11
-            lines.append(f'<g class="label" data-row="{row}">' if self.named_rows else "")
+            lines.append(f'<g class="label" data-row="{row}" role="button" tabindex="-1" aria-pressed="false">' if self.named_rows else "")
             if item.serial >= 0:
                 lines.append(f'<text class="serial" x="{MARGIN + SERIAL - 6}" y="{y}">{item.serial}</text>')
             lines.append(f'<text{struck} x="{MARGIN + SERIAL}" y="{y}">{escape(label)}</text>' + "</g>" * self.named_rows)
@@ -218,25 +222,39 @@ STYLE = """text{font:10px "DejaVu Sans Mono",Menlo,Consolas,monospace;fill:#111}
 """ + "\n".join(f'.letter[fill="{colour}"]{{fill:{colour}}}' for colour in sorted({state[2] for state in STATES.values()}))
 
 
+def shortened(label):
+    """A label as a picture has it."""
+    return label if len(label) <= LONGEST_LABEL else label[:LONGEST_LABEL - 2] + ".."
+
+
 def used(panels):
     """The names of what the pictures show, in the legend's order."""
     names = {name for panel in panels for item in panel.items for _, _, name in spans_of(item, panel.last + 1)}
     return [name for name in STATES if name in names]
 
 
+def entries(panels):
+    """What the legend says, of what is there: for each letter and colour (letter, colour, colour of the letter, texts)."""
+    found = {}
+    for name in used(panels):
+        *looks, text = STATES[name]
+        found.setdefault(tuple(looks), []).append(text)
+    return [(*looks, "; ".join(texts)) for looks, texts in found.items()]
+
+
 def legend(panels, width):
     """The legend's drawing and its height: the states that are there, and the letters of outcomes."""
-    longest = max((len(STATES[name][3]) for name in used(panels)), default=0)
+    told = entries(panels)
+    longest = max((len(text) for *_, text in told), default=0)
     column = max(LEGEND_COLUMN, round(CELL + 6 + longest * CHARACTER + 2 * MARGIN))
     columns = max(1, int(width // column))
     parts = []
-    for place, name in enumerate(used(panels)):
+    for place, (letter, colour, dark, text) in enumerate(told):
         x, y = MARGIN + place % columns * column, place // columns * LEGEND_ROW
-        letter, colour, dark, text = STATES[name]
         parts.append(f'<rect class="sample" x="{x}" y="{y}" width="{CELL}" height="{ROW - 2}" fill="{colour}"/>'
                      f'<text class="letter" fill="{dark}" x="{x + CELL / 2}" y="{y + 10}">{letter}</text>'
                      f'<text x="{x + CELL + 6}" y="{y + 10}">{text}</text>')
-    rows = -(-len(used(panels)) // columns)
+    rows = -(-len(told) // columns)
     if any(item.outcome for panel in panels for item in panel.items):
         parts.append(f'<text class="faint" x="{MARGIN}" y="{rows * LEGEND_ROW + 12}">{OUTCOMES}</text>')
         rows += 1

@@ -1,4 +1,5 @@
-// What the page of `view html` does: panels move together, one goes to a cycle, an instruction or a function, rows are pinned.
+// What the page of `view html` does: panels move together, labels are widened, one goes to a cycle, an instruction or a function, rows are
+// pinned.
 // CELL and ROW, the width of a cycle and the height of a row in pixels, stand before this.
 const charts = [...document.querySelectorAll('.chart')];
 const pins = document.getElementById('pins'), told = document.getElementById('told');
@@ -19,26 +20,72 @@ for (const chart of charts) chart.addEventListener('scroll', () => {
   }
 });
 
-// ---- pins: the times of the rows that were touched, in a box below
+// ---- pins: the times of the rows that were touched, each with its panel, in a box below
 function rows(chart) { return [...chart.querySelectorAll('g[data-n]')]; }
+function labels(chart) { return [...chart.querySelectorAll('.label')]; }
+function chartOf(one) { return one.closest('.chart'); }
+function beside(one, all) { return all(chartOf(one)).find(other => other.dataset.row === one.dataset.row); }
 function pin(row) {
-  row.classList.toggle('pinned');
+  const pinned = row.classList.toggle('pinned'), label = beside(row, labels);
+  label.setAttribute('aria-pressed', pinned);
+  label.classList.toggle('held', pinned);
   pins.replaceChildren(...[...document.querySelectorAll('.pinned')].map(one => {
-    const text = document.createElement('pre');
-    text.textContent = one.querySelector('title').textContent;
+    const text = document.createElement('pre'), panel = chartOf(one).dataset.title;
+    text.textContent = (panel && panel + ' \u2014 ') + one.querySelector('title').textContent;
     text.onclick = () => pin(one);
     return text;
   }));
   document.body.style.paddingBottom = pins.offsetHeight + 12 + 'px';
 }
+// of each panel one label is reached by Tab, from which arrows go to the others; Enter or the space bar pins
+function reach(label) {
+  for (const other of labels(chartOf(label))) other.setAttribute('tabindex', other === label ? 0 : -1);
+}
+function step(label, by) {
+  const all = labels(chartOf(label)), to = all[Math.max(0, Math.min(all.length - 1, all.indexOf(label) + by))];
+  const chart = chartOf(to), head = chart.querySelector('.numbers').getBoundingClientRect().height, top = +to.dataset.row * ROW;
+  reach(to);
+  to.focus({preventScroll: true});
+  lead(chart);
+  chart.scrollTop = Math.min(top, Math.max(chart.scrollTop, top + head + 3 * ROW - chart.clientHeight));
+}
+const STEPS = {ArrowDown: 1, ArrowUp: -1, PageDown: 20, PageUp: -20, Home: -Infinity, End: Infinity};
 for (const chart of charts) {
   for (const row of rows(chart)) row.addEventListener('click', () => pin(row));
-  for (const label of chart.querySelectorAll('.label'))
-    label.addEventListener('click', () => pin(rows(chart).find(row => row.dataset.row === label.dataset.row)));
+  for (const label of labels(chart)) {
+    label.addEventListener('click', () => pin(beside(label, rows)));
+    label.addEventListener('keydown', event => {
+      if (event.key in STEPS) step(label, STEPS[event.key]);
+      else if (event.key === 'Enter' || event.key === ' ') pin(beside(label, rows));
+      else return;
+      event.preventDefault();
+    });
+  }
+  if (labels(chart).length) reach(labels(chart)[0]);
 }
 document.addEventListener('keydown', event => {
   if (event.key === 'Escape') for (const row of document.querySelectorAll('.pinned')) pin(row);
 });
+
+// ---- labels are made wider and narrower, by the buttons or by the corner above them
+function widen(chart, width) {
+  const whole = parseFloat(chart.style.getPropertyValue('--whole'));
+  chart.classList.add('widened');
+  chart.style.setProperty('--labels', Math.round(Math.max(80, Math.min(whole, width))) + 'px');
+}
+function widthOf(chart) { return chart.querySelector('.labels').getBoundingClientRect().width; }
+function scaled(by) { for (const chart of charts) widen(chart, widthOf(chart) * by); }
+document.getElementById('wider').addEventListener('click', () => scaled(1.3));
+document.getElementById('narrower').addEventListener('click', () => scaled(1 / 1.3));
+for (const chart of charts) {
+  const corner = chart.querySelector('.corner');
+  corner.addEventListener('pointerdown', event => {
+    const from = event.clientX, width = widthOf(chart);
+    corner.setPointerCapture(event.pointerId);
+    corner.onpointermove = moved => widen(chart, width + moved.clientX - from);
+    corner.onpointerup = corner.onpointercancel = () => { corner.onpointermove = null; };
+  });
+}
 
 // ---- where one goes to
 function show(chart, cycle, row) {
@@ -50,6 +97,7 @@ function show(chart, cycle, row) {
 }
 function clear() {
   for (const row of document.querySelectorAll('.found')) row.classList.remove('found');
+  for (const label of document.querySelectorAll('.sought')) label.classList.remove('sought');
   for (const column of document.querySelectorAll('.column')) column.setAttribute('visibility', 'hidden');
   told.textContent = '';
 }
@@ -59,11 +107,17 @@ function rowAt(chart, cycle) {
   const unequal = cycle === +chart.dataset.mark && there.find(one => one.dataset.s === chart.dataset.serial);
   return unequal || there[0];
 }
+function find(row) {
+  row.classList.add('found');
+  beside(row, labels).classList.add('sought');
+  reach(beside(row, labels));
+}
 function goToCycle(chart, cycle) {
   const first = +chart.dataset.first;
   if (cycle < first || cycle > +chart.dataset.last) return false;
   const row = rowAt(chart, cycle);
-  if (row && row.dataset.s === chart.dataset.serial && cycle === +chart.dataset.mark) row.classList.add('found');
+  if (row && row.dataset.s === chart.dataset.serial && cycle === +chart.dataset.mark) find(row);
+  else if (row) reach(beside(row, labels));
   const column = chart.querySelector('.column');
   column.setAttribute('x', (cycle - first) * CELL);
   column.setAttribute('visibility', 'visible');
@@ -77,7 +131,7 @@ function named(row, text) {
 function goToRow(chart, text) {
   const row = rows(chart).find(one => named(one, text));
   if (!row) return false;
-  row.classList.add('found');
+  find(row);
   show(chart, Math.max(+chart.dataset.first, +row.dataset.from), +row.dataset.row);
   return true;
 }

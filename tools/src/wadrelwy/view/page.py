@@ -4,9 +4,10 @@ unequal traces it opens at the first unequal cycle. How it looks stands in `page
 import os
 from html import escape
 
-from .drawing import CELL, OUTCOMES, ROW, STATES, STYLE, TOP, svg, used
+from .drawing import CELL, MARGIN, OUTCOMES, ROW, STYLE, TOP, entries, svg
 
 ABOVE = TOP - 28
+CORNER = f'<title>drag to make labels wider</title><text class="faint" x="{MARGIN}" y="{TOP - 12}">&#8596; drag to widen</text>'
 
 
 def beside(name):
@@ -18,32 +19,40 @@ def beside(name):
 def page(panels):
     """The page of one or two panels."""
     title = " / ".join(panel.title for panel in panels)
+    for panel, letter in zip(panels, "AB" if len(panels) > 1 else [""]):
+        panel.named_rows, panel.letter = True, letter
     script = f"const CELL = {CELL}, ROW = {ROW};\n{beside('page.js')}"
     return "\n".join([
         '<!DOCTYPE html>', '<html lang="en"><head><meta charset="utf-8">', '<meta name="viewport" content="width=device-width, initial-scale=1">',
         f"<title>{escape(title)}</title>", f"<style>{STYLE}\n{beside('page.css')}</style></head><body>",
         '<form><input id="where" placeholder="cycle, #serial, function" aria-label="cycle, #serial, function or address">'
-        '<button>Go</button><span id="told"></span></form>',
+        '<button>Go</button><span>labels <button type="button" id="narrower" aria-label="narrower labels">&#8722;</button> '
+        '<button type="button" id="wider" aria-label="wider labels">+</button></span><span id="told"></span></form>',
         '<div class="panels">', *map(panel_drawn, panels), "</div>",
         legend(panels), '<div id="pins"></div>', f"<script>{script}</script>", "</body></html>"])
 
 
 def legend(panels):
-    """What the colours and letters say, of those that are there."""
-    items = [f'<li><span style="background:{STATES[name][1]};color:{STATES[name][2]}">{escape(STATES[name][0])}</span>{escape(STATES[name][3])}</li>'
-             for name in used(panels)]
+    """What the colours and letters say, of those that are there: an item for each colour, with its letters."""
+    colours = {}
+    for letter, colour, dark, text in entries(panels):
+        colours.setdefault(colour, []).append(f'<span style="background:{colour};color:{dark}">{escape(letter)}</span>{escape(text)}')
+    items = [f"<li>{''.join(told)}</li>" for told in colours.values()]
     outcomes = f"<p>{escape(OUTCOMES)}</p>" if any(item.outcome for panel in panels for item in panel.items) else ""
     return f'<ul class="legend">{"".join(items)}</ul>{outcomes}'
 
 
 def panel_drawn(panel):
     """A heading, and four drawings: above the instructions nothing, above the cycles their numbers."""
-    panel.named_rows = True
-    head, rest, labels, chart = TOP - 6, panel.height, panel.label_width, panel.chart_width
-    parts = [svg("", labels, head, ABOVE, "corner"), svg(panel.numbers_drawn(TOP - 12), chart, head, ABOVE, "numbers"),
+    head, rest, labels, chart = TOP - 6, panel.height, panel.whole_width, panel.chart_width
+    parts = [svg(CORNER, labels, head, ABOVE, "corner"), svg(panel.numbers_drawn(TOP - 12), chart, head, ABOVE, "numbers"),
              svg(panel.labels_drawn(), labels, rest, head, "labels"), svg(column(panel) + panel.chart_drawn(framed=False), chart, rest, head)]
-    return (f'<div class="panel"><h2>{escape(panel.title)}</h2><p>{escape(panel.subtitle)}</p>{mark_linked(panel)}\n'
-            f'<div class="chart" data-first="{panel.first}" data-last="{panel.last}"{mark_named(panel)}>{"".join(parts)}</div></div>')
+    title = f"{panel.letter}: {panel.title}" if panel.letter else panel.title
+    told = "".join(f"<p>{escape(text)}</p>" for text in (*panel.facts, panel.subtitle))
+    widths = f"--labels:{panel.label_width:.0f}px;--whole:{labels:.0f}px"
+    return (f'<div class="panel"><h2>{escape(title)}</h2>{told}{mark_linked(panel)}\n'
+            f'<div class="chart" style="{widths}" data-title="{escape(title if panel.letter else "")}" data-first="{panel.first}" '
+            f'data-last="{panel.last}"{mark_named(panel)}>{"".join(parts)}</div></div>')
 
 
 def mark_linked(panel):

@@ -9,6 +9,8 @@ from collections import namedtuple
 from . import Fault
 from .rows import read_row
 
+# bytes: more than a last line has, and what is unpacked at a time
+TAIL, PIECE = 256, 1 << 20
 END = re.compile(r"end (exit \d+|trap [0-7] [0-9a-f]{8}|budget) retired (\d+) cycles (\d+)")
 
 
@@ -55,6 +57,29 @@ def read_end(text):
     if not found:
         raise Fault(f"`{text}` is no last line of a trace")
     return End(text, found[1], int(found[2]), int(found[3]))
+
+
+def end_of(name):
+    """The last line of a trace's file, without all that stands before it; None where it has none, or can be read but once."""
+    if not os.path.isfile(name):
+        return None
+    try:
+        with gzip.open(name) if name.endswith(".gz") else open(name, "rb") as file:
+            *_, last = tail_of(file, name).decode("ascii", "replace").splitlines(keepends=True) or [""]
+    except (OSError, EOFError, zlib.error):
+        return None
+    return read_end(last.rstrip("\n")) if last.endswith("\n") and END.fullmatch(last.rstrip("\n")) else None
+
+
+def tail_of(file, name):
+    """Some last bytes of a file. One that is packed is unpacked for that."""
+    if not name.endswith(".gz"):
+        file.seek(max(0, os.path.getsize(name) - TAIL))
+        return file.read()
+    kept = b""
+    while piece := file.read(PIECE):
+        kept = (kept + piece)[-TAIL:]
+    return kept
 
 
 def open_trace(name):
