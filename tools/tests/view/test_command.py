@@ -7,6 +7,7 @@ import sys
 import unittest
 
 import support
+from wadrelwy.view import places
 
 
 
@@ -42,6 +43,21 @@ class Command(unittest.TestCase):
             self.assertIn("<p>the whole run: end exit 0 retired 5 cycles 21</p><p>shown up to cycle 8", page)
         cut = support.file_of("facts.trace", self.text.rsplit("end ", 1)[0].encode())
         self.assertNotIn("the whole run", view("html", cut, *self.files, "--to", "8").stdout)
+
+    def test_a_function_of_which_nothing_is_there(self):
+        for what in ("stats", "annotate", "list", "why"):
+            with self.subTest(what=what):
+                refused = self.refused(what, self.trace, *self.files, "--function", "verify")
+                self.assertIn("no instruction of <verify> was fetched; the image has no such symbol", refused)
+        for words in (["list"], ["list", "--to", "8"], ["why", "--summary"]):
+            answer = view(*words, self.trace, *self.files, "--function", "_start")
+            self.assertEqual((answer.returncode, answer.stderr), (0, ""), words)
+            self.assertIn("00010000 lw" if words[0] == "list" else "operand", answer.stdout)
+        self.assertIn("in these cycles", self.refused("list", self.trace, *self.files, "--function", "verify", "--from", "2"))
+        self.assertIn("behind the last cycle", self.refused("list", self.trace, *self.files, "--function", "verify", "--from", "900"))
+        named = type("Named", (), {"symbols": [(0, 4, "verify.constprop.0"), (8, 4, "main")]})
+        self.assertIn("the image has no such symbol, but verify.constprop.0", places.nothing_of(named, "verify"))
+        self.assertEqual(places.nothing_of(named, "main"), "no instruction of <main> was fetched")
 
     def test_diff_tells_by_its_status(self):
         self.assertEqual(view("diff", self.trace, self.trace, *self.files).returncode, 0)

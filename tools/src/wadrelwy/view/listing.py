@@ -1,9 +1,10 @@
 """`list`: one line an instruction with all its times."""
 from typing import Any, Iterator, Optional, TYPE_CHECKING
 
+from . import Fault
 from .items import NEVER
 from .pipeline import LOAD_UNITS
-from .places import function_of
+from .places import function_of, nothing_of
 from .reasons import HELD, HELD_BACK
 from .why import cycles, held_by
 
@@ -18,13 +19,18 @@ HEADER = f"{'serial':>8}" + "".join(f"{name:>9}" for name in TIMES) + "  instruc
 
 
 def lines_of(replay: "Replay", disassembler: "Disassembler", first: int, last: Optional[int], function: Optional[str] = None) -> Iterator[str]:
-    """A header, and each instruction that is there in the cycles from `first` to `last`, of one function where it is asked for."""
+    """A header, and each instruction that is there in the cycles from `first` to `last`, of one function where it is asked for; it is refused
+    where there is none of it."""
     yield HEADER
+    spanned, found = first > 1 or last is not None, False
     last = NEVER if last is None else last
     for item in replay.items():
         here = function is None or function_of(disassembler.image, item.pc) == function
         if here and item.fetched <= last and (item.gone is None or item.gone >= first):
+            found = True
             yield line_of(item, disassembler)
+    if function is not None and not found and replay.pipeline.cycle >= first:
+        raise Fault(nothing_of(disassembler.image, function, spanned))
 
 
 def line_of(item: "Item", disassembler: "Disassembler") -> str:

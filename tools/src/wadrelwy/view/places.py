@@ -25,6 +25,14 @@ def function_of(image: "Image", pc: Optional[int]) -> str:
     return image.symbol(pc).split("+")[0] or "(no symbol)"
 
 
+def nothing_of(image: "Image", function: str, spanned: bool = False) -> str:
+    """What is told where nothing of a function was fetched, with the names of its parts, as compilers call them, that the image has."""
+    parts = sorted({name for _, _, name in image.symbols if name.startswith(function + ".")})
+    has = "" if any(name == function for _, _, name in image.symbols) else "; the image has no such symbol" + (
+        f", but {', '.join(parts)}" if parts else "")
+    return f"no instruction of <{function}> was fetched" + (" in these cycles" if spanned else "") + has
+
+
 class Places:
     """For each address the numbers of COLUMNS: instructions that retired or were squashed, cycles waited (by operands, by older stores, by
     ports, miss registers and the divider, by the defence), loads that missed and mispredictions."""

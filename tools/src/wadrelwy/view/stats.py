@@ -7,7 +7,7 @@ from wadrelwy.riscv.kinds import BRANCH, JALR
 from . import Fault
 from .counts import RETURN, count
 from .front_end import QUEUE_EMPTY
-from .places import Places, function_of
+from .places import Places, function_of, nothing_of
 from .slots import Occupancy, Slots
 
 if TYPE_CHECKING:
@@ -42,7 +42,7 @@ class Run:
         if replay.pipeline.cycle < span[0]:
             raise Fault(f"--from {span[0]} is behind the last cycle of the trace, {replay.pipeline.cycle}")
         if function is not None and not self.counts.fetched:
-            raise Fault(f"no instruction of <{function}> was fetched" + (" in these cycles" if span != (1, None) else ""))
+            raise Fault(nothing_of(self.image, function, span != (1, None)))
         self.slots = self.slots_of_function() if function is not None else replay.slots
 
     @property

@@ -2,8 +2,9 @@
 from collections import Counter
 from typing import Any, Iterator, Optional, TYPE_CHECKING
 
+from . import Fault
 from .items import NEVER
-from .places import function_of
+from .places import function_of, nothing_of
 from .reasons import HELD, HELD_BACK, STORE_TAINT
 
 if TYPE_CHECKING:
@@ -15,19 +16,23 @@ if TYPE_CHECKING:
 def lines_of(replay: "Replay", disassembler: "Disassembler", first: int, last: Optional[int], summary: bool,
              function: Optional[str] = None) -> Iterator[str]:
     """The lines of `why`: each wait that touches the cycles from `first` to `last`, each stall of rename, and the sums; of the waits of one
-    function alone where it is asked for."""
+    function alone where it is asked for, which is refused where nothing of it was fetched in the whole run."""
     waits: Counter = Counter()
     held: Counter = Counter()
     last = NEVER if last is None else last
+    found = function is None
     for item in replay.items():
         if function is not None and function_of(disassembler.image, item.pc) != function:
             continue
+        found = True
         for wait in item.waits:
             waits[wait.reason] += wait.last - wait.first + 1
             if wait.reason in (*HELD, HELD_BACK):
                 held[item.pc, held_by(wait), wait.pc] += wait.last - wait.first + 1
             if not summary and wait.first <= last and wait.last >= first:
                 yield wait_line(item, wait, disassembler)
+    if not found and replay.pipeline.cycle >= first:
+        raise Fault(nothing_of(disassembler.image, str(function)))
     if not summary:
         for stall in replay.front.stalls:
             here = function is None or function_of(disassembler.image, stall.pc) == function
