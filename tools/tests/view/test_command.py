@@ -55,7 +55,7 @@ class Command(unittest.TestCase):
             self.assertIn("00010000 lw" if words[0] == "list" else "operand", answer.stdout)
         self.assertIn("in these cycles", self.refused("list", self.trace, *self.files, "--function", "verify", "--from", "2"))
         self.assertIn("behind the last cycle", self.refused("list", self.trace, *self.files, "--function", "verify", "--from", "900"))
-        named = type("Named", (), {"symbols": [(0, 4, "verify.constprop.0"), (8, 4, "main")]})
+        named = type("Named", (), {"symbols": [(0, 4, "verify.constprop.0"), (8, 4, "main")], "shown": {}})
         self.assertIn("the image has no such symbol, but verify.constprop.0", places.nothing_of(named, "verify"))
         self.assertEqual(places.nothing_of(named, "main"), "no instruction of <main> was fetched")
 

@@ -1,17 +1,25 @@
 """Images: code as loaded, and symbols (docs/formats.md, "Placing" and "Code"); descriptions; texts of instructions."""
+import shutil
 import unittest
 
 import support
 from wadrelwy.view import Fault
 from wadrelwy.view.description import read_description
 from wadrelwy.view.disassembly import CALLERS, KINDS, MANUAL, Disassembler
-from wadrelwy.view.image import Image
+from wadrelwy.view.image import FILTERS, Image, demangled
 
 READ, WRITE, EXECUTE = 4, 2, 1
 
 
 def words(name, segments):
     return Image(support.file_of(name, support.elf(segments))).words
+
+
+def named_among(names, function):
+    """How a function is shown of an image with these symbols."""
+    image = Image(support.example("bounds_check.elf"))
+    image.symbols, image.shown = [(0x10000 + 8 * at, 8, name) for at, name in enumerate(names)], demangled(names)
+    return image.named(function)
 
 
 class Code(unittest.TestCase):
@@ -43,6 +51,25 @@ class Code(unittest.TestCase):
         image = Image(support.example("bounds_check.elf"))
         image.symbols, image.addresses = [(0x10000, 0x18, "table"), (0x10008, 0, "label")], [0x10000, 0x10008]
         self.assertEqual([image.symbol(0x10000 + at) for at in (4, 0xC, 0x18)], ["table+0x4", "table+0xc", "label+0x10"])
+
+    @unittest.skipUnless(any(map(shutil.which, FILTERS)), "no c++filt (Debian: binutils)")
+    def test_names_of_cplusplus_are_those_of_the_sources(self):
+        """Functions are named as linkers have them, in whole, or without parameters where that is one; `+` is also an operator's."""
+        image = Image(support.example("bounds_check.elf"))
+        names = ["_ZNK5TableIhLi4EE2atEi.isra.0", "_Z3fooi", "_Z3fool", "_ZplRK1VS1_"]
+        image.symbols = [(0x10000 + 8 * at, 8, name) for at, name in enumerate(names)]
+        image.addresses, image.shown = [address for address, _, _ in image.symbols], demangled(names)
+        self.assertEqual([image.symbol(0x10004 + 8 * at) for at in range(4)], [
+            "Table<unsigned char, 4>::at(int) const [clone .isra.0]+0x4", "foo(int)+0x4", "foo(long)+0x4",
+            "operator+(V const&, V const&)+0x4"])
+        self.assertEqual(image.function(0x1001C), "operator+(V const&, V const&)")
+        self.assertEqual(image.named("operator+"), "operator+(V const&, V const&)")
+        self.assertEqual(image.named("_Z3fool"), "foo(long)")
+        self.assertEqual(image.named("Table<unsigned char, 4>::at"), image.function(0x10000))
+        self.assertEqual(image.named("main"), "main")
+        self.assertEqual(named_among(["_Z3fooi", "foo"], "foo"), "foo")
+        with self.assertRaisesRegex(Fault, r"has several of `foo`: foo\(int\); foo\(long\)"):
+            image.named("foo")
 
     def test_what_is_no_image_is_refused(self):
         for name, data in (("empty.elf", b""), ("text.elf", b"no image at all" * 10)):

@@ -89,7 +89,7 @@ class Panel:
 
     def only_symbol(self):
         """The symbol in which all instructions stand, where it is one: it needn't be told of each."""
-        symbols = {self.disassembler.image.symbol(item.pc).split("+")[0] for item in self.items} - {""}
+        symbols = {self.disassembler.image.function(item.pc) for item in self.items} - {""}
         return symbols.pop() if len(symbols) == 1 else None
 
     def label(self, item):

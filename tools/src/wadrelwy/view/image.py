@@ -1,5 +1,7 @@
 """An ELF image: its code, its symbols and the lines of its sources (docs/formats.md, "Images")."""
 import bisect
+import shutil
+import subprocess
 from functools import cached_property
 from typing import Any, TYPE_CHECKING
 
@@ -12,6 +14,10 @@ from .sources import read_sources
 if TYPE_CHECKING:
     from wadrelwy.riscv.kinds import Instruction
     from wadrelwy.view.sources import Sources
+
+
+# what tells the names of C++, of binutils for the host or for RISC-V
+FILTERS = ("c++filt", "riscv64-unknown-elf-c++filt", "riscv64-linux-gnu-c++filt")
 
 
 class Image:
@@ -32,6 +38,7 @@ class Image:
             raise Fault(f"{name}: no ELF image ({error})") from None
         self.words = words_of(self.pieces)
         self.addresses = [address for address, _, _ in self.symbols]
+        self.shown = demangled([name for _, _, name in self.symbols])
         self.known: dict = {}
 
     def instruction(self, pc: int) -> "Instruction":
@@ -39,9 +46,28 @@ class Image:
         return instruction_of(self.words.get(pc))
 
     def symbol(self, address: int) -> str:
-        """`main+0x10`, or nothing where no symbol's bytes or segment has the address."""
+        """`main+0x10`, or nothing where no symbol's bytes or segment has the address. Names of C++ are as its sources have them."""
+        name, start = self.nearest(address)
+        return self.shown.get(name, name) + (f"+0x{address - start:x}" if address != start else "")
+
+    def function(self, address: int) -> str:
+        """The same without how far behind the symbol's start it is."""
+        name, _ = self.nearest(address)
+        return self.shown.get(name, name)
+
+    def named(self, function: str) -> str:
+        """A function's name as it is shown: given so, as linkers have it, or as sources have it without its parameters where one has it."""
+        if any(name == function for _, _, name in self.symbols):
+            return self.shown.get(function, function)
+        found = {shown for shown in self.shown.values() if without_parameters(shown) == function}
+        if len(found) > 1:
+            raise Fault(f"{self.name} has several of `{function}`: {'; '.join(sorted(found))}")
+        return found.pop() if found else function
+
+    def nearest(self, address: int) -> tuple:
+        """The name and the start of the symbol that has an address; no name, and the address, where none has it."""
         if address not in self.known:
-            self.known[address] = self.find_symbol(address)
+            self.known[address] = self.find_nearest(address)
         return self.known[address]
 
     @cached_property
@@ -49,19 +75,40 @@ class Image:
         """File and line of each address; empty unless the image was built with `-g`. Read when it is first asked."""
         return read_sources(self.name)
 
-    def find_symbol(self, address: int) -> str:
+    def find_nearest(self, address: int) -> tuple:
         """The nearest symbol whose bytes have the address, else the nearest one before it that has no size, in its segment."""
-        nearest = ""
+        unsized = None
         for start, size, name in reversed(self.symbols[:bisect.bisect_right(self.addresses, address)]):
-            told = name if address == start else f"{name}+0x{address - start:x}"
             if address < start + size:
-                return told
-            if size == 0 and not nearest and self.one_segment(start, address):
-                nearest = told
-        return nearest
+                return name, start
+            if size == 0 and unsized is None and self.one_segment(start, address):
+                unsized = name, start
+        return unsized or ("", address)
 
     def one_segment(self, first: int, second: int) -> bool:
         return any(low <= first < high and low <= second < high for low, high in self.ranges)
+
+
+def demangled(names: list) -> dict:
+    """Names that a compiler of C++ made, by what they are in its sources; none where no `c++filt` is there to tell."""
+    mangled = sorted({name for name in names if name.startswith("_Z")})
+    tool = next(filter(None, map(shutil.which, FILTERS)), None)
+    if not mangled or tool is None:
+        return {}
+    answer = subprocess.run([tool], input="".join(name + "\n" for name in mangled), capture_output=True, text=True, check=False)
+    shown = answer.stdout.splitlines()
+    return dict(zip(mangled, shown)) if answer.returncode == 0 and len(shown) == len(mangled) else {}
+
+
+def without_parameters(shown: str) -> str:
+    """`Table<int>::at` of `Table<int>::at(int) const [clone .isra.0]`: what stands before the last parentheses."""
+    end = shown.rfind(")")
+    depth = 0
+    for at in range(end, -1, -1):
+        depth += (shown[at] == ")") - (shown[at] == "(")
+        if depth == 0:
+            return shown[:at] if shown[at] == "(" else shown
+    return shown
 
 
 def pieces_of_code(segments: list) -> list:

@@ -22,13 +22,14 @@ def function_of(image: "Image", pc: Optional[int]) -> str:
     """The function that an address stands in, by the image's symbols; else what its place is."""
     if pc is None:
         return NOWHERE
-    return image.symbol(pc).split("+")[0] or "(no symbol)"
+    return image.function(pc) or "(no symbol)"
 
 
 def nothing_of(image: "Image", function: str, spanned: bool = False) -> str:
     """What is told where nothing of a function was fetched, with the names of its parts, as compilers call them, that the image has."""
-    parts = sorted({name for _, _, name in image.symbols if name.startswith(function + ".")})
-    has = "" if any(name == function for _, _, name in image.symbols) else "; the image has no such symbol" + (
+    names = {image.shown.get(name, name) for _, _, name in image.symbols}
+    parts = sorted(name for name in names if name.startswith(function + "."))
+    has = "" if function in names else "; the image has no such symbol" + (
         f", but {', '.join(parts)}" if parts else "")
     return f"no instruction of <{function}> was fetched" + (" in these cycles" if spanned else "") + has
 
