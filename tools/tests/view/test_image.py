@@ -19,7 +19,7 @@ def named_among(names, function):
     """How a function is shown of an image with these symbols."""
     image = Image(support.example("bounds_check.elf"))
     image.symbols, image.shown = [(0x10000 + 8 * at, 8, name) for at, name in enumerate(names)], demangled(names)
-    return image.named(function)
+    return image.function_named(function)
 
 
 class Code(unittest.TestCase):
@@ -63,13 +63,13 @@ class Code(unittest.TestCase):
             "Table<unsigned char, 4>::at(int) const [clone .isra.0]+0x4", "foo(int)+0x4", "foo(long)+0x4",
             "operator+(V const&, V const&)+0x4"])
         self.assertEqual(image.function(0x1001C), "operator+(V const&, V const&)")
-        self.assertEqual(image.named("operator+"), "operator+(V const&, V const&)")
-        self.assertEqual(image.named("_Z3fool"), "foo(long)")
-        self.assertEqual(image.named("Table<unsigned char, 4>::at"), image.function(0x10000))
-        self.assertEqual(image.named("main"), "main")
+        self.assertEqual(image.function_named("operator+"), "operator+(V const&, V const&)")
+        self.assertEqual(image.function_named("_Z3fool"), "foo(long)")
+        self.assertEqual(image.function_named("Table<unsigned char, 4>::at"), image.function(0x10000))
+        self.assertEqual(image.function_named("main"), "main")
         self.assertEqual(named_among(["_Z3fooi", "foo"], "foo"), "foo")
         with self.assertRaisesRegex(Fault, r"has several of `foo`: foo\(int\); foo\(long\)"):
-            image.named("foo")
+            image.function_named("foo")
 
     def test_what_is_no_image_is_refused(self):
         for name, data in (("empty.elf", b""), ("text.elf", b"no image at all" * 10)):

@@ -89,7 +89,7 @@ class Inputs:
         self.images = [Image(name) for name in words.image]
         self.disassemblers = [Disassembler(image, words.notation) for image in self.images]
         if getattr(words, "function", None) is not None:
-            words.function = self.images[0].named(words.function)
+            words.function = self.images[0].function_named(words.function)
         self.descriptions = [read_description(name) for name in words.description]
 
     def of(self, values: list, side: int) -> Any:

@@ -64,11 +64,12 @@ class Panel:
     `facts` are what the page says of where the trace is from, `letter` is the panel's where there are two.
     """
 
-    named_rows, facts, letter = False, (), ""
+    named_rows, letter = False, ""
 
     def __init__(self, title, replay, disassembler, span, mark=None):
         first, last = span
         self.title, self.disassembler, self.first, self.mark = title, disassembler, first, mark
+        self.facts = []
         there = (item for item in replay.items(last) if item.gone is None or item.gone >= first)
         self.items = list(islice(there, MOST_ROWS))
         more = next(there, None)

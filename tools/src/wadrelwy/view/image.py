@@ -55,7 +55,7 @@ class Image:
         name, _ = self.nearest(address)
         return self.shown.get(name, name)
 
-    def named(self, function: str) -> str:
+    def function_named(self, function: str) -> str:
         """A function's name as it is shown: given so, as linkers have it, or as sources have it without its parameters where one has it."""
         if any(name == function for _, _, name in self.symbols):
             return self.shown.get(function, function)
@@ -92,7 +92,7 @@ class Image:
 def demangled(names: list) -> dict:
     """Names that a compiler of C++ made, by what they are in its sources; none where no `c++filt` is there to tell."""
     mangled = sorted({name for name in names if name.startswith("_Z")})
-    tool = next(filter(None, map(shutil.which, FILTERS)), None)
+    tool = next((found for found in map(shutil.which, FILTERS) if found), None)
     if not mangled or tool is None:
         return {}
     answer = subprocess.run([tool], input="".join(name + "\n" for name in mangled), capture_output=True, text=True, check=False)
