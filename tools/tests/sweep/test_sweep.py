@@ -422,6 +422,8 @@ class Plots(Folder):
         self.assertEqual(len(tips), 2 * (5 + 4))
         self.assertIn("off, core.rob 50: 0.83", tips)
         self.assertIn("spectre, core.rob 25: +12.5 %", tips)
+        lines = {line.get("stroke-dasharray") for line in self.drawn("curve-core.rob.svg").iter("{http://www.w3.org/2000/svg}polyline")}
+        self.assertEqual(len(lines), 4, "off and spectre are whole, each other has dashes of its own")
 
     def test_a_bar_below_zero(self):
         row = results.Row("p", "d", {}, "spectre", "exit 0", 10, 90, -0.1)

@@ -40,7 +40,7 @@ class Command(unittest.TestCase):
         packed = support.file_of("facts.gz", gzip.compress(self.text.encode()))
         for trace in (self.trace, packed):
             page = view("html", trace, *self.files, "--to", "8").stdout
-            self.assertIn("<p>the whole run: end exit 0 retired 5 cycles 21</p><p>shown up to cycle 8", page)
+            self.assertIn("<p>the whole run: end exit 0 retired 5 cycles 21; --from 9 shows what follows</p><p>shown up to cycle 8", page)
         cut = support.file_of("facts.trace", self.text.rsplit("end ", 1)[0].encode())
         self.assertNotIn("the whole run", view("html", cut, *self.files, "--to", "8").stdout)
 

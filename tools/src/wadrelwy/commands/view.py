@@ -193,20 +193,20 @@ def lines_of_picture(words: argparse.Namespace, inputs: Inputs) -> Iterator[str]
         mark = marks[side] if marks else None
         replay = inputs.replay(side, first)
         panels.append(drawing.Panel(inputs.title(side), replay, inputs.disassembler(side), (first, last), mark))
-        panels[-1].facts = facts_of(inputs, side, replay)
+        panels[-1].facts = facts_of(inputs, side, replay, panels[-1].last)
         if replay.pipeline.cycle < first:
             raise Fault(f"--from {first} is behind the last cycle of the trace, {replay.pipeline.cycle}")
     yield (page.page if words.what == "html" else drawing.picture)(panels)
 
 
-def facts_of(inputs: Inputs, side: int, replay: Replay) -> list:
-    """What a page says of where a trace is from, and how the run ended where the page doesn't reach so far."""
+def facts_of(inputs: Inputs, side: int, replay: Replay, last: int) -> list:
+    """What a page says of where a trace is from, and where it doesn't reach to the end how the run ended, and what shows more of it."""
     image, path = inputs.of(inputs.words.image, side), inputs.of(inputs.words.description, side)
     description = inputs.of(inputs.descriptions, side)
     defence = f", defence {HOLD}" if description.model != OFF and description.defence == HOLD else ""
     found = [f"image {os.path.basename(image)}, description {os.path.basename(path)}, model {description.model}{defence}"]
     end = None if replay.trace.end else end_of(inputs.names[side])
-    return found + ([f"the whole run: {end.text}"] if end else [])
+    return found + ([f"the whole run: {end.text}; --from {last + 1} shows what follows"] if end else [])
 
 
 def main(asked: argparse.Namespace) -> int:

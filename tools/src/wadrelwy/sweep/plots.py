@@ -7,7 +7,10 @@ from wadrelwy.view.description import OFF
 
 from . import results, settings
 
+ORDER = [OFF, "spectre", "futuristic", "spectre+hold", "futuristic+hold"]
 COLOURS = ["#555555", "#2e86c1", "#c0392b", "#7fb3d5", "#e6a49c"]
+# where curves lie on one another, each is seen in the gaps of the next
+DASHES = ["", "", "9 6", "3 4", "9 4 2 4"]
 HEIGHT, LEFT, TOP, BOTTOM, RIGHT = 190, 58, 46, 44, 16
 BAR, BETWEEN, CURVE = 9, 14, 420
 # of names below bars: how they are turned, in degrees, how far below the axis they end, and how wide a character is at most
@@ -91,8 +94,7 @@ def room(names):
 
 
 def colours_of(defences):
-    order = [OFF, "spectre", "futuristic", "spectre+hold", "futuristic+hold"]
-    return {name: COLOURS[order.index(name)] for name in defences}
+    return {name: COLOURS[ORDER.index(name)] for name in defences}
 
 
 def bars(found):
@@ -197,7 +199,8 @@ def panel(drawing, left, top, title, key, curves_of, told):
         drawing.text(x(size), top + HEIGHT + 16, str(size))
     for name, points in curves_of.items():
         dots = " ".join(f"{x(size):.1f},{scale.y(value):.1f}" for size, value in points)
-        drawing.pieces.append(f'<polyline points="{dots}" fill="none" stroke="{colours[name]}" stroke-width="2"/>')
+        drawing.pieces.append(f'<polyline points="{dots}" fill="none" stroke="{colours[name]}" stroke-width="2" '
+                              f'stroke-dasharray="{DASHES[ORDER.index(name)] or "none"}"/>')
         for size, value in points:
             drawing.pieces.append(f'<circle cx="{x(size):.1f}" cy="{scale.y(value):.1f}" r="3" fill="{colours[name]}">'
                                   f"<title>{escape(f'{name}, {key} {size}: {told(value)}')}</title></circle>")
