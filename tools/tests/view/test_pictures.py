@@ -104,6 +104,12 @@ class Pictures(unittest.TestCase):
         text = page.legend(panels())
         self.assertEqual(text.count("<li>"), len({colour for _, colour, *_ in told}))
 
+    def test_what_is_in_flight_where_a_picture_is_cut(self):
+        run, disassembler = support.fresh_bounds_check()
+        text = page.page([drawing.Panel("a", run, disassembler, (1, 8))])
+        self.assertIn("in flight in cycle 8, the last that is shown", text)
+        self.assertNotIn("in flight at the end", text)
+
     def test_a_page_has_labels_whole(self):
         one, _ = panels()
         one.whole_labels[3] = "0001000c " + "long " * 30

@@ -5,7 +5,7 @@ What an instruction does in each cycle is told by `spans`; here is its layout. L
 from html import escape
 from itertools import islice
 
-from .listing import tip
+from .listing import IN_FLIGHT, tip
 from .reasons import (
     ADDRESS_PORT, BASE, DATA, DATA_PORT, DIVIDER, HELD_BACK, MISS_REGISTER, OLDER_STORE, OPERAND, PORT, STORE_ADDRESS, STORE_DATA,
     STORE_TAINT, TAINT, TAINTED_CLEARING, TAINTED_OUTCOME, TWO_REGISTERS)
@@ -75,6 +75,7 @@ class Panel:
         more = next(there, None)
         end, pipeline = replay.trace.end, replay.pipeline
         self.only = self.only_symbol()
+        self.still = IN_FLIGHT if end else f"in flight in cycle {min(last, pipeline.cycle)}, the last that is shown"
         self.subtitle = end.text if end else f"shown up to cycle {min(last, pipeline.cycle)}"
         self.subtitle += f", all in <{self.only}>" if self.only else ""
         self.subtitle += f", the first {MOST_ROWS} instructions; the next is fetched in cycle {more.fetched}" if more is not None else ""
@@ -159,7 +160,7 @@ class Panel:
 
     def row_drawn(self, row, item):
         y = self.y(row)
-        parts = [self.row_named(row, item) if self.named_rows else "<g>", f"<title>{escape(tip(item, self.disassembler))}</title>"]
+        parts = [self.row_named(row, item) if self.named_rows else "<g>", f"<title>{escape(tip(item, self.disassembler, self.still))}</title>"]
         if self.named_rows:
             parts.append(f'<rect class="row" x="0" y="{y}" width="{self.chart_width:.0f}" height="{ROW}"/>')
         for first, behind, name in spans_of(item, self.last + 1):

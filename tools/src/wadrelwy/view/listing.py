@@ -14,6 +14,7 @@ if TYPE_CHECKING:
     from wadrelwy.view.replay import Replay
 
 TIMES = ("fetched", "renamed", "ready", "issued", "done", "resolved", "retired")
+IN_FLIGHT = "in flight at the end"
 PART_NAMES = {"agu": "address", "std": "data"}
 HEADER = f"{'serial':>8}" + "".join(f"{name:>9}" for name in TIMES) + "  instruction"
 
@@ -42,8 +43,8 @@ def shown(number: Optional[int]) -> Any:
     return "-" if number is None else number
 
 
-def notes(item: "Item") -> Iterator[str]:
-    """What the times don't tell: the access, the outcome, taint, and how it went."""
+def notes(item: "Item", still: str = IN_FLIGHT) -> Iterator[str]:
+    """What the times don't tell: the access, the outcome, taint, and how it went; `still` is told of what isn't gone."""
     if item.unit and item.code.kind == "load":
         yield ", ".join(f"{LOAD_UNITS[found]} {line:08x}" for line, found in item.lines) or item.unit
     if len(set(item.parts.values())) > 1 or item.parts and item.issued is None:
@@ -65,15 +66,15 @@ def notes(item: "Item") -> Iterator[str]:
     elif item.trapped is not None:
         yield f"traps {item.trapped}"
     elif item.retired is None:
-        yield "in flight at the end"
+        yield still
 
 
-def tip(item: "Item", disassembler: "Disassembler") -> str:
+def tip(item: "Item", disassembler: "Disassembler", still: str = IN_FLIGHT) -> str:
     """The same as a text of a few lines, for a picture."""
     times = [f"{name} {getattr(item, name)}" for name in TIMES if getattr(item, name) is not None]
     serial = "" if item.serial < 0 else f"{item.serial} "
     waits = [f"{cycles(wait)} waits: {wait.reason}{of(wait)}" for wait in item.waits]
-    return "\n".join([serial + disassembler.place(item.pc), ", ".join(times), *notes(item), *waits])
+    return "\n".join([serial + disassembler.place(item.pc), ", ".join(times), *notes(item, still), *waits])
 
 
 def of(wait: "Wait") -> str:
