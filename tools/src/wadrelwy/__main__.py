@@ -31,8 +31,11 @@ GROUPS = {
     "Look at a run": {
         "view": "a trace made readable: stats, stack, annotate, why, list, diff, konata, o3, svg, html, index",
         "path": "the instruction set's run of an image: a log of its steps, its report, the bytes that it loads",
+        "continue": "an image that goes on where the instruction set's run stands after some steps, or at a call",
     },
 }
+# the module of a command whose name no module may have
+MODULES = {"continue": "go_on"}
 COMMANDS = {name: text for group in GROUPS.values() for name, text in group.items()}
 # those that go over long traces, and those that go on where they stopped
 LONG = ("view", "verdict")
@@ -56,7 +59,7 @@ def listed() -> str:
 
 def parser_of(name: str) -> argparse.ArgumentParser:
     """The words of a command, of which its module's docstring tells more."""
-    module = importlib.import_module(f"wadrelwy.commands.{name}")
+    module = importlib.import_module(f"wadrelwy.commands.{MODULES.get(name, name)}")
     parser = Parser(prog=f"wadrelwy {name}", description=module.__doc__, formatter_class=argparse.RawDescriptionHelpFormatter)
     module.words(parser)
     parser.set_defaults(main=module.main)

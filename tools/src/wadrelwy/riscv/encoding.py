@@ -13,6 +13,11 @@ def addi(rd: int, rs1: int, immediate: int) -> int:
     return immediate_form(0x13, 0, rd, rs1, immediate)
 
 
+def lui(rd: int, value: int) -> int:
+    """The word that sets a register to the upper 20 bits of a value, and its lower 12 to 0."""
+    return value & 0xFFFFF000 | rd << 7 | 0x37
+
+
 def add(rd: int, rs1: int, rs2: int) -> int:
     return register_form(0x33, 0, 0, rd, rs1, rs2)
 

@@ -1,0 +1,1 @@
+"""Images that go on where a run of the instruction set stands."""

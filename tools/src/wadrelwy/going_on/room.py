@@ -1,0 +1,53 @@
+"""A place for the stub: memory that no segment takes and that the run has left as it was."""
+from typing import Iterator
+
+from wadrelwy import Fault
+
+from .standing import Standing
+from .stub import SIZE, reaches
+
+ROW = 16
+
+
+def gaps(standing: Standing) -> Iterator[tuple[int, int]]:
+    """The ranges of whole rows that no segment takes, that are all 0 and that didn't change."""
+    image, first = standing.image, None
+    taken = set(standing.touched)
+    for low, high in image.ranges:
+        taken.update(range(low - low % ROW, high, ROW))
+    for row in range(image.base, image.base + len(image.memory) + ROW, ROW):
+        is_free = row < image.base + len(image.memory) and row not in taken
+        if is_free and first is None:
+            first = row
+        elif not is_free and first is not None:
+            yield first, row
+            first = None
+
+
+def middle(low: int, high: int, pc: int) -> int | None:
+    """The place in a gap, a multiple of 16, that is nearest to its middle and from which a jump reaches the pc."""
+    places = [place for place in range(low, high - SIZE + 1, ROW) if reaches(place, pc)]
+    return min(places, key=lambda place: abs(2 * place + SIZE - low - high), default=None)
+
+
+def find_room(standing: Standing) -> int:
+    """The place for the stub in the middle of the largest gap: a heap grows up from a gap's low end, a stack down from its high one."""
+    pc = standing.report.pc
+    for low, high in sorted(gaps(standing), key=lambda gap: gap[0] - gap[1]):
+        place = middle(low, high, pc)
+        if place is not None:
+            return place
+    raise Fault(f"{standing.image.name}: no {SIZE} bytes within 1 MiB of the pc {pc:08x} that no segment takes and the run has left alone; "
+                "--at ADDRESS names a place that the program doesn't use")
+
+
+def named_room(standing: Standing, address: int) -> int:
+    """The place that was named, if the stub may stand there."""
+    image, pc = standing.image, standing.report.pc
+    if address % 4:
+        raise Fault(f"--at {address:#x}: code stands at multiples of 4")
+    if not any(low <= address and address + SIZE <= high for low, high in gaps(standing)):
+        raise Fault(f"--at {address:#x}: these {SIZE} bytes aren't all of memory that no segment takes and the run has left alone")
+    if not reaches(address, pc):
+        raise Fault(f"--at {address:#x}: a jump from there doesn't reach the pc {pc:08x}, which is more than 1 MiB away")
+    return address

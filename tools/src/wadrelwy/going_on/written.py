@@ -1,0 +1,102 @@
+"""The image that goes on, as an ELF file (docs/formats.md, "Images")."""
+import struct
+from typing import Iterator, NamedTuple
+
+from elftools.elf.elffile import ELFFile
+
+from .standing import Standing
+from .stub import SIZE
+
+HEADER, PROGRAM_HEADER, SECTION_HEADER = 52, 32, 40
+CODE, DATA = 5, 6
+# so many zero bytes cost less as bytes of the file than as a segment's end and another's header
+FEW_ZEROS = 64
+SYMBOLS, NAMES = 2, 3
+
+
+class Segment(NamedTuple):
+    """The bytes of memory from an address on, with the flags of their program header."""
+    address: int
+    data: bytes
+    flags: int
+
+
+class Section(NamedTuple):
+    """A section of symbols or names."""
+    name: bytes
+    kind: int
+    link: int
+    info: int
+    size: int
+    data: bytes
+
+
+def runs_of_bytes(address: int, data: bytes) -> Iterator[tuple[int, bytes]]:
+    """The stretches of `data` that aren't zero, from their addresses on; few zeros between two don't part them."""
+    place = 0
+    while place < len(data):
+        place += len(data) - place - len(data[place:].lstrip(b"\0"))
+        end = data.find(bytes(FEW_ZEROS), place)
+        end = len(data) if end < 0 else end
+        kept = data[place:end].rstrip(b"\0")
+        if kept:
+            yield address + place, kept
+        place = max(end, place + 1)
+
+
+def segments(standing: Standing, at: int, stub: bytes) -> list[Segment]:
+    """All of memory that isn't zero, with the code where it was and the stub at its place."""
+    image = standing.image
+    codes = sorted([(start, start + len(data)) for start, data in image.pieces] + [(at, at + SIZE)])
+    found, behind = [], image.base
+    memory = bytearray(standing.memory)
+    memory[at - image.base:at - image.base + SIZE] = stub
+
+    def part(low: int, high: int) -> bytes:
+        return bytes(memory[low - image.base:high - image.base])
+
+    for low, high in codes:
+        found += [Segment(address, data, DATA) for address, data in runs_of_bytes(behind, part(behind, low))]
+        found.append(Segment(low, part(low, high), CODE))
+        behind = max(behind, high)
+    end = image.base + len(memory)
+    return found + [Segment(address, data, DATA) for address, data in runs_of_bytes(behind, part(behind, end))]
+
+
+def symbols_of(name: str) -> list[Section]:
+    """The sections of symbols and of their names of an image, so that the image that goes on has the same names; none where it has none."""
+    with open(name, "rb") as file:
+        elf = ELFFile(file)
+        table = elf.get_section_by_name(".symtab")
+        if table is None:
+            return []
+        names = elf.get_section(table["sh_link"])
+        return [Section(b".symtab", SYMBOLS, 2, table["sh_info"], 16, table.data()), Section(b".strtab", NAMES, 0, 0, 0, names.data())]
+
+
+def section_headers(sections: list[Section], at: int) -> tuple[bytes, bytes]:
+    """The bytes of the sections, which stand from the place `at` of the file on, and the table of their headers."""
+    named = sections + [Section(b".shstrtab", NAMES, 0, 0, 0, b"")]
+    names = b"\0" + b"".join(each.name + b"\0" for each in named)
+    table, body = bytes(SECTION_HEADER), b""
+    for each in named:
+        data = each.data or names
+        table += struct.pack("<10I", names.index(each.name + b"\0"), each.kind, 0, 0, at + len(body), len(data), each.link, each.info, 4, each.size)
+        body += data + bytes(-len(data) % 4)
+    return body, table
+
+
+def elf_file(parts: list[Segment], sections: list[Section], entry: int) -> bytes:
+    """The file of these segments and sections."""
+    place = HEADER + PROGRAM_HEADER * len(parts)
+    table, body = b"", b""
+    for part in parts:
+        table += struct.pack("<8I", 1, place + len(body), part.address, part.address, len(part.data), len(part.data), part.flags, 4)
+        body += part.data
+    body += bytes(-(place + len(body)) % 4)
+    data, headers = section_headers(sections, place + len(body)) if sections else (b"", b"")
+    begin = place + len(body) + len(data) if sections else 0
+    count = len(headers) // SECTION_HEADER
+    header = b"\x7fELF\x01\x01\x01" + bytes(9) + struct.pack(
+        "<HHIIIIIHHHHHH", 2, 243, 1, entry, HEADER, begin, 0, HEADER, PROGRAM_HEADER, len(parts), SECTION_HEADER if count else 0, count, max(count - 1, 0))
+    return header + table + body + data + headers

@@ -1,0 +1,116 @@
+"""Images that go on: a run cut at any step and gone on with ends as the whole one does, byte for byte of memory but for the stub's place."""
+import os
+import random
+import subprocess
+import sys
+import unittest
+
+sys.path.append(os.path.dirname(os.path.dirname(os.path.abspath(__file__))))
+
+import support
+from generate.generated import generated_image
+from wadrelwy.going_on import stub
+from wadrelwy.going_on.report import read_report
+from wadrelwy.verdict.hart import Hart
+from wadrelwy.verdict.loaded import Loaded
+
+BASE, SIZE = 0x00010000, 1 << 20
+# a loop that a call of its own number parts: a7 is 1000 at each call, and t0 counts down from 3
+MARKED = (0x3e800893, 0x00300293, 0x00000073, 0xfff28293, 0xfe029ce3, 0x05d00893, 0x00000513, 0x00000073)
+# writes over the word behind the store with x5, which is 0, and goes on
+OVER_CODE = (0x00010337, 0x00532623, 0x00000013, 0x00000013, 0x05d00893, 0x00000073)
+
+
+def go_on(image, out, *words):
+    return subprocess.run([support.TOOL, "continue", image, "-o", out, *words], capture_output=True, text=True)
+
+
+def report(image, steps):
+    ran = subprocess.run([support.PROGRAM, "isa", image, "--steps", str(steps)], capture_output=True, text=True)
+    return ran.stdout
+
+
+def memory(image, told):
+    """Memory as a report tells it of an image."""
+    found = bytearray(image.memory)
+    for address, row in told.rows.items():
+        found[address - BASE:address - BASE + 16] = row
+    return found
+
+
+class Stub(unittest.TestCase):
+    def test_sets_all(self):
+        """After its 63 steps the registers and the pc are those named, whatever the values."""
+        chance = random.Random(1)
+        for values in ([0] * 32, [0xffffffff] * 32, [0x7ff, 0x800, 0xfff, 0x80000000] * 8, [chance.getrandbits(32) for _ in range(32)]):
+            path = support.file_of("stub.elf", support.elf([(5, BASE, stub.stub(BASE, values, BASE + 0x1000), stub.SIZE)]))
+            run = Hart(Loaded(path, BASE, SIZE))
+            self.assertEqual(len(list(run.run(stub.STEPS))), 63)
+            self.assertEqual((run.registers[1:], run.pc), (values[1:], BASE + 0x1000))
+
+    def test_reach(self):
+        self.assertTrue(stub.reaches(BASE, BASE + 248 + (1 << 20) - 2) and stub.reaches(BASE + (1 << 20), BASE + 248))
+        self.assertFalse(stub.reaches(BASE, BASE + 248 + (1 << 20)) or stub.reaches(BASE + (1 << 20) + 2, BASE + 248))
+
+
+@unittest.skipUnless(support.PROGRAM, support.NO_PROGRAM)
+class GoingOn(unittest.TestCase):
+    def ends_alike(self, path, cut):
+        """The image that goes on after so many steps ends as the whole run."""
+        out = os.path.join(support.FOLDER.name, "on.elf")
+        made = go_on(path, out, "--steps", str(cut))
+        self.assertEqual((made.returncode, made.stderr), (0, ""))
+        at = int(made.stdout.split(" instructions from ")[1][:8], 16)
+        whole, rest = report(path, 100000), report(out, 100000)
+        one, two = read_report(whole), read_report(rest)
+        self.assertEqual((one.registers, one.pc, one.end, one.retired), (two.registers, two.pc, two.end, two.retired - stub.STEPS + cut))
+        before, after = (memory(Loaded(image, BASE, SIZE), told) for image, told in ((path, one), (out, two)))
+        after[at - BASE:at - BASE + stub.SIZE] = bytes(stub.SIZE)
+        self.assertEqual(before, after)
+        said = [[line for line in text.splitlines() if line.startswith("out")] for text in (whole, rest)]
+        self.assertEqual(said[0][len(said[0]) - len(said[1]):], said[1])
+
+    def test_stored_images(self):
+        for name in support.EXAMPLES:
+            path = support.example(f"{name}.elf")
+            for cut in range(1, read_report(report(path, 1000)).retired):
+                with self.subTest(name, cut=cut):
+                    self.ends_alike(path, cut)
+
+    def test_generated_images(self):
+        chance = random.Random(7)
+        for seed in range(50):
+            path = support.file_of(f"generated{seed}.elf", generated_image(seed, 1 + seed % 12))
+            cut = chance.randrange(1, read_report(report(path, 100000)).retired)
+            with self.subTest(seed, cut=cut):
+                self.ends_alike(path, cut)
+
+    def test_to_call(self):
+        path, out = support.image_of_words("marked", MARKED), os.path.join(support.FOLDER.name, "marked_on.elf")
+        for count, steps in ((1, 3), (2, 6), (3, 9)):
+            self.assertIn(f" after {steps} steps, at 0001000c", go_on(path, out, "--to-call", f"1000:{count}").stdout)
+        told = go_on(path, out, "--to-call", "1000:4")
+        self.assertEqual((told.returncode, told.stdout), (2, ""))
+        self.assertIn("the run ends after 14 steps, with 3 calls of the number 1000", told.stderr)
+
+    def test_refusals(self):
+        path, over = support.image_of_words("marked", MARKED), support.image_of_words("over", OVER_CODE)
+        out = os.path.join(support.FOLDER.name, "none.elf")
+        for image, words, said in (
+            (path, ["--steps", "14"], "the run ends after 14 steps (exit 0), so nothing goes on after 14"),
+            (over, ["--steps", "2"], "the run has written over its code at 0001000c"),
+            (path, ["--steps", "2", "--at", "0x10000"], "aren't all of memory that no segment takes"),
+            (path, ["--steps", "2", "--at", "0x20002"], "code stands at multiples of 4"),
+            ("/dev/null", ["--steps", "2"], "no ELF image"),
+            (path, ["--steps", "none"], "invalid number value"),
+            (path, [], "one of the arguments --steps --to-call is required"),
+        ):
+            with self.subTest(words):
+                told = go_on(image, out, *words)
+                self.assertEqual((told.returncode, told.stdout, os.path.exists(out)), (2, "", False))
+                self.assertIn(said, told.stderr)
+                self.assertEqual(told.stderr.count("\n"), 1)
+
+
+if __name__ == "__main__":
+    unittest.main()
