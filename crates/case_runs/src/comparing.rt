@@ -9,7 +9,7 @@ fn first_difference(alloc: Global, found: &str, wanted: &str) -> Result<String, 
     for (found, wanted) in found.lines().zip(wanted.lines()) {
         number = number.saturating_add(1);
         if found != wanted {
-            return Ok(format!(in alloc; "line {number} is `{found}`, wanted `{wanted}`")?);
+            return Ok(format!(in alloc; "line {number} is another")?);
         }
     }
     let has = found.lines().count();
