@@ -67,7 +67,7 @@ FAULTS = [
 ]
 # what differs, and what is told of it
 DIFFERENCES = [
-    ("x17 0000005d", "x17 0000005c", "line 18 is `x17 0000005d`, wanted `x17 0000005c`"),
+    ("x17 0000005d", "x17 0000005c", "line 18 is another"),
     ("status 0", "status 1", "the status is 0, wanted 1"),
     ("status 0", "status 0\nnote words", "the note is ``, wanted `words\n`"),
 ]
