@@ -27,7 +27,7 @@ def gaps(standing: Standing) -> Iterator[tuple[int, int]]:
 def middle(low: int, high: int, pc: int) -> int | None:
     """The place in a gap, a multiple of 16, that is nearest to its middle and from which a jump reaches the pc."""
     places = [place for place in range(low, high - SIZE + 1, ROW) if reaches(place, pc)]
-    return min(places, key=lambda place: abs(2 * place + SIZE - low - high), default=None)
+    return min(places, key=lambda place: abs(2 * place + SIZE - low - high)) if places else None
 
 
 def find_room(standing: Standing) -> int:
