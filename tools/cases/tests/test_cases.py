@@ -43,7 +43,7 @@ FAULTS = [
     ("a row with a cell too many", "    5 | more", "    5 | more | 7", 10),
     ("a table without a row", "    2 | just enough\n    5 | more\n", "", 8),
     ("a column that no line names", "steps | #", "steps | other", 8),
-    ("a name that no column has", "{steps}", "{stops}", 12),
+    ("a name that no column has", "{steps}", "{steps} {stops}", 12),
     ("a program that isn't there", "program exit_in_two\nstt", "program exit_in_three\nstt", 11),
     ("a step of a file that there isn't", "p.elf program", "p.elf programs", 11),
     ("two spaces between words", "isa p.elf", "isa  p.elf", 12),
