@@ -189,7 +189,8 @@ class Command(unittest.TestCase):
     def test_what_is_missing_is_told(self):
         """What was compiled before stays."""
         before = are_compiled()
-        answer = subprocess.run([os.path.join(TOOLS, "compile")], capture_output=True, text=True, timeout=60, env={"PATH": "/nowhere"})
+        answer = subprocess.run([sys.executable, os.path.join(TOOLS, "compile")], capture_output=True, text=True, timeout=60,
+                                env={"PATH": "/nowhere"})
         self.assertEqual((answer.stdout, answer.returncode), ("", 2))
         self.assertRegex(answer.stderr, r"^compile: no cython3; .*\n$")
         self.assertEqual(are_compiled(), before)

@@ -5,6 +5,7 @@ import unittest
 from collections import Counter
 
 import support
+from wadrelwy import Fault
 from wadrelwy.view import konata, listing, o3, stats, why
 
 SHADOW = "Fault shadow"
@@ -54,17 +55,18 @@ class Reasons(unittest.TestCase):
 
 
     def test_one_function(self):
-        """All of it is of _start, and nothing of main."""
-        whole, part, none = lines(why, 1, None, False), lines(why, 1, None, False, "_start"), lines(why, 1, None, False, "main")
+        """All of it is of _start; nothing of main was fetched, which is refused."""
+        whole, part = lines(why, 1, None, False), lines(why, 1, None, False, "_start")
         self.assertEqual(part, [line for line in whole if "(no code)" not in line])
-        self.assertEqual([line for line in none if line.startswith(" ")], [])
-        self.assertEqual(none[0], "waits of instructions, in cycles: none")
+        with self.assertRaisesRegex(Fault, "no instruction of <main> was fetched; the image has no such symbol"):
+            lines(why, 1, None, False, "main")
 
 
 class List(unittest.TestCase):
     def test_one_function(self):
         self.assertEqual(len(lines(listing, 1, None, "_start")), 1 + 11)
-        self.assertEqual(lines(listing, 1, None, "main"), [listing.HEADER])
+        with self.assertRaisesRegex(Fault, "no instruction of <main> was fetched; the image has no such symbol"):
+            lines(listing, 1, None, "main")
 
     def test_one_line_an_instruction(self):
         text = lines(listing, 1, None)

@@ -76,9 +76,10 @@ def tail_of(file, name):
     if not name.endswith(".gz"):
         file.seek(max(0, os.path.getsize(name) - TAIL))
         return file.read()
-    kept = b""
-    while piece := file.read(PIECE):
+    kept, piece = b"", file.read(PIECE)
+    while piece:
         kept = (kept + piece)[-TAIL:]
+        piece = file.read(PIECE)
     return kept
 
 
