@@ -1,9 +1,10 @@
 -- The walk over the queue's stores, and that it finds the one that the definition takes.
-use Rattle.std.proofs.Common.{◌≡◌, ℕ, zero, suc, ◌+◌, ◌<◌, true, false, List, [], ◌∷◌, length, Option, Some, None, refl, ap, sym, ◌∙◌, subst, arith, lit≤, slice_get}
+use Rattle.std.proofs.Common.{◌≡◌, ℕ, zero, suc, ◌+◌, ◌<◌, ◌≤◌, true, false, List, [], ◌∷◌, length, Option, Some, None, refl, ap, sym, ◌∙◌, subst, arith, slice_get}
 use Rattle.std.specs.Prelude.{◌^◌, drop, if◌then◌else◌}
 use Rattle.std.specs.List.{find}
 use Rattle.std.specs.Option.{option_map}
-use Rattle.machine_desc.proofs.Versions.{most_up_to}
+use Rattle.machine_desc.specs.declared.keys.Key.TheVariants.{CoreStores}
+use Rattle.machine_desc.proofs.Newest.{in_newest}
 use Rattle.window_model.specs.Clear.{clear}
 use Rattle.machine_desc.specs.Questions.{loads_pass}
 use Rattle.window_model.specs.Row.{Row}
@@ -66,7 +67,7 @@ pub few_stores : (h : Held) → Whole h → length h.queues.stores < 2 ^ 32
 few_stores h w =
     let a = w.sized.stores_fit in
     let b = (room_is h.queues h.rob.entries (queues_stand (in_flight h) w.refines)).1 in
-    let c = most_up_to 16 48 h.desc.version h.desc.core_stores (lit≤ tt) h.desc.few_stores in
+    let c : h.desc.core_stores ≤ 48 = (in_newest h.desc CoreStores).1 in
     omega (arith, a, b, c)
 
 -- the store that the definition takes

@@ -1,12 +1,15 @@
 -- Parts whose sizes three descriptions ask for are parts whose sizes one asks for: the newest version allows each size
 -- that some version allows.
-use Rattle.std.proofs.Common.{◌≡◌, List, length, Result, Ok, Err, refl, ap, subst, lit≤}
+use Rattle.std.proofs.Common.{◌≡◌, ℕ, List, length, Result, Ok, Err, refl, ap, subst}
 use Rattle.std.specs.Prelude.{IfErr, OnOk}
 use Rattle.circular_buffer.specs.Buffer.{Buffer, buffer}
 use Rattle.machine_desc.specs.declared.Desc.{Desc}
-use Rattle.machine_desc.specs.declared.SttModel.TheVariants.{Spectre}
-use Rattle.machine_desc.specs.declared.Defence.TheVariants.{Stt}
-use Rattle.machine_desc.proofs.Versions.{most_up_to}
+use Rattle.machine_desc.specs.declared.keys.Key.{Key}
+use Rattle.machine_desc.specs.declared.keys.Key.TheVariants.{PredictorBtb, PredictorCounters, PredictorHistory, PredictorReturns}
+use Rattle.machine_desc.specs.Version.{newest}
+use Rattle.machine_desc.specs.Allowed.{MayBe}
+use Rattle.machine_desc.specs.Ranges.{key_number, Meets, described, all_may_be}
+use Rattle.machine_desc.proofs.Newest.{in_newest, meets_in_newest}
 use Rattle.window_model.specs.declared.Item.{Item}
 use Rattle.predictor.specs.Tables as tables
 use Rattle.predictor.specs.Tables.{Tables}
@@ -14,41 +17,41 @@ use Rattle.history_pred.specs.Past as past
 use Rattle.history_pred.specs.Past.{Past}
 use Rattle.fetch_unit.specs.Unit.{AreAsked, FetchUnit, IsAsked}
 
+-- of the third description the history, the counters and the stack, of the second one the targets, else of the first
+abbrev pub joined_number : Desc → Desc → Desc → Key → ℕ
+joined_number unit jumps history PredictorCounters = history.predictor_counters
+joined_number unit jumps history PredictorHistory = history.predictor_history
+joined_number unit jumps history PredictorReturns = history.predictor_returns
+joined_number unit jumps history PredictorBtb = jumps.predictor_btb
+joined_number unit jumps history key = key_number unit key
+
+pub each_joined : (unit jumps history : Desc) (key : Key) → MayBe newest key (joined_number unit jumps history key)
+each_joined unit jumps history PredictorCounters = in_newest history PredictorCounters
+each_joined unit jumps history PredictorHistory = in_newest history PredictorHistory
+each_joined unit jumps history PredictorReturns = in_newest history PredictorReturns
+each_joined unit jumps history PredictorBtb = in_newest jumps PredictorBtb
+each_joined unit jumps history key = in_newest unit key
+
+pub meets_joined : (unit jumps history : Desc) → Meets newest (joined_number unit jumps history) unit.stt_model unit.stt_defence
+meets_joined unit jumps history =
+    let h = meets_in_newest unit in
+    record {
+      version = h.version;
+      each = each_joined unit jumps history;
+      latencies = h.latencies;
+      ends = h.ends;
+      registers = h.registers;
+      second = h.second;
+      model = h.model;
+      defence = h.defence;
+    }
+
 -- the first description in the newest version, with the second one's targets, and what the third one asks for of
 -- history and stack
 abbrev pub joined : Desc → Desc → Desc → Desc
-joined unit jumps history = record unit {
-  version = 2;
-  some_version = lit≤ tt;
-  known_version = lit≤ tt;
-  few_entries = most_up_to 64 192 unit.version unit.core_rob (lit≤ tt) unit.few_entries;
-  few_stations = most_up_to 32 96 unit.version unit.core_stations (lit≤ tt) unit.few_stations;
-  few_loads = most_up_to 16 64 unit.version unit.core_loads (lit≤ tt) unit.few_loads;
-  few_stores = most_up_to 16 48 unit.version unit.core_stores (lit≤ tt) unit.few_stores;
-  short_queue = most_up_to 16 32 unit.version unit.core_queue (lit≤ tt) unit.short_queue;
-  predictor_counters = history.predictor_counters;
-  some_counters = history.some_counters;
-  few_counters = history.few_counters;
-  counters_power = history.counters_power;
-  predictor_btb = jumps.predictor_btb;
-  some_targets = jumps.some_targets;
-  few_targets = jumps.few_targets;
-  targets_power = jumps.targets_power;
-  few_misaligned = most_up_to 0 1 unit.version unit.ram_misaligned (lit≤ tt) unit.few_misaligned;
-  few_depend = most_up_to 0 1024 unit.version unit.predictor_depend (lit≤ tt) unit.few_depend;
-  predictor_history = history.predictor_history;
-  short_history = most_up_to 0 12 history.version history.predictor_history (lit≤ tt) history.short_history;
-  predictor_returns = history.predictor_returns;
-  few_returns = most_up_to 0 16 history.version history.predictor_returns (lit≤ tt) history.few_returns;
-  few_second_sets = most_up_to 0 1024 unit.version unit.cache_second_sets (lit≤ tt) unit.few_second_sets;
-  few_second_ways = most_up_to 1 8 unit.version unit.cache_second_ways (lit≤ tt) unit.few_second_ways;
-  short_second_latency = most_up_to 2 100 unit.version unit.cache_second_latency (lit≤ tt) unit.short_second_latency;
-  few_prefetches = most_up_to 0 1 unit.version unit.cache_prefetch (lit≤ tt) unit.few_prefetches;
-  stt_model = Spectre;
-  model_known = refl;
-  stt_defence = Stt;
-  defence_known = refl;
-}
+joined unit jumps history =
+    described newest (joined_number unit jumps history) unit.stt_model unit.stt_defence
+    (all_may_be (meets_joined unit jumps history))
 
 -- where some description asks for each of the three parts, one description asks for all of them
 pub all_asked : (f : FetchUnit) (t : Tables) (p : Past) → IsAsked f.width f.room → tables.IsAsked (length t.counters) (length t.targets)

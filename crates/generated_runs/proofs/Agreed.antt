@@ -10,7 +10,7 @@ use Rattle.elf_loader.proofs.Images.{image_without}
 use Rattle.window_model.specs.Cycle.{trace}
 use Rattle.trace_text.specs.TraceText.{trace_text}
 use Rattle.generated_runs.specs.Agreement.{Run, Agrees}
-use Rattle.generated_runs.proofs.Described.{Numbers, all_hold, all_tests, number_at, described}
+use Rattle.generated_runs.proofs.Described.{Numbers, may_be_described, number_at, described}
 
 -- the bytes of a run's image
 abbrev pub file_of : Run → List ℕ
@@ -20,7 +20,7 @@ file_of run = flat_map (to_le 4) run.image
 abbrev pub memory_of : Numbers → Ram
 memory_of c = record { base = number_at c 17; bytes = zeros (number_at c 18); misaligned = number_at c 19 == 1 }
 
-module _ (run : Run) (c : Numbers) (fits : IsTrue (all_hold (all_tests c))) where
+module _ (run : Run) (c : Numbers) (fits : IsTrue (may_be_described c)) where
   pub agrees : description_of run.description ≡ Ok (contents (described c fits)) → header_fault (file_of run) ≡ None → ram_fault (file_of run) (memory_of c) ≡ None →
       (let image = image_in (file_of run) (memory_of c) in
       trace_text (trace (described c fits) image.code image.entry image.ram run.cycles) ≡ run.trace) → Agrees run

@@ -2,14 +2,14 @@
 use Rattle.std.proofs.Common.{◌≡◌, ◌+◌, ◌*◌, ◌^◌, ℕ, IsTrue, ◌<◌, ◌≤◌, nat_lt, nat_le, Bool, true, false, if◌then◌else◌, List, [], ◌∷◌, map, Option, Some, None, Result, Ok, refl, leb-true, ltb-true}
 use Rattle.std.specs.List.{AllByRecursion as Each}
 use Rattle.toml.specs.Data.{Members}
-use Rattle.machine_desc.specs.declared.keys.Key.{Key}
-use Rattle.machine_desc.specs.declared.keys.Key.TheVariants.{CoreFetchWidth, CoreRetireWidth, CoreRob, CoreStations, CoreLoads, CoreStores, CoreQueue, UnitsAlus, UnitsMulLatency, PredictorCounters, PredictorBtb, CacheSets, CacheWays, CacheLine, CacheHitLatency, CacheMissLatency, CacheMshrs, RamBase, RamSize, SttModel, RamMisaligned, PredictorDepend, PredictorHistory, PredictorReturns, CacheSecondSets, CacheSecondWays, CacheSecondLatency, CachePrefetch, SttDefence}
+use Rattle.machine_desc.specs.declared.keys.Key.TheVariants.{CacheHitLatency, CacheMissLatency, CacheMshrs, RamBase, RamSize, RamMisaligned, CacheSecondSets, CacheSecondLatency}
 use Rattle.machine_desc.specs.declared.fault.DescFault.{DescFault}
 use Rattle.machine_desc.specs.Table.{keys}
 use Rattle.machine_desc.specs.Description.{first, top_fault, sections_fault, key_fault, keys_fault, latency_fault, end_fault, registers_fault, second_fault, document_fault, with_number, number}
 use Rattle.machine_desc.specs.inner.Description.{checked}
 use Rattle.machine_desc.specs.Version.{comes_between}
 use Rattle.machine_desc.specs.Clean.{IsClean}
+use Rattle.machine_desc.proofs.Places.{each_key}
 
 -- where a list of faults has no first one, it has none
 pub none_first : (xs : List (Option DescFault)) → first xs ≡ None → Each (λ x. x ≡ None) xs
@@ -51,9 +51,9 @@ pub second : (v : ℕ) (document : Members) (sets hit next miss : ℕ) → secon
 unfolding second_fault
 second v document sets hit next miss h p q r s = four comes_between _ _ _ _ _ sets hit next miss p q r s h
 
-each_key : (v : ℕ) (document : Members) → keys_fault v document ≡ None → Each (λ x. x ≡ None) (map (key_fault v document) keys)
+no_key : (v : ℕ) (document : Members) → keys_fault v document ≡ None → Each (λ x. x ≡ None) (map (key_fault v document) keys)
 unfolding keys_fault
-each_key v document h = none_first (map (key_fault v document) keys) h
+no_key v document h = none_first (map (key_fault v document) keys) h
 
 each_step : (v : ℕ) (document : Members) → document_fault v document ≡ None
     → Each (λ x. x ≡ None) (top_fault document ∷ sections_fault v document ∷ keys_fault v document ∷ latency_fault v document ∷ end_fault v document ∷
@@ -63,43 +63,11 @@ each_step v document h =
     none_first (top_fault document ∷ sections_fault v document ∷ keys_fault v document ∷ latency_fault v document ∷ end_fault v document ∷
     registers_fault v document ∷ second_fault v document ∷ []) h
 
--- where the list of all keys has no fault, no key of the document has one
-key_clean : (v : ℕ) (document : Members) → Each (λ x. x ≡ None) (map (key_fault v document) keys) → (k : Key) → key_fault v document k ≡ None
-key_clean v document e CoreFetchWidth = e.0
-key_clean v document e CoreRetireWidth = e.1.0
-key_clean v document e CoreRob = e.1.1.0
-key_clean v document e CoreStations = e.1.1.1.0
-key_clean v document e CoreLoads = e.1.1.1.1.0
-key_clean v document e CoreStores = e.1.1.1.1.1.0
-key_clean v document e CoreQueue = e.1.1.1.1.1.1.0
-key_clean v document e UnitsAlus = e.1.1.1.1.1.1.1.0
-key_clean v document e UnitsMulLatency = e.1.1.1.1.1.1.1.1.0
-key_clean v document e PredictorCounters = e.1.1.1.1.1.1.1.1.1.0
-key_clean v document e PredictorBtb = e.1.1.1.1.1.1.1.1.1.1.0
-key_clean v document e CacheSets = e.1.1.1.1.1.1.1.1.1.1.1.0
-key_clean v document e CacheWays = e.1.1.1.1.1.1.1.1.1.1.1.1.0
-key_clean v document e CacheLine = e.1.1.1.1.1.1.1.1.1.1.1.1.1.0
-key_clean v document e CacheHitLatency = e.1.1.1.1.1.1.1.1.1.1.1.1.1.1.0
-key_clean v document e CacheMissLatency = e.1.1.1.1.1.1.1.1.1.1.1.1.1.1.1.0
-key_clean v document e CacheMshrs = e.1.1.1.1.1.1.1.1.1.1.1.1.1.1.1.1.0
-key_clean v document e RamBase = e.1.1.1.1.1.1.1.1.1.1.1.1.1.1.1.1.1.0
-key_clean v document e RamSize = e.1.1.1.1.1.1.1.1.1.1.1.1.1.1.1.1.1.1.0
-key_clean v document e SttModel = e.1.1.1.1.1.1.1.1.1.1.1.1.1.1.1.1.1.1.1.0
-key_clean v document e RamMisaligned = e.1.1.1.1.1.1.1.1.1.1.1.1.1.1.1.1.1.1.1.1.0
-key_clean v document e PredictorDepend = e.1.1.1.1.1.1.1.1.1.1.1.1.1.1.1.1.1.1.1.1.1.0
-key_clean v document e PredictorHistory = e.1.1.1.1.1.1.1.1.1.1.1.1.1.1.1.1.1.1.1.1.1.1.0
-key_clean v document e PredictorReturns = e.1.1.1.1.1.1.1.1.1.1.1.1.1.1.1.1.1.1.1.1.1.1.1.0
-key_clean v document e CacheSecondSets = e.1.1.1.1.1.1.1.1.1.1.1.1.1.1.1.1.1.1.1.1.1.1.1.1.0
-key_clean v document e CacheSecondWays = e.1.1.1.1.1.1.1.1.1.1.1.1.1.1.1.1.1.1.1.1.1.1.1.1.1.0
-key_clean v document e CacheSecondLatency = e.1.1.1.1.1.1.1.1.1.1.1.1.1.1.1.1.1.1.1.1.1.1.1.1.1.1.0
-key_clean v document e CachePrefetch = e.1.1.1.1.1.1.1.1.1.1.1.1.1.1.1.1.1.1.1.1.1.1.1.1.1.1.1.0
-key_clean v document e SttDefence = e.1.1.1.1.1.1.1.1.1.1.1.1.1.1.1.1.1.1.1.1.1.1.1.1.1.1.1.1.0
-
 pub is_clean : (v : ℕ) (document : Members) → document_fault v document ≡ None → IsClean v document
 is_clean v document h =
     let steps = each_step v document h in
     record {
-      keys = key_clean v document (each_key v document steps.1.1.0);
+      keys = each_key (λ x. x ≡ None) (key_fault v document) (no_key v document steps.1.1.0);
       latencies = steps.1.1.1.0;
       ends = steps.1.1.1.1.0;
       registers = steps.1.1.1.1.1.0;

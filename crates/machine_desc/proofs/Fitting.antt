@@ -5,7 +5,8 @@ use Rattle.machine_desc.specs.declared.keys.Shape.TheVariants.{Any, PowerOfTwo, 
 use Rattle.machine_desc.specs.declared.keys.Values.{Values}
 use Rattle.machine_desc.specs.declared.keys.Values.TheVariants.{Numbers, Optional, Models, Defences}
 use Rattle.machine_desc.specs.Description.{has_shape}
-use Rattle.machine_desc.specs.Clean.{HasShape, Fits, PassesAs}
+use Rattle.machine_desc.specs.Allowed.{HasShape, Fits}
+use Rattle.machine_desc.specs.Clean.{PassesAs}
 use Rattle.machine_desc.proofs.Powers.{power_from_test, zero_or_power_from_test}
 
 shape_from_test : (shape : Shape) (n : ℕ) → IsTrue (has_shape shape n) → HasShape shape n

@@ -1,7 +1,8 @@
 -- The facts that pin the keys that may be left out: the ends of their ranges, which versions know them, and what they
 -- are then.
-use Rattle.std.proofs.Common.{◌≡◌, ℕ, true, false, List, [], ◌∷◌, map, Option, Some, None, Ok, refl}
+use Rattle.std.proofs.Common.{◌≡◌, ℕ, true, false, List, map, Option, Some, None, Result, Ok, refl}
 use Rattle.std.specs.Prelude.{pos, codes}
+use Rattle.std.specs.List.{list_all, list_any}
 use lib.Count.{ones}
 use Rattle.toml.specs.Data.{no_members, string}
 use Rattle.machine_desc.specs.declared.keys.Key.TheVariants.{RamMisaligned, PredictorDepend, PredictorHistory, PredictorReturns, CacheSecondSets, CacheSecondWays, CacheSecondLatency, CachePrefetch, SttModel as ModelKey, SttDefence as DefenceKey}
@@ -11,8 +12,9 @@ use Rattle.machine_desc.specs.declared.fault.DescFault.{DescFault}
 use Rattle.machine_desc.specs.declared.fault.DescFault.TheVariants.{Kind, Range, Shape as WrongShape}
 use Rattle.machine_desc.specs.declared.fault.Subject.TheVariants.{Key as OfKey}
 use Rattle.machine_desc.specs.Version.{comes_between}
-use Rattle.machine_desc.specs.Table.{values_of, optional_numbers, keys, is_known, some_key}
+use Rattle.machine_desc.specs.Table.{values_of, row, optional_numbers, keys, is_known, some_key}
 use Rattle.machine_desc.specs.Description.{fault_of, setting_in, key_fault, number}
+use Rattle.machine_desc.specs.Clean.{least_of}
 use Rattle.machine_desc.proofs.Versions.{told}
 
 misaligned : (told 2 RamMisaligned 0 ≡ None) × (told 2 RamMisaligned 1 ≡ None) × (told 2 RamMisaligned 2 ≡ Some (Range RamMisaligned (pos 2)))
@@ -47,10 +49,10 @@ prefetch = (refl, refl, refl)
 
 -- ---- version 1 knows none of them, version 2 each; no other table has a key of theirs
 
-unknown_in_1 : map (is_known 1) optional_numbers ≡ false ∷ false ∷ false ∷ false ∷ false ∷ false ∷ false ∷ false ∷ []
+unknown_in_1 : list_any (is_known 1) optional_numbers ≡ false
 unknown_in_1 = refl
 
-known_in_2 : map (is_known 2) optional_numbers ≡ true ∷ true ∷ true ∷ true ∷ true ∷ true ∷ true ∷ true ∷ []
+known_in_2 : list_all (is_known 2) optional_numbers ≡ true
 known_in_2 = refl
 
 by_table : (some_key 1 keys Ram (codes "misaligned") ≡ false) × (some_key 2 keys Ram (codes "misaligned") ≡ true)
@@ -73,10 +75,15 @@ second_defence : (some_key 1 keys Stt (codes "defence") ≡ false) × (some_key 
 unfolding key_fault
 second_defence = (refl, refl, refl, refl, refl, refl)
 
--- ---- left out they have no fault, and in both versions these numbers
+-- ---- left out they have no fault, and in both versions the least of their numbers
 
-left_out : (map (number 1 no_members) optional_numbers ≡ map (λ n. Ok n) (0 ∷ 0 ∷ 0 ∷ 0 ∷ 0 ∷ 1 ∷ 2 ∷ 0 ∷ []))
-    × (map (number 2 no_members) optional_numbers ≡ map (λ n. Ok n) (0 ∷ 0 ∷ 0 ∷ 0 ∷ 0 ∷ 1 ∷ 2 ∷ 0 ∷ [])) × (key_fault 2 no_members CacheSecondWays ≡ None)
+abbrev left_out_in : ℕ → List (Result ℕ DescFault)
+left_out_in version = map (number version no_members) optional_numbers
+
+abbrev leasts : List (Result ℕ DescFault)
+leasts = map (λ key. Ok (least_of (row 1 key).values)) optional_numbers
+
+left_out : (left_out_in 1 ≡ leasts) × (left_out_in 2 ≡ leasts) × (key_fault 2 no_members CacheSecondWays ≡ None)
 unfolding key_fault
 left_out = (refl, refl, refl)
 

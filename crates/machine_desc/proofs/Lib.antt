@@ -1,4 +1,5 @@
 pub mod Versions
+pub mod Places
 pub mod Unknown
 pub mod Faultless
 pub mod Texts
@@ -9,6 +10,9 @@ pub mod Settings
 pub mod LeftOut
 pub mod Named
 pub mod EveryDesc
+pub mod Tested
+pub mod Newest
+pub mod Changed
 pub mod SameDesc
 pub mod SomeDesc
 pub mod Described

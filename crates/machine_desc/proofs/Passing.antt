@@ -1,18 +1,18 @@
 -- The number of a key without fault is one of the key's values.
-use Rattle.std.proofs.Common.{◌≡◌, ◌≤◌, ℕ, Option, Some, None, Result, Ok, Err, Bool, true, false, IsTrue, if◌then◌else◌, refl, ap, lit≤, arith}
+use Rattle.std.proofs.Common.{◌≡◌, ◌≤◌, ℕ, Option, Some, None, Result, Ok, Err, Bool, true, false, IsTrue, if◌then◌else◌, refl, ap, sym, subst, ◌∙◌, arith}
 use Rattle.std.specs.Prelude.{pos, negsuc, nat_le, ◌&&◌}
 use borrow.Author.Tests.{leb-true}
 use Rattle.toml.specs.Data.{Data, integer, Members}
 use Rattle.machine_desc.specs.declared.keys.Key.{Key}
-use Rattle.machine_desc.specs.declared.keys.Key.TheVariants.{RamMisaligned, PredictorDepend, PredictorHistory, PredictorReturns, CacheSecondSets, CacheSecondWays, CacheSecondLatency, CachePrefetch}
+use Rattle.machine_desc.specs.declared.keys.Key.TheVariants.{CoreFetchWidth}
 use Rattle.machine_desc.specs.declared.keys.Shape.{Shape}
 use Rattle.machine_desc.specs.declared.keys.Values.{Values}
 use Rattle.machine_desc.specs.declared.keys.Values.TheVariants.{Numbers, Optional, Models, Defences}
 use Rattle.machine_desc.specs.declared.fault.DescFault.{DescFault}
-use Rattle.machine_desc.specs.Table.{values_of}
+use Rattle.machine_desc.specs.Table.{values_of, row, is_known, where_known}
 use Rattle.machine_desc.specs.Description.{has_shape, value_at, number_in, number_or_least, number_of, number, Setting, OneNumber, set_to, setting_in, setting, fault_of, key_fault}
 use Rattle.machine_desc.specs.Clean.{PassesAs, has_numbers}
-use Rattle.machine_desc.specs.Ranges.{MayBe}
+use Rattle.machine_desc.specs.Allowed.{Fits, MayBe}
 use Rattle.machine_desc.proofs.Fitting.{fits_from_test}
 
 -- an answer is a number in this range and of this shape
@@ -47,16 +47,29 @@ least_within : (least most : ℕ) (known : Bool) → least ≤ most → least �
 least_within least most true h = h
 least_within least most false h = omega arith
 
+-- the least of a range is in the range, and of its shape
+abbrev has_least : Values → Bool
+has_least (Optional least most shape) = nat_le least most && has_shape shape least
+has_least _ = true
+
+by_range : (least most : ℕ) (known low fits : Bool) (shape : Shape) → nat_le least most ≡ low → has_shape shape least ≡ fits → IsTrue (low && fits)
+    → PassesAs (Optional least (if known then most else least) shape) least
+by_range least most known true true shape l f h = (omega arith, least_within least most known (leb-true least most l), f)
+by_range least most known true false shape l f h = absurd (cc)
+by_range least most known false fits shape l f h = absurd (cc)
+
+by_values : (known : Bool) (values : Values) → IsTrue (has_least values) → LeastPasses (where_known known values)
+by_values known (Numbers least most shape) h = tt
+by_values known (Optional least most shape) h = by_range least most known _ _ shape refl refl h
+by_values known (Models off) h = tt
+by_values known (Defences hold) h = tt
+
+each_has_least : (version : ℕ) (key : Key) → IsTrue (has_least (row version key).values)
+each_has_least v CoreFetchWidth = refl
+each_has_least v _ = refl
+
 least_passes : (version : ℕ) (key : Key) → LeastPasses (values_of version key)
-least_passes v RamMisaligned = (lit≤ tt, least_within _ _ (nat_le 2 v) (lit≤ tt), refl)
-least_passes v PredictorDepend = (lit≤ tt, least_within _ _ (nat_le 2 v) (lit≤ tt), refl)
-least_passes v PredictorHistory = (lit≤ tt, least_within _ _ (nat_le 2 v) (lit≤ tt), refl)
-least_passes v PredictorReturns = (lit≤ tt, least_within _ _ (nat_le 2 v) (lit≤ tt), refl)
-least_passes v CacheSecondSets = (lit≤ tt, least_within _ _ (nat_le 2 v) (lit≤ tt), refl)
-least_passes v CacheSecondWays = (lit≤ tt, least_within _ _ (nat_le 2 v) (lit≤ tt), refl)
-least_passes v CacheSecondLatency = (lit≤ tt, least_within _ _ (nat_le 2 v) (lit≤ tt), refl)
-least_passes v CachePrefetch = (lit≤ tt, least_within _ _ (nat_le 2 v) (lit≤ tt), refl)
-least_passes v _ = tt
+least_passes v key = by_values (is_known v key) (row v key).values (each_has_least v key)
 
 optional_found : (key : Key) (least most : ℕ) (shape : Shape) (v : Option Data) → PassesAs (Optional least most shape) least
     → fault_of (number_or_least key least most shape v) ≡ None → InRange least most shape (number_or_least key least most shape v)
@@ -85,15 +98,39 @@ value_found key (Optional least most shape) v g e w =
 value_found key (Models off) v g e w = absurd (cc)
 value_found key (Defences hold) v g e w = absurd (cc)
 
--- a key of a document is set to a number, one of the key's values
+-- the number of an answer, or none
+abbrev pub number_or_none : Result ℕ DescFault → ℕ
+number_or_none (Ok n) = n
+number_or_none (Err fault) = 0
+
+-- the number that a document has at a key, and none at a key of names
+abbrev pub number_at : ℕ → Members → Key → ℕ
+number_at v document key = number_or_none (number v document key)
+
+-- a key of a document is set to a number
 pub record Found (version : ℕ) (document : Members) (key : Key) : Type 0 where
-  pub value : ℕ
-  pub is : number version document key ≡ Ok value
-  pub set : setting version document key ≡ Ok (OneNumber value)
-  pub fits : MayBe version key value
+  pub is : number version document key ≡ Ok (number_at version document key)
+  pub set : setting version document key ≡ Ok (OneNumber (number_at version document key))
 
 pub found : (v : ℕ) (document : Members) (key : Key) → key_fault v document key ≡ None → IsTrue (has_numbers (values_of v key)) → Found v document key
 unfolding key_fault
 found v document key none w =
     let f = value_found key (values_of v key) (value_at document key) (least_passes v key) none w in
-    record { value = f.value; is = f.is; set = f.set; fits = fits_from_test (values_of v key) f.value f.passes }
+    let same : f.value ≡ number_at v document key = sym (ap number_or_none f.is) in
+    record { is = f.is ∙ ap Ok same; set = f.set ∙ ap (λ (n : ℕ). Ok (OneNumber n)) same }
+
+value_fits : (key : Key) (values : Values) (v : Option Data) → LeastPasses values → fault_of (setting_in key values v) ≡ None
+    → Fits values (number_or_none (number_of key values v))
+value_fits key (Numbers least most shape) v g e =
+    let f = value_found key (Numbers least most shape) v g e refl in
+    subst (λ (r : Result ℕ DescFault). Fits (Numbers least most shape) (number_or_none r)) (sym f.is) (fits_from_test (Numbers least most shape) f.value f.passes)
+value_fits key (Optional least most shape) v g e =
+    let f = value_found key (Optional least most shape) v g e refl in
+    subst (λ (r : Result ℕ DescFault). Fits (Optional least most shape) (number_or_none r)) (sym f.is) (fits_from_test (Optional least most shape) f.value f.passes)
+value_fits key (Models off) v g e = tt
+value_fits key (Defences hold) v g e = tt
+
+-- the number of a key without fault is one of the key's values
+pub may_be : (v : ℕ) (document : Members) (key : Key) → key_fault v document key ≡ None → MayBe v key (number_at v document key)
+unfolding key_fault
+may_be v document key none = value_fits key (values_of v key) (value_at document key) (least_passes v key) none

@@ -7,17 +7,18 @@ use Rattle.machine_desc.specs.declared.Desc.{Desc}
 use Rattle.machine_desc.specs.declared.SttModel.{SttModel}
 use Rattle.machine_desc.specs.declared.Defence.{Defence}
 use Rattle.machine_desc.specs.declared.keys.Key.{Key}
-use Rattle.machine_desc.specs.declared.keys.Key.TheVariants.{CoreFetchWidth, CoreRetireWidth, CoreRob, CoreStations, CoreLoads, CoreStores, CoreQueue, UnitsAlus, UnitsMulLatency, PredictorCounters, PredictorBtb, CacheSets, CacheWays, CacheLine, CacheHitLatency, CacheMissLatency, CacheMshrs, RamBase, RamSize, SttModel as ModelKey, RamMisaligned, PredictorDepend, PredictorHistory, PredictorReturns, CacheSecondSets, CacheSecondWays, CacheSecondLatency, CachePrefetch, SttDefence as DefenceKey}
+use Rattle.machine_desc.specs.declared.keys.Key.TheVariants.{CoreFetchWidth, CacheHitLatency, CacheMissLatency, CacheMshrs, CacheSecondSets, CacheSecondLatency, RamBase, RamSize, RamMisaligned, SttModel as ModelKey, SttDefence as DefenceKey}
 use Rattle.machine_desc.specs.declared.fault.DescFault.{DescFault}
 use Rattle.machine_desc.specs.declared.fault.DescFault.TheVariants.{Syntax}
 use Rattle.machine_desc.specs.Table.{values_of}
 use Rattle.machine_desc.specs.Description.{OneModel, OneDefence, set_to, setting, setting_of, settings, document_fault, version, Contents, contents, contents_or, contents_by, text_contents, description_of}
 use Rattle.machine_desc.specs.inner.Description.{model, defence}
 use Rattle.machine_desc.specs.Version.{IsKnown}
+use Rattle.machine_desc.specs.Ranges.{Meets, described, all_may_be}
 use Rattle.machine_desc.specs.Clean.{IsClean, has_numbers}
-use Rattle.machine_desc.proofs.Passing.{Found, found}
+use Rattle.machine_desc.proofs.Passing.{number_at, Found, found, may_be}
 use Rattle.machine_desc.proofs.Faultless.{is_clean, latencies, ends, registers, second}
-use Rattle.machine_desc.proofs.Versions.{is_known, most_by_version}
+use Rattle.machine_desc.proofs.Versions.{is_known}
 use Rattle.machine_desc.proofs.Settings.{contents_are, no_model, no_defence}
 use Rattle.machine_desc.proofs.Named.{model_known, defence_known}
 
@@ -32,135 +33,28 @@ module _ (v : ℕ) (known : IsKnown v) (document : Members) (m : SttModel) (t : 
   at : (key : Key) → IsTrue (has_numbers (values_of v key)) → Found v document key
   at key whole = found v document key (clean.keys key) whole
 
+  meets : Meets v (number_at v document) m t
+  meets = record {
+    version = known;
+    each = λ key. may_be v document key (clean.keys key);
+    latencies = latencies v document _ _ clean.latencies (at CacheHitLatency refl).is (at CacheMissLatency refl).is;
+    ends = ends v document _ _ clean.ends (at RamBase refl).is (at RamSize refl).is;
+    registers = registers v document _ _ clean.registers (at RamMisaligned refl).is (at CacheMshrs refl).is;
+    second = second v document _ _ _ _ clean.second (at CacheSecondSets refl).is (at CacheHitLatency refl).is (at CacheSecondLatency refl).is (at CacheMissLatency refl).is;
+    model = model_known v document m p;
+    defence = defence_known v known document t q;
+  }
+
   made : Desc
-  made =
-      record {
-        version = v;
-        core_fetch_width = (at CoreFetchWidth refl).value;
-        core_retire_width = (at CoreRetireWidth refl).value;
-        core_rob = (at CoreRob refl).value;
-        core_stations = (at CoreStations refl).value;
-        core_loads = (at CoreLoads refl).value;
-        core_stores = (at CoreStores refl).value;
-        core_queue = (at CoreQueue refl).value;
-        units_alus = (at UnitsAlus refl).value;
-        units_mul_latency = (at UnitsMulLatency refl).value;
-        predictor_counters = (at PredictorCounters refl).value;
-        predictor_btb = (at PredictorBtb refl).value;
-        predictor_depend = (at PredictorDepend refl).value;
-        predictor_history = (at PredictorHistory refl).value;
-        predictor_returns = (at PredictorReturns refl).value;
-        cache_sets = (at CacheSets refl).value;
-        cache_ways = (at CacheWays refl).value;
-        cache_line = (at CacheLine refl).value;
-        cache_hit_latency = (at CacheHitLatency refl).value;
-        cache_miss_latency = (at CacheMissLatency refl).value;
-        cache_mshrs = (at CacheMshrs refl).value;
-        cache_second_sets = (at CacheSecondSets refl).value;
-        cache_second_ways = (at CacheSecondWays refl).value;
-        cache_second_latency = (at CacheSecondLatency refl).value;
-        cache_prefetch = (at CachePrefetch refl).value;
-        ram_base = (at RamBase refl).value;
-        ram_size = (at RamSize refl).value;
-        ram_misaligned = (at RamMisaligned refl).value;
-        stt_model = m;
-        stt_defence = t;
-        some_version = known.0;
-        known_version = known.1;
-        some_fetches = (at CoreFetchWidth refl).fits.0;
-        few_fetches = (at CoreFetchWidth refl).fits.1;
-        some_retires = (at CoreRetireWidth refl).fits.0;
-        few_retires = (at CoreRetireWidth refl).fits.1;
-        some_entries = (at CoreRob refl).fits.0;
-        few_entries = (at CoreRob refl).fits.1;
-        some_stations = (at CoreStations refl).fits.0;
-        few_stations = (at CoreStations refl).fits.1;
-        some_loads = (at CoreLoads refl).fits.0;
-        few_loads = (at CoreLoads refl).fits.1;
-        some_stores = (at CoreStores refl).fits.0;
-        few_stores = (at CoreStores refl).fits.1;
-        some_queue = (at CoreQueue refl).fits.0;
-        short_queue = (at CoreQueue refl).fits.1;
-        some_alus = (at UnitsAlus refl).fits.0;
-        few_alus = (at UnitsAlus refl).fits.1;
-        some_mul_latency = (at UnitsMulLatency refl).fits.0;
-        short_mul_latency = (at UnitsMulLatency refl).fits.1;
-        some_counters = (at PredictorCounters refl).fits.0;
-        few_counters = (at PredictorCounters refl).fits.1;
-        counters_power = (at PredictorCounters refl).fits.2;
-        some_targets = (at PredictorBtb refl).fits.0;
-        few_targets = (at PredictorBtb refl).fits.1;
-        targets_power = (at PredictorBtb refl).fits.2;
-        some_sets = (at CacheSets refl).fits.0;
-        few_sets = (at CacheSets refl).fits.1;
-        sets_power = (at CacheSets refl).fits.2;
-        some_ways = (at CacheWays refl).fits.0;
-        few_ways = (at CacheWays refl).fits.1;
-        some_bytes = (at CacheLine refl).fits.0;
-        few_bytes = (at CacheLine refl).fits.1;
-        line_power = (at CacheLine refl).fits.2;
-        some_hit_latency = (at CacheHitLatency refl).fits.0;
-        short_hit_latency = (at CacheHitLatency refl).fits.1;
-        miss_above_hit = latencies v document _ _ clean.latencies (at CacheHitLatency refl).is (at CacheMissLatency refl).is;
-        short_miss_latency = (at CacheMissLatency refl).fits.1;
-        some_misses = (at CacheMshrs refl).fits.0;
-        few_misses = (at CacheMshrs refl).fits.1;
-        low_base = (at RamBase refl).fits.1;
-        base_aligned = (at RamBase refl).fits.2;
-        some_ram = (at RamSize refl).fits.0;
-        small_ram = (at RamSize refl).fits.1;
-        size_aligned = (at RamSize refl).fits.2;
-        ram_ends = ends v document _ _ clean.ends (at RamBase refl).is (at RamSize refl).is;
-        few_misaligned = most_by_version 0 1 v (at RamMisaligned refl).value known (at RamMisaligned refl).fits.1;
-        few_depend = most_by_version 0 1024 v (at PredictorDepend refl).value known (at PredictorDepend refl).fits.1;
-        depend_power = (at PredictorDepend refl).fits.2;
-        short_history = most_by_version 0 12 v (at PredictorHistory refl).value known (at PredictorHistory refl).fits.1;
-        few_returns = most_by_version 0 16 v (at PredictorReturns refl).value known (at PredictorReturns refl).fits.1;
-        few_second_sets = most_by_version 0 1024 v (at CacheSecondSets refl).value known (at CacheSecondSets refl).fits.1;
-        second_sets_power = (at CacheSecondSets refl).fits.2;
-        some_second_ways = (at CacheSecondWays refl).fits.0;
-        few_second_ways = most_by_version 1 8 v (at CacheSecondWays refl).value known (at CacheSecondWays refl).fits.1;
-        some_second_latency = (at CacheSecondLatency refl).fits.0;
-        short_second_latency = most_by_version 2 100 v (at CacheSecondLatency refl).value known (at CacheSecondLatency refl).fits.1;
-        few_prefetches = most_by_version 0 1 v (at CachePrefetch refl).value known (at CachePrefetch refl).fits.1;
-        two_lines = registers v document _ _ clean.registers (at RamMisaligned refl).is (at CacheMshrs refl).is;
-        second_between = second v document _ _ _ _ clean.second (at CacheSecondSets refl).is (at CacheHitLatency refl).is (at CacheSecondLatency refl).is (at CacheMissLatency refl).is;
-        model_known = model_known v document m p;
-        defence_known = defence_known v known document t q;
-      }
+  made = described v (number_at v document) m t (all_may_be meets)
 
   -- the description has at each key what the document sets the key to
   each_made : (key : Key) → setting v document key ≡ Ok (setting_of made key)
   unfolding made
-  each_made CoreFetchWidth = (at CoreFetchWidth refl).set
-  each_made CoreRetireWidth = (at CoreRetireWidth refl).set
-  each_made CoreRob = (at CoreRob refl).set
-  each_made CoreStations = (at CoreStations refl).set
-  each_made CoreLoads = (at CoreLoads refl).set
-  each_made CoreStores = (at CoreStores refl).set
-  each_made CoreQueue = (at CoreQueue refl).set
-  each_made UnitsAlus = (at UnitsAlus refl).set
-  each_made UnitsMulLatency = (at UnitsMulLatency refl).set
-  each_made PredictorCounters = (at PredictorCounters refl).set
-  each_made PredictorBtb = (at PredictorBtb refl).set
-  each_made CacheSets = (at CacheSets refl).set
-  each_made CacheWays = (at CacheWays refl).set
-  each_made CacheLine = (at CacheLine refl).set
-  each_made CacheHitLatency = (at CacheHitLatency refl).set
-  each_made CacheMissLatency = (at CacheMissLatency refl).set
-  each_made CacheMshrs = (at CacheMshrs refl).set
-  each_made RamBase = (at RamBase refl).set
-  each_made RamSize = (at RamSize refl).set
   each_made ModelKey = ap (set_to OneModel) p
-  each_made RamMisaligned = (at RamMisaligned refl).set
-  each_made PredictorDepend = (at PredictorDepend refl).set
-  each_made PredictorHistory = (at PredictorHistory refl).set
-  each_made PredictorReturns = (at PredictorReturns refl).set
-  each_made CacheSecondSets = (at CacheSecondSets refl).set
-  each_made CacheSecondWays = (at CacheSecondWays refl).set
-  each_made CacheSecondLatency = (at CacheSecondLatency refl).set
-  each_made CachePrefetch = (at CachePrefetch refl).set
   each_made DefenceKey = ap (set_to OneDefence) q
+  each_made CoreFetchWidth = (at CoreFetchWidth refl).set
+  each_made key = (at key refl).set
 
   version_made : made.version ≡ v
   unfolding made

@@ -1,15 +1,14 @@
--- A version that is read is known; what holds of a number in every version; what is known since version 2; and the
--- facts that pin versions and ranges.
-use Rattle.std.proofs.Common.{◌≡◌, ◌≤◌, ◌⊎◌, inl, inr, ℕ, Bool, true, false, if◌then◌else◌, Option, Some, None, Ok, Err, refl, sym, subst, arith, lit≤}
+-- A version that is read is known; what is known since version 2; and the facts that pin versions and ranges.
+use Rattle.std.proofs.Common.{◌≡◌, ◌⊎◌, inl, inr, ℕ, Bool, true, false, if◌then◌else◌, Option, Some, None, Ok, Err, refl, sym, subst, arith, lit≤}
 use borrow.Author.Tests.{leb-true}
-use Rattle.std.specs.Prelude.{pos, negsuc, nat_le, ◌&&◌, ◌==◌, codes}
+use Rattle.std.specs.Prelude.{pos, negsuc, nat_le, ◌&&◌, codes}
 use Rattle.toml.specs.Data.{Data, integer, string, Members, get_member}
 use Rattle.machine_desc.specs.declared.keys.Key.{Key}
 use Rattle.machine_desc.specs.declared.keys.Key.TheVariants.{CoreRob, CoreStations, CoreLoads, CoreStores, CoreQueue}
 use Rattle.machine_desc.specs.declared.fault.DescFault.{DescFault}
 use Rattle.machine_desc.specs.declared.fault.DescFault.TheVariants.{Kind, Version, Range}
 use Rattle.machine_desc.specs.declared.fault.Subject.TheVariants.{Version as OfVersion}
-use Rattle.machine_desc.specs.Version.{newest, IsKnown, most, knows_hold}
+use Rattle.machine_desc.specs.Version.{newest, IsKnown, knows_hold}
 use Rattle.machine_desc.specs.Table.{values_of, version_name}
 use Rattle.machine_desc.specs.Description.{version_in, version, fault_of, setting_in}
 
@@ -29,34 +28,18 @@ by_value (Some _) v q = absurd (cc)
 pub is_known : (document : Members) (v : ℕ) → version document ≡ Ok v → IsKnown v
 is_known document v q = by_value (get_member version_name document) v q
 
--- ---- a number that is in its version's range is in that of the newest
-
-by_first : (in_1 in_2 n : ℕ) (one : Bool) → in_1 ≤ in_2 → n ≤ (if one then in_1 else in_2) → n ≤ in_2
-by_first in_1 in_2 n true wider h = omega (arith, wider, h)
-by_first in_1 in_2 n false wider h = h
-
--- a number within the range of its version is within that of the newest
-pub most_up_to : (in_1 in_2 version n : ℕ) → in_1 ≤ in_2 → n ≤ most in_1 in_2 version → n ≤ in_2
-most_up_to in_1 in_2 version n wider h = by_first in_1 in_2 n (version == 1) wider h
-
 -- ---- a version knows what is there since version 2 where it isn't the first
 
 one_or_two : (v : ℕ) → IsKnown v → (v ≡ 1) ⊎ (v ≡ 2)
 one_or_two v k = grind (arith, k.0, k.1)
 
 -- what holds of both versions holds of each that is known
-in_each : (P : ℕ → Type 0) (v : ℕ) → IsKnown v → P 1 → P 2 → P v
+pub in_each : (P : ℕ → Type 0) (v : ℕ) → IsKnown v → P 1 → P 2 → P v
 in_each P v k one two = by_version (one_or_two v k)
   where
     by_version : (v ≡ 1) ⊎ (v ≡ 2) → P v
     by_version (inl e) = subst P (sym e) one
     by_version (inr e) = subst P (sym e) two
-
-pub most_if_known : (least greatest v n : ℕ) → IsKnown v → n ≤ most least greatest v → n ≤ (if nat_le 2 v then greatest else least)
-most_if_known least greatest v n k = in_each (λ x. n ≤ most least greatest x → n ≤ (if nat_le 2 x then greatest else least)) v k (λ h. h) (λ h. h)
-
-pub most_by_version : (least greatest v n : ℕ) → IsKnown v → n ≤ (if nat_le 2 v then greatest else least) → n ≤ most least greatest v
-most_by_version least greatest v n k = in_each (λ x. n ≤ (if nat_le 2 x then greatest else least) → n ≤ most least greatest x) v k (λ h. h) (λ h. h)
 
 pub hold_if_known : (v : ℕ) → IsKnown v → knows_hold v ≡ nat_le 2 v
 hold_if_known v k = in_each (λ x. knows_hold x ≡ nat_le 2 x) v k refl refl

@@ -1,28 +1,10 @@
 -- What it is for a document to have no fault.
-use Rattle.std.specs.Prelude.{◌≡◌, ◌≤◌, ◌%◌, ℕ, Bool, true, false, IsTrue, None}
+use Rattle.std.specs.Prelude.{◌≡◌, ◌≤◌, ℕ, Bool, true, false, IsTrue, None}
 use Rattle.toml.specs.Data.{Members}
 use Rattle.machine_desc.specs.declared.keys.Key.{Key}
 use Rattle.machine_desc.specs.declared.keys.Values.{Values}
 use Rattle.machine_desc.specs.declared.keys.Values.TheVariants.{Numbers, Optional, Models, Defences}
-use Rattle.machine_desc.specs.declared.keys.Shape.{Shape}
-use Rattle.machine_desc.specs.declared.keys.Shape.TheVariants.{Any, PowerOfTwo, ZeroOrPowerOfTwo, MultipleOf16}
-use Rattle.std.specs.Int.{IsPowerOfTwo}
-use Rattle.machine_desc.specs.Power.{IsZeroOrPower}
 use Rattle.machine_desc.specs.Description.{has_shape, key_fault, latency_fault, end_fault, registers_fault, second_fault}
-
--- what a shape asks of a number
-abbrev pub HasShape : Shape → ℕ → Type 0
-HasShape Any n = Unit {0}
-HasShape PowerOfTwo n = IsPowerOfTwo n
-HasShape ZeroOrPowerOfTwo n = IsZeroOrPower n
-HasShape MultipleOf16 n = n % 16 ≡ 0
-
--- a number is one of these values
-abbrev pub Fits : Values → ℕ → Type 0
-Fits (Numbers least most shape) n = (least ≤ n) × (n ≤ most) × HasShape shape n
-Fits (Optional least most shape) n = (least ≤ n) × (n ≤ most) × HasShape shape n
-Fits (Models off) n = Unit {0}
-Fits (Defences hold) n = Unit {0}
 
 -- a number is one of these values, where a test tells its shape
 abbrev pub PassesAs : Values → ℕ → Type 0
@@ -37,6 +19,13 @@ has_numbers (Numbers least most shape) = true
 has_numbers (Optional least most shape) = true
 has_numbers (Models off) = false
 has_numbers (Defences hold) = false
+
+-- the least of the numbers of a key, which one that may be left out then has; a key of names has none
+abbrev pub least_of : Values → ℕ
+least_of (Numbers least most shape) = least
+least_of (Optional least most shape) = least
+least_of (Models off) = 0
+least_of (Defences hold) = 0
 
 -- in this version no key has a fault, and none of the tests on several numbers finds one
 pub record IsClean (version : ℕ) (document : Members) : Type 0 where

@@ -11,7 +11,7 @@ use Rattle.machine_desc.specs.declared.Defence.{Defence}
 use Rattle.machine_desc.specs.declared.Defence.TheVariants.{Stt as SttDefence, Hold}
 use Rattle.machine_desc.specs.declared.keys.Section.{Section}
 use Rattle.machine_desc.specs.declared.keys.Key.{Key}
-use Rattle.machine_desc.specs.declared.keys.Key.TheVariants.{CoreFetchWidth, CoreRetireWidth, CoreRob, CoreStations, CoreLoads, CoreStores, CoreQueue, UnitsAlus, UnitsMulLatency, PredictorCounters, PredictorBtb, CacheSets, CacheWays, CacheLine, CacheHitLatency, CacheMissLatency, CacheMshrs, RamBase, RamSize, SttModel as ModelKey, RamMisaligned, PredictorDepend, PredictorHistory, PredictorReturns, CacheSecondSets, CacheSecondWays, CacheSecondLatency, CachePrefetch, SttDefence as DefenceKey}
+use Rattle.machine_desc.specs.declared.keys.Key.TheVariants.{CacheHitLatency, CacheMissLatency, CacheMshrs, RamBase, RamSize, SttModel as ModelKey, RamMisaligned, CacheSecondSets, CacheSecondLatency, SttDefence as DefenceKey}
 use Rattle.machine_desc.specs.declared.keys.Shape.{Shape}
 use Rattle.machine_desc.specs.declared.keys.Shape.TheVariants.{Any, PowerOfTwo, ZeroOrPowerOfTwo, MultipleOf16}
 use Rattle.machine_desc.specs.declared.keys.Values.{Values}
@@ -20,6 +20,7 @@ use Rattle.machine_desc.specs.declared.fault.Subject.TheVariants.{Version as OfV
 use Rattle.machine_desc.specs.declared.fault.DescFault.{DescFault}
 use Rattle.machine_desc.specs.declared.fault.DescFault.TheVariants.{Syntax, Unknown, Missing, Kind, Version, Range, Shape as WrongShape}
 use Rattle.machine_desc.specs.Version.{newest, comes_between}
+use Rattle.machine_desc.specs.Ranges.{key_number}
 use Rattle.machine_desc.specs.Table.{values_of, section_of, name_of, section_name, version_name, sections, keys, some_top, some_key}
 
 -- the first fault of a list of places, if there is one
@@ -246,35 +247,9 @@ pub record Contents : Type 0 where
 
 -- what a key is set to in a description
 abbrev pub setting_of : Desc → Key → Setting
-setting_of d CoreFetchWidth = OneNumber d.core_fetch_width
-setting_of d CoreRetireWidth = OneNumber d.core_retire_width
-setting_of d CoreRob = OneNumber d.core_rob
-setting_of d CoreStations = OneNumber d.core_stations
-setting_of d CoreLoads = OneNumber d.core_loads
-setting_of d CoreStores = OneNumber d.core_stores
-setting_of d CoreQueue = OneNumber d.core_queue
-setting_of d UnitsAlus = OneNumber d.units_alus
-setting_of d UnitsMulLatency = OneNumber d.units_mul_latency
-setting_of d PredictorCounters = OneNumber d.predictor_counters
-setting_of d PredictorBtb = OneNumber d.predictor_btb
-setting_of d CacheSets = OneNumber d.cache_sets
-setting_of d CacheWays = OneNumber d.cache_ways
-setting_of d CacheLine = OneNumber d.cache_line
-setting_of d CacheHitLatency = OneNumber d.cache_hit_latency
-setting_of d CacheMissLatency = OneNumber d.cache_miss_latency
-setting_of d CacheMshrs = OneNumber d.cache_mshrs
-setting_of d RamBase = OneNumber d.ram_base
-setting_of d RamSize = OneNumber d.ram_size
 setting_of d ModelKey = OneModel d.stt_model
-setting_of d RamMisaligned = OneNumber d.ram_misaligned
-setting_of d PredictorDepend = OneNumber d.predictor_depend
-setting_of d PredictorHistory = OneNumber d.predictor_history
-setting_of d PredictorReturns = OneNumber d.predictor_returns
-setting_of d CacheSecondSets = OneNumber d.cache_second_sets
-setting_of d CacheSecondWays = OneNumber d.cache_second_ways
-setting_of d CacheSecondLatency = OneNumber d.cache_second_latency
-setting_of d CachePrefetch = OneNumber d.cache_prefetch
 setting_of d DefenceKey = OneDefence d.stt_defence
+setting_of d key = OneNumber (key_number d key)
 
 -- the contents of a description
 abbrev pub contents : Desc → Contents

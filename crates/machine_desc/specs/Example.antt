@@ -1,102 +1,61 @@
 -- The example of docs/formats.md, "Machine descriptions".
-use Rattle.std.proofs.Common.{refl, inl, lit<, lit≤}
+use Rattle.std.proofs.Common.{ℕ, refl, inl, lit<, lit≤}
 use Rattle.machine_desc.specs.declared.Desc.{Desc}
 use Rattle.machine_desc.specs.declared.SttModel.TheVariants.{Spectre}
 use Rattle.machine_desc.specs.declared.Defence.TheVariants.{Stt}
+use Rattle.machine_desc.specs.declared.keys.Key.{Key}
+use Rattle.machine_desc.specs.declared.keys.Key.TheVariants.{CoreFetchWidth, CoreRetireWidth, CoreRob, CoreStations, CoreLoads, CoreStores, CoreQueue, UnitsAlus, UnitsMulLatency, PredictorCounters, PredictorBtb, CacheSets, CacheWays, CacheLine, CacheHitLatency, CacheMissLatency, CacheMshrs, RamBase, RamSize, PredictorDepend, CacheSecondSets, SttModel as ModelKey, SttDefence as DefenceKey}
+use Rattle.machine_desc.specs.Table.{row}
+use Rattle.machine_desc.specs.Allowed.{MayBe}
+use Rattle.machine_desc.specs.Ranges.{described, all_may_be}
+use Rattle.machine_desc.specs.Clean.{least_of}
 
--- the numbers of the example, and that each is what its key asks for
+-- the numbers of the example; those of the keys that it leaves out are their least
+abbrev pub example_number : Key → ℕ
+example_number CoreFetchWidth = 2
+example_number CoreRetireWidth = 2
+example_number CoreRob = 16
+example_number CoreStations = 8
+example_number CoreLoads = 4
+example_number CoreStores = 4
+example_number CoreQueue = 8
+example_number UnitsAlus = 2
+example_number UnitsMulLatency = 3
+example_number PredictorCounters = 16
+example_number PredictorBtb = 4
+example_number CacheSets = 2
+example_number CacheWays = 2
+example_number CacheLine = 16
+example_number CacheHitLatency = 2
+example_number CacheMissLatency = 10
+example_number CacheMshrs = 2
+example_number RamBase = 65536
+example_number RamSize = 65536
+example_number key = least_of (row 1 key).values
+
+-- each is what its key asks for
+abbrev pub each_is_asked : (key : Key) → MayBe 1 key (example_number key)
+each_is_asked PredictorCounters = (lit≤ tt, lit≤ tt, (4, refl))
+each_is_asked PredictorBtb = (lit≤ tt, lit≤ tt, (2, refl))
+each_is_asked CacheSets = (lit≤ tt, lit≤ tt, (1, refl))
+each_is_asked CacheLine = (lit≤ tt, lit≤ tt, (4, refl))
+each_is_asked RamBase = (lit≤ tt, lit≤ tt, refl)
+each_is_asked RamSize = (lit≤ tt, lit≤ tt, refl)
+each_is_asked PredictorDepend = (lit≤ tt, lit≤ tt, inl refl)
+each_is_asked CacheSecondSets = (lit≤ tt, lit≤ tt, inl refl)
+each_is_asked ModelKey = tt
+each_is_asked DefenceKey = tt
+each_is_asked _ = (lit≤ tt, lit≤ tt, tt)
+
+-- the description of the example
 abbrev pub example : Desc
-example = record {
-  version = 1;
-  core_fetch_width = 2;
-  core_retire_width = 2;
-  core_rob = 16;
-  core_stations = 8;
-  core_loads = 4;
-  core_stores = 4;
-  core_queue = 8;
-  units_alus = 2;
-  units_mul_latency = 3;
-  predictor_counters = 16;
-  predictor_btb = 4;
-  predictor_depend = 0;
-  predictor_history = 0;
-  predictor_returns = 0;
-  cache_sets = 2;
-  cache_ways = 2;
-  cache_line = 16;
-  cache_hit_latency = 2;
-  cache_miss_latency = 10;
-  cache_mshrs = 2;
-  cache_second_sets = 0;
-  cache_second_ways = 1;
-  cache_second_latency = 2;
-  cache_prefetch = 0;
-  ram_base = 65536;
-  ram_size = 65536;
-  ram_misaligned = 0;
-  stt_model = Spectre;
-  stt_defence = Stt;
-  some_version = lit≤ tt;
-  known_version = lit≤ tt;
-  some_fetches = lit≤ tt;
-  few_fetches = lit≤ tt;
-  some_retires = lit≤ tt;
-  few_retires = lit≤ tt;
-  some_entries = lit≤ tt;
-  few_entries = lit≤ tt;
-  some_stations = lit≤ tt;
-  few_stations = lit≤ tt;
-  some_loads = lit≤ tt;
-  few_loads = lit≤ tt;
-  some_stores = lit≤ tt;
-  few_stores = lit≤ tt;
-  some_queue = lit≤ tt;
-  short_queue = lit≤ tt;
-  some_alus = lit≤ tt;
-  few_alus = lit≤ tt;
-  some_mul_latency = lit≤ tt;
-  short_mul_latency = lit≤ tt;
-  some_counters = lit≤ tt;
-  few_counters = lit≤ tt;
-  counters_power = (4, refl);
-  some_targets = lit≤ tt;
-  few_targets = lit≤ tt;
-  targets_power = (2, refl);
-  some_sets = lit≤ tt;
-  few_sets = lit≤ tt;
-  sets_power = (1, refl);
-  some_ways = lit≤ tt;
-  few_ways = lit≤ tt;
-  some_bytes = lit≤ tt;
-  few_bytes = lit≤ tt;
-  line_power = (4, refl);
-  some_hit_latency = lit≤ tt;
-  short_hit_latency = lit≤ tt;
-  miss_above_hit = lit< tt;
-  short_miss_latency = lit≤ tt;
-  some_misses = lit≤ tt;
-  few_misses = lit≤ tt;
-  low_base = lit≤ tt;
-  base_aligned = refl;
-  some_ram = lit≤ tt;
-  small_ram = lit≤ tt;
-  size_aligned = refl;
-  ram_ends = lit≤ tt;
-  few_misaligned = lit≤ tt;
-  few_depend = lit≤ tt;
-  depend_power = inl refl;
-  short_history = lit≤ tt;
-  few_returns = lit≤ tt;
-  few_second_sets = lit≤ tt;
-  second_sets_power = inl refl;
-  some_second_ways = lit≤ tt;
-  few_second_ways = lit≤ tt;
-  some_second_latency = lit≤ tt;
-  short_second_latency = lit≤ tt;
-  few_prefetches = lit≤ tt;
-  two_lines = lit≤ tt;
-  second_between = refl;
-  model_known = refl;
-  defence_known = refl;
-}
+example = described 1 example_number Spectre Stt (all_may_be (record {
+  version = (lit≤ tt, lit≤ tt);
+  each = each_is_asked;
+  latencies = lit< tt;
+  ends = lit≤ tt;
+  registers = lit≤ tt;
+  second = refl;
+  model = refl;
+  defence = refl;
+}))

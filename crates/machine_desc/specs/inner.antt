@@ -1,3 +1,4 @@
 -- What only clauses of the code and lemmas cite: no promise of the programs rests on it.
+pub mod Allowed
 pub mod Description
 pub mod Power

@@ -4,11 +4,8 @@
 //! faults are looked for. `specs/Table.antt` is that table, and `specs/Description.antt` says what a text describes.
 #![tactic(auto)]
 
-ghost use Rattle.std.specs.Prelude.{◌≡◌, ◌+◌, ◌*◌, ◌%◌, ◌^◌, ◌<◌, ◌≤◌, IsTrue};
-ghost use Rattle.std.specs.Int.{IsPowerOfTwo};
-ghost use Rattle.machine_desc.specs.Power.{IsZeroOrPower};
-ghost use Rattle.machine_desc.specs.inner.Power.{power_prop, zero_or_power_prop};
-ghost use Rattle.machine_desc.specs.Version.{most, knows_model, knows_defence, comes_between};
+ghost use Rattle.machine_desc.specs.Allowed.{AreDesc};
+ghost use Rattle.machine_desc.specs.inner.Allowed.{are_desc_prop};
 
 mod bounds;
 mod document;
@@ -119,66 +116,10 @@ pub struct Desc {
     pub stt_model: SttModel,
     /// What becomes of a tainted value.
     pub stt_defence: Defence,
-    pub ghost some_version: { 1 ≤ version },
-    pub ghost known_version: { version ≤ 2 },
-    pub ghost some_fetches: { 1 ≤ core_fetch_width },
-    pub ghost few_fetches: { core_fetch_width ≤ 4 },
-    pub ghost some_retires: { 1 ≤ core_retire_width },
-    pub ghost few_retires: { core_retire_width ≤ 4 },
-    pub ghost some_entries: { 4 ≤ core_rob },
-    pub ghost few_entries: { core_rob ≤ most 64 192 version },
-    pub ghost some_stations: { 2 ≤ core_stations },
-    pub ghost few_stations: { core_stations ≤ most 32 96 version },
-    pub ghost some_loads: { 1 ≤ core_loads },
-    pub ghost few_loads: { core_loads ≤ most 16 64 version },
-    pub ghost some_stores: { 1 ≤ core_stores },
-    pub ghost few_stores: { core_stores ≤ most 16 48 version },
-    pub ghost some_queue: { 1 ≤ core_queue },
-    pub ghost short_queue: { core_queue ≤ most 16 32 version },
-    pub ghost some_alus: { 1 ≤ units_alus },
-    pub ghost few_alus: { units_alus ≤ 4 },
-    pub ghost some_mul_latency: { 1 ≤ units_mul_latency },
-    pub ghost short_mul_latency: { units_mul_latency ≤ 8 },
-    pub ghost some_counters: { 2 ≤ predictor_counters },
-    pub ghost few_counters: { predictor_counters ≤ 4096 },
-    pub ghost counters_power: { IsPowerOfTwo predictor_counters } by { power_prop predictor_counters },
-    pub ghost some_targets: { 1 ≤ predictor_btb },
-    pub ghost few_targets: { predictor_btb ≤ 256 },
-    pub ghost targets_power: { IsPowerOfTwo predictor_btb } by { power_prop predictor_btb },
-    pub ghost some_sets: { 1 ≤ cache_sets },
-    pub ghost few_sets: { cache_sets ≤ 256 },
-    pub ghost sets_power: { IsPowerOfTwo cache_sets } by { power_prop cache_sets },
-    pub ghost some_ways: { 1 ≤ cache_ways },
-    pub ghost few_ways: { cache_ways ≤ 8 },
-    pub ghost some_bytes: { 4 ≤ cache_line },
-    pub ghost few_bytes: { cache_line ≤ 64 },
-    pub ghost line_power: { IsPowerOfTwo cache_line } by { power_prop cache_line },
-    pub ghost some_hit_latency: { 1 ≤ cache_hit_latency },
-    pub ghost short_hit_latency: { cache_hit_latency ≤ 8 },
-    pub ghost miss_above_hit: { cache_hit_latency < cache_miss_latency },
-    pub ghost short_miss_latency: { cache_miss_latency ≤ 200 },
-    pub ghost some_misses: { 1 ≤ cache_mshrs },
-    pub ghost few_misses: { cache_mshrs ≤ 8 },
-    pub ghost low_base: { ram_base ≤ 4294963200 },
-    pub ghost base_aligned: { ram_base % 16 ≡ 0 },
-    pub ghost some_ram: { 4096 ≤ ram_size },
-    pub ghost small_ram: { ram_size ≤ 16777216 },
-    pub ghost size_aligned: { ram_size % 16 ≡ 0 },
-    pub ghost ram_ends: { ram_base + ram_size ≤ 2 ^ 32 },
-    pub ghost few_misaligned: { ram_misaligned ≤ most 0 1 version },
-    pub ghost few_depend: { predictor_depend ≤ most 0 1024 version },
-    pub ghost depend_power: { IsZeroOrPower predictor_depend } by { zero_or_power_prop predictor_depend },
-    pub ghost short_history: { predictor_history ≤ most 0 12 version },
-    pub ghost few_returns: { predictor_returns ≤ most 0 16 version },
-    pub ghost few_second_sets: { cache_second_sets ≤ most 0 1024 version },
-    pub ghost second_sets_power: { IsZeroOrPower cache_second_sets } by { zero_or_power_prop cache_second_sets },
-    pub ghost some_second_ways: { 1 ≤ cache_second_ways },
-    pub ghost few_second_ways: { cache_second_ways ≤ most 1 8 version },
-    pub ghost some_second_latency: { 2 ≤ cache_second_latency },
-    pub ghost short_second_latency: { cache_second_latency ≤ most 2 100 version },
-    pub ghost few_prefetches: { cache_prefetch ≤ most 0 1 version },
-    pub ghost two_lines: { 2 * ram_misaligned ≤ cache_mshrs },
-    pub ghost second_between: { IsTrue (comes_between cache_second_sets cache_hit_latency cache_second_latency cache_miss_latency) },
-    pub ghost model_known: { IsTrue (knows_model version stt_model) },
-    pub ghost defence_known: { IsTrue (knows_defence version stt_defence) },
+    pub ghost stands: { AreDesc
+        version core_fetch_width core_retire_width core_rob core_stations core_loads core_stores
+        core_queue units_alus units_mul_latency predictor_counters predictor_btb predictor_depend
+        predictor_history predictor_returns cache_sets cache_ways cache_line cache_hit_latency
+        cache_miss_latency cache_mshrs cache_second_sets cache_second_ways cache_second_latency
+        cache_prefetch ram_base ram_size ram_misaligned stt_model stt_defence } by { are_desc_prop },
 }

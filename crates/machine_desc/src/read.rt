@@ -6,7 +6,7 @@ ghost use Rattle.toml.specs.View.{table_view};
 ghost use Rattle.machine_desc.specs.declared.keys.Key.{Key};
 ghost use Rattle.machine_desc.specs.Table.{values_of};
 ghost use Rattle.machine_desc.specs.Clean.{IsClean, has_numbers};
-ghost use Rattle.machine_desc.specs.Ranges.{MayBe};
+ghost use Rattle.machine_desc.specs.Allowed.{MayBe};
 ghost use Rattle.machine_desc.specs.Version.{IsKnown, comes_between};
 ghost use Rattle.machine_desc.specs.Description.{first, version, top_fault, name_fault, section_fault, sections_fault, key_fault, keys_fault, number, latency_fault, end_fault, registers_fault, second_fault, document_contents, document_fault, OneNumber, setting, setting_of, contents, description_of, Describes};
 ghost use Rattle.machine_desc.specs.inner.Description.{checked, model, defence};

@@ -9,6 +9,7 @@ use Rattle.rv_types.specs.declared.Kind.{Kind}
 use Rattle.rv_types.specs.declared.Kind.TheVariants.{Mul, Div, Load, Store}
 use Rattle.machine_desc.specs.declared.Desc.{Desc}
 use Rattle.machine_desc.specs.Ranges.{IsDesc}
+use Rattle.machine_desc.proofs.EveryDesc.{none_or_between}
 use Rattle.window_model.specs.declared.Entry.{Entry}
 use Rattle.window_model.specs.declared.Item.{Item}
 use Rattle.window_model.specs.declared.Miss.{Miss}
@@ -104,7 +105,7 @@ latency_soon d now i sets line = by_level (second_has d now.second line) refl
 
     by_level : (b : Bool) → second_has d now.second line ≡ b → let t = (if not b then d.cache_miss_latency else d.cache_second_latency) in (0 < t) × (t ≤ d.cache_miss_latency)
     by_level false h = (omega (arith, i.miss_latency.0.0), omega arith)
-    by_level true h = between i.second_latency.1 h
+    by_level true h = between (none_or_between d.cache_second_sets d.cache_hit_latency d.cache_second_latency d.cache_miss_latency i.second_latency.1) h
 
 register_soon : (d : Desc) (now : Around) → IsDesc d → length now.second ≡ d.cache_second_sets → (line : ℕ) → IsPending d now.cycle now.cycle (register d now.cycle (request d now line))
 register_soon d now i sets line = let l = latency_soon d now i sets line in (omega (arith, l.0), omega (arith, l.1))

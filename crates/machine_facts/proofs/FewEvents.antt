@@ -1,10 +1,11 @@
 -- A cycle has few events, and raises serials and the count of the retired by no more than four.
-use Rattle.std.proofs.Common.{◌≡◌, ℕ, ◌+◌, ◌*◌, ◌≤◌, ◌++◌, length, Option, Some, None, refl, ◌∙◌, arith, lit≤}
+use Rattle.std.proofs.Common.{◌≡◌, ℕ, ◌+◌, ◌*◌, ◌≤◌, ◌++◌, length, Option, Some, None, refl, ◌∙◌, arith}
 use Rattle.rv_types.specs.Memory.{Code, Ram}
 use Rattle.rv_types.specs.declared.End.{End}
 use Rattle.machine_desc.specs.declared.Desc.{Desc}
 use Rattle.machine_desc.specs.Ranges.{IsDesc}
-use Rattle.machine_desc.proofs.Versions.{most_up_to}
+use Rattle.machine_desc.specs.declared.keys.Key.TheVariants.{CoreRob}
+use Rattle.machine_desc.proofs.Newest.{in_newest}
 use Rattle.window_model.specs.State.{Machine, After, opening, then_does, nothing}
 use Rattle.window_model.specs.Fill.{fill, complete}
 use Rattle.window_model.specs.Resolve.{resolve}
@@ -80,7 +81,7 @@ few_events d code x i s =
     let n = length x.misses + (length x.window + 7) in
     let few = retire_few d f.machine (sized_at_retire d x i s).call_alone in
     let w = joined n (d.core_retire_width + 2) f.events r.events (before_adds d x1).events few in
-    let rob = most_up_to 64 192 d.version d.core_rob (lit≤ tt) i.rob.1 in
+    let rob : d.core_rob ≤ 192 = (in_newest d CoreRob).1 in
     let all = joined (n + (d.core_retire_width + 2)) (d.units_alus + 7 + (d.core_fetch_width + d.core_fetch_width)) (f.events ++ r.events) k.events w (after_adds d code r.machine.end r.machine).events in
     small (length ((f.events ++ r.events) ++ k.events)) (length x.misses) (length x.window) d.core_retire_width d.units_alus d.core_fetch_width all
     (omega (arith, s.misses, i.mshrs.1)) (omega (arith, s.entries, rob)) i.retire_width.1 i.alus.1 i.fetch_width.1

@@ -1,7 +1,7 @@
 -- What a load asks of the older stores is one test in both versions: in version 1 a store has both its parts or none,
 -- and no load passes one.
 use Rattle.std.proofs.Common.{◌≡◌, ◌≤◌, ℕ, zero, suc, Bool, true, false, not, ◌&&◌, ◌||◌, List, [], ◌∷◌, refl, ap, ap₂, sym, ◌∙◌, arith, eqb-true}
-use Rattle.std.specs.Prelude.{if◌then◌else◌, nat_lt, ◌==◌}
+use Rattle.std.specs.Prelude.{if◌then◌else◌, nat_lt, nat_le, ◌==◌}
 use Rattle.std.specs.List.{AllByRecursion as Each, list_any}
 use Rattle.machine_desc.specs.declared.Desc.{Desc}
 use Rattle.window_model.specs.declared.Entry.{Entry}
@@ -19,9 +19,9 @@ use Rattle.machine_facts.specs.Timely.{WaitsOrDone}
 
 -- ---- version 1 has no bits of dependence
 
-no_bits : (b : Bool) (n more : ℕ) → b ≡ true → n ≤ (if b then 0 else more) → n ≡ 0
-no_bits true n more q h = omega (arith, h)
-no_bits false n more q h = absurd (cc)
+no_bits : (b : Bool) (n more : ℕ) → b ≡ false → n ≤ (if b then more else 0) → n ≡ 0
+no_bits true n more q h = absurd (cc)
+no_bits false n more q h = omega (arith, h)
 
 no_bit : (n : ℕ) → n ≡ 0 → nat_lt 0 n ≡ false
 no_bit zero h = refl
@@ -29,7 +29,7 @@ no_bit (suc n) h = absurd (cc)
 
 -- no load passes a store in version 1
 pub not_passing : (d : Desc) → d.version ≡ 1 → loads_pass d ≡ false
-not_passing d one = no_bit d.predictor_depend (no_bits (d.version == 1) d.predictor_depend _ (ap (λ v. v == 1) one) d.few_depend)
+not_passing d one = no_bit d.predictor_depend (no_bits (nat_le 2 d.version) d.predictor_depend _ (ap (λ v. nat_le 2 v) one) d.stands.depend.1)
 
 pub passes_none : (d : Desc) (now : Around) (e : Entry) → d.version ≡ 1 → passes_stores d now e ≡ false
 passes_none d now e one = ap (λ p. p && not (waits_for_stores d now.dependence e.item.pc)) (not_passing d one)

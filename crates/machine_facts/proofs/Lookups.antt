@@ -199,10 +199,10 @@ leave_in_turn d now low up =
 
 -- the line behind the last of an access's lines is none of them
 behind_all : (d : Desc) (now : Around) (low : ℕ) (up : Option ℕ) → OneOrTwo low up → NeitherIs (line_behind d (looked d now low up)) low up
-behind_all d now _ _ (One line) = let f = line_found d now line in λ q. omega (arith, q, f, d.some_bytes)
+behind_all d now _ _ (One line) = let f = line_found d now line in λ q. omega (arith, q, f, d.stands.line.0)
 behind_all d now _ _ (Two low high l) =
     let f = line_found d now high in
-    (λ q. omega (arith, q, l, f, d.some_bytes), λ q. omega (arith, q, f, d.some_bytes))
+    (λ q. omega (arith, q, l, f, d.stands.line.0), λ q. omega (arith, q, f, d.stands.line.0))
 
 module _ (d : Desc) (now : Around) (low : ℕ) (up : Option ℕ) (are : OneOrTwo low up) where
   abbrev t : InTurn

@@ -51,12 +51,12 @@ module _ (d : Desc) (now : Around) where
   lines_more _ _ more (One line) h =
       let f = line_found line in
       subst (λ rs. AllFresh d now 0 (rs ++ more)) (sym (append-nil (asked line)))
-      (line_more 0 line more (omega arith) (from_lower (suc line) _ more (omega (arith, f, d.some_bytes)) h))
+      (line_more 0 line more (omega arith) (from_lower (suc line) _ more (omega (arith, f, d.stands.line.0)) h))
   lines_more _ _ more (Two low high l) h =
       let f = line_found high in
       subst (AllFresh d now 0) (sym (append_assoc (asked low) (asked high) more))
       (line_more 0 low (asked high ++ more) (omega arith)
-      (line_more (suc low) high more (omega (arith, l)) (from_lower (suc high) _ more (omega (arith, f, d.some_bytes)) h)))
+      (line_more (suc low) high more (omega (arith, l)) (from_lower (suc high) _ more (omega (arith, f, d.stands.line.0)) h)))
 
   module _ (a n : ℕ) where
     abbrev found : Lines

@@ -154,7 +154,7 @@ unfolding memory
 fault_loads_secret d spectre n =
     let retired = (trace d (code_of fault) 0x10000 (memory 0 0) n).retired in
     let more = retired + d.core_rob - 3 in
-    let steps : retired + d.core_rob ≡ three_more more = omega (arith, d.some_entries) in
+    let steps : retired + d.core_rob ≡ three_more more = omega (arith, d.stands.rob.0) in
     let loaded = loads Spectre fault (three_more more) in
     let is : loaded_by d fault n ≡ loaded = ap₂ (λ m k. loads m fault k) spectre steps in (
       ap (list_any (λ a. a == 0x1fff8)) is ∙ fault_passed more,

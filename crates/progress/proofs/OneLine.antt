@@ -75,7 +75,7 @@ registers_enough d ram a op i allows h = by_rule ram.misaligned refl
     by_rule : (any : Bool) → ram.misaligned ≡ any → length (lines_of d a (size_of op)) ≤ d.cache_mshrs
     by_rule true q = let two = allows q in let few = lines_few d a (size_of op) in omega (arith, few, two, i.misaligned.1)
     by_rule false q =
-        let four = fours d.cache_line d.line_power (omega (arith, d.some_bytes)) in
+        let four = fours d.cache_line d.stands.line.2 (omega (arith, d.stands.line.0)) in
         let k = width_in_line op d.cache_line four.0 four.1 in
         let one = one_line d a (size_of op) k.0 k.1 k.2 (at_multiple ram a (size_of op) q h) in
         omega (arith, one, i.mshrs.0)

@@ -246,7 +246,7 @@ few_told d s0 s told more r h =
     let a = length-append s.row.events (told ++ more) in
     let b = length-append told more in
     let c = length-append s0.row.events (phase d s0 (opening d 0 s0.ram)).events in
-    omega (arith, few, all, a, b, c, d.few_retires)
+    omega (arith, few, all, a, b, c, d.stands.retire_width.1)
 
 -- the row has room for the events of a head that retires
 pub tell_room : (d : Desc) (s0 : Parts) (i : ℕ) (stored : Bool) (s : Parts) (e : Entry) (told : List Event) → RetiresOn d s0 (d.core_retire_width - i) stored s → Ready d s0 → i < d.core_retire_width →

@@ -267,7 +267,7 @@ pub lines_are : (d : Desc) (a n : ℕ) → 0 < n → OneOrTwo (line_of d a) (upp
 lines_are d a n some = by_same (line_of d a == line_of d (a + n - 1)) refl
   where
     first : a / d.cache_line ≤ (a + n - 1) / d.cache_line
-    first = let l = div-mul-le_self a d.cache_line in le-div (a / d.cache_line) (a + n - 1) d.cache_line (omega (arith, d.some_bytes)) (omega (arith, l, some))
+    first = let l = div-mul-le_self a d.cache_line in le-div (a / d.cache_line) (a + n - 1) d.cache_line (omega (arith, d.stands.line.0)) (omega (arith, l, some))
 
     up : line_of d a ≤ line_of d (a + n - 1)
     up = mul-le-mul_right d.cache_line first

@@ -130,4 +130,4 @@ retire_few d x alone = by_calls (count_by calls x.window) refl
   where
     by_calls : (n : ℕ) → count_by calls x.window ≡ n → length (retire d x).events ≤ d.core_retire_width + 2
     by_calls zero h = without_calls d x (count_is calls x.window ∙ h)
-    by_calls (suc n) h = let w = by_window d x in let a = alone (omega (arith, h)) in omega (arith, w, a, d.some_retires)
+    by_calls (suc n) h = let w = by_window d x in let a = alone (omega (arith, h)) in omega (arith, w, a, d.stands.retire_width.0)

@@ -3,7 +3,7 @@
 use Rattle.std.proofs.Common.{◌≡◌, ℕ, zero, suc, ◌^◌, refl, inl, inr, lit≤, arith}
 use Rattle.machine_desc.specs.declared.keys.Key.TheVariants.{CoreRob, CacheSecondLatency, PredictorCounters, PredictorDepend, RamSize}
 use Rattle.machine_desc.specs.Power.{IsZeroOrPower}
-use Rattle.machine_desc.specs.Ranges.{MayBe}
+use Rattle.machine_desc.specs.Allowed.{MayBe}
 
 -- ---- the least and the most may be, and no number before or behind
 

@@ -1,11 +1,17 @@
 -- Global history and the return stack.
-use Rattle.std.proofs.Common.{◌≡◌, ℕ, List, [], ◌∷◌, refl, Some, lit≤}
+use Rattle.std.proofs.Common.{◌≡◌, ℕ, List, [], ◌∷◌, refl, Some, lit<, lit≤, arith}
 use Rattle.std.specs.Prelude.{◌≤◌}
 use Rattle.std.specs.Int.Count.{count_leading_zeros}
 use Rattle.rv_types.specs.Decode.{decode}
 use Rattle.rv_types.specs.declared.End.TheVariants.{Exit}
-use Rattle.machine_desc.specs.Example.{example}
 use Rattle.machine_desc.specs.declared.Desc.{Desc}
+use Rattle.machine_desc.specs.declared.SttModel.TheVariants.{Spectre}
+use Rattle.machine_desc.specs.declared.Defence.TheVariants.{Stt}
+use Rattle.machine_desc.specs.declared.keys.Key.{Key}
+use Rattle.machine_desc.specs.declared.keys.Key.TheVariants.{PredictorHistory, PredictorReturns}
+use Rattle.machine_desc.specs.Allowed.{MayBe}
+use Rattle.machine_desc.proofs.EveryDesc.{each_is}
+use Rattle.machine_desc.specs.Ranges.{key_number, described, all_may_be}
 use Rattle.window_model.specs.declared.Event.TheVariants.{Done, Res, Bp, Bt, Sq, Ret, Call, Alu, Ren, Fet}
 use Rattle.window_model.specs.declared.Way.TheVariants.{Taken, NotTaken, Jump}
 use Rattle.window_model.specs.Row.{Row}
@@ -13,32 +19,31 @@ use Rattle.window_model.specs.Cycle.{trace, cycle}
 use Rattle.window_model.specs.Retire.{retire}
 use Rattle.window_model.specs.Rename.{rename}
 use Rattle.window_model.specs.Fetch.{fetch}
+use Rattle.worked_runs.proofs.Version2.{example_2}
 use Rattle.window_model.proofs.Worked.{code_of, memory, row, quiet}
 
 -- the example description in version 2, with a history of so many directions and a stack of so many addresses
+abbrev remembering_number : ℕ → ℕ → Key → ℕ
+remembering_number history returns PredictorHistory = history
+remembering_number history returns PredictorReturns = returns
+remembering_number history returns key = key_number example_2 key
+
+each_remembering : (history returns : ℕ) → history ≤ 12 → returns ≤ 16 → (key : Key) → MayBe 2 key (remembering_number history returns key)
+each_remembering history returns few_directions few_addresses PredictorHistory = (omega arith, few_directions, tt)
+each_remembering history returns few_directions few_addresses PredictorReturns = (omega arith, few_addresses, tt)
+each_remembering history returns few_directions few_addresses key = each_is example_2 key
+
 abbrev remembering : (history returns : ℕ) → history ≤ 12 → returns ≤ 16 → Desc
-remembering history returns few_directions few_addresses = record example {
-  version = 2;
-  predictor_history = history;
-  predictor_returns = returns;
-  some_version = lit≤ tt;
-  known_version = lit≤ tt;
-  few_entries = lit≤ tt;
-  few_stations = lit≤ tt;
-  few_loads = lit≤ tt;
-  few_stores = lit≤ tt;
-  short_queue = lit≤ tt;
-  few_misaligned = lit≤ tt;
-  few_depend = lit≤ tt;
-  short_history = few_directions;
-  few_returns = few_addresses;
-  few_second_sets = lit≤ tt;
-  few_second_ways = lit≤ tt;
-  short_second_latency = lit≤ tt;
-  few_prefetches = lit≤ tt;
-  model_known = refl;
-  defence_known = refl;
-}
+remembering history returns few_directions few_addresses = described 2 (remembering_number history returns) Spectre Stt (all_may_be (record {
+  version = (lit≤ tt, lit≤ tt);
+  each = each_remembering history returns few_directions few_addresses;
+  latencies = lit< tt;
+  ends = lit≤ tt;
+  registers = lit≤ tt;
+  second = refl;
+  model = refl;
+  defence = refl;
+}))
 
 -- jal x1,+12; addi x17,x0,93; ecall; jalr x0,0(x1)
 abbrev call_and_return : List ℕ

@@ -1,15 +1,22 @@
 -- Each size at its most: what the largest description has room for, and what it hasn't (docs/formats.md, "Keys" and
 -- "Keys that may be left out"; docs/machine.md).
-use Rattle.std.proofs.Common.{◌≡◌, ℕ, List, [], ◌∷◌, Some, None, refl, inr, lit<, lit≤}
+use Rattle.std.proofs.Common.{◌≡◌, ℕ, List, [], ◌∷◌, Some, None, IsTrue, refl}
 use Rattle.std.specs.Prelude.{Bool, true, false, ◌*◌, length, map, replicate, slice_index_or}
 use Rattle.std.specs.List.{fold}
 use Rattle.std.specs.Option.{option_len}
+use lib.Count.{ones}
 use Rattle.rv_types.specs.Decode.{decode}
 use Rattle.rv_types.specs.Kind.{kind_of}
 use Rattle.machine_desc.specs.declared.Desc.{Desc}
 use Rattle.machine_desc.specs.declared.SttModel.TheVariants.{Spectre}
 use Rattle.machine_desc.specs.declared.Defence.TheVariants.{Stt}
+use Rattle.machine_desc.specs.declared.keys.Key.{Key}
+use Rattle.machine_desc.specs.declared.keys.Key.TheVariants.{RamBase, RamSize}
+use Rattle.machine_desc.specs.declared.keys.Values.{Values}
+use Rattle.machine_desc.specs.declared.keys.Values.TheVariants.{Numbers, Optional}
+use Rattle.machine_desc.specs.Table.{values_of}
 use Rattle.machine_desc.specs.Ranges.{bound}
+use Rattle.machine_desc.proofs.Tested.{all_pass, tested}
 use Rattle.window_model.specs.declared.Entry.{Entry}
 use Rattle.window_model.specs.declared.Item.{Item}
 use Rattle.window_model.specs.declared.Progress.{Progress}
@@ -29,102 +36,24 @@ use Rattle.window_model.specs.SecondLevel.{second_set_of, second_with_line}
 use Rattle.window_model.specs.State.{Machine, opening, set_of}
 use Rattle.window_model.proofs.Worked.{memory}
 
+-- the most of a key's numbers
+abbrev most_of : Values → ℕ
+most_of (Numbers least most shape) = most
+most_of (Optional least most shape) = most
+most_of _ = 0
+
 -- each number the most that version 2 knows, but for RAM's
+abbrev largest_number : Key → ℕ
+largest_number RamBase = 65536
+largest_number RamSize = 65536
+largest_number key = most_of (values_of 2 key)
+
+largest_passes : IsTrue (all_pass 2 largest_number Spectre Stt)
+unfolding ones
+largest_passes = refl
+
 abbrev largest : Desc
-largest = record {
-  version = 2;
-  core_fetch_width = 4;
-  core_retire_width = 4;
-  core_rob = 192;
-  core_stations = 96;
-  core_loads = 64;
-  core_stores = 48;
-  core_queue = 32;
-  units_alus = 4;
-  units_mul_latency = 8;
-  predictor_counters = 4096;
-  predictor_btb = 256;
-  predictor_depend = 1024;
-  predictor_history = 12;
-  predictor_returns = 16;
-  cache_sets = 256;
-  cache_ways = 8;
-  cache_line = 64;
-  cache_hit_latency = 8;
-  cache_miss_latency = 200;
-  cache_mshrs = 8;
-  cache_second_sets = 1024;
-  cache_second_ways = 8;
-  cache_second_latency = 100;
-  cache_prefetch = 1;
-  ram_base = 65536;
-  ram_size = 65536;
-  ram_misaligned = 1;
-  stt_model = Spectre;
-  stt_defence = Stt;
-  some_version = lit≤ tt;
-  known_version = lit≤ tt;
-  some_fetches = lit≤ tt;
-  few_fetches = lit≤ tt;
-  some_retires = lit≤ tt;
-  few_retires = lit≤ tt;
-  some_entries = lit≤ tt;
-  few_entries = lit≤ tt;
-  some_stations = lit≤ tt;
-  few_stations = lit≤ tt;
-  some_loads = lit≤ tt;
-  few_loads = lit≤ tt;
-  some_stores = lit≤ tt;
-  few_stores = lit≤ tt;
-  some_queue = lit≤ tt;
-  short_queue = lit≤ tt;
-  some_alus = lit≤ tt;
-  few_alus = lit≤ tt;
-  some_mul_latency = lit≤ tt;
-  short_mul_latency = lit≤ tt;
-  some_counters = lit≤ tt;
-  few_counters = lit≤ tt;
-  counters_power = (12, refl);
-  some_targets = lit≤ tt;
-  few_targets = lit≤ tt;
-  targets_power = (8, refl);
-  some_sets = lit≤ tt;
-  few_sets = lit≤ tt;
-  sets_power = (8, refl);
-  some_ways = lit≤ tt;
-  few_ways = lit≤ tt;
-  some_bytes = lit≤ tt;
-  few_bytes = lit≤ tt;
-  line_power = (6, refl);
-  some_hit_latency = lit≤ tt;
-  short_hit_latency = lit≤ tt;
-  miss_above_hit = lit< tt;
-  short_miss_latency = lit≤ tt;
-  some_misses = lit≤ tt;
-  few_misses = lit≤ tt;
-  low_base = lit≤ tt;
-  base_aligned = refl;
-  some_ram = lit≤ tt;
-  small_ram = lit≤ tt;
-  size_aligned = refl;
-  ram_ends = lit≤ tt;
-  few_misaligned = lit≤ tt;
-  few_depend = lit≤ tt;
-  depend_power = inr (10, refl);
-  short_history = lit≤ tt;
-  few_returns = lit≤ tt;
-  few_second_sets = lit≤ tt;
-  second_sets_power = inr (10, refl);
-  some_second_ways = lit≤ tt;
-  few_second_ways = lit≤ tt;
-  some_second_latency = lit≤ tt;
-  short_second_latency = lit≤ tt;
-  few_prefetches = lit≤ tt;
-  two_lines = lit≤ tt;
-  second_between = refl;
-  model_known = refl;
-  defence_known = refl;
-}
+largest = tested 2 largest_number Spectre Stt largest_passes
 
 -- the item of a word at 0x10000
 abbrev item_of : ℕ → Item

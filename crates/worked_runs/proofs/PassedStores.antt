@@ -6,6 +6,8 @@ use Rattle.rv_types.specs.declared.End.TheVariants.{Exit, Trap}
 use Rattle.rv_types.specs.Causes.{load_misaligned, store_misaligned}
 use Rattle.machine_desc.specs.declared.Desc.{Desc}
 use Rattle.machine_desc.specs.declared.SttModel.TheVariants.{Futuristic}
+use Rattle.machine_desc.specs.declared.Defence.TheVariants.{Stt}
+use Rattle.machine_desc.proofs.Changed.{with_stt}
 use Rattle.rv_types.specs.Isa.{reg}
 use Rattle.worked_runs.proofs.Version2.{example_2, with_bits}
 use Rattle.window_model.specs.declared.Event.TheVariants.{Fill, Done, Res, Bp, Sq, Clr, Vio, Dp, Ret, St, Call, Alu, Mul, Div, Agu, Std, Ld, LdForward, LdFault, Ren, Fet}
@@ -59,7 +61,7 @@ faulting_load_not_violated_code = 0x020002b3 ∷ 0x002282b3 ∷ 0x0022a023 ∷ 0
 
 -- the description with bits of dependence, under the futuristic model
 abbrev futuristic_2 : Desc
-futuristic_2 = record with_bits { stt_model = Futuristic; model_known = refl }
+futuristic_2 = with_stt with_bits Futuristic Stt refl refl
 
 -- addi x8,x0,1; div x5,x2,x8; sw x2,-32(x5); lw x6,8(x2); add x7,x6,x2; sw x2,-36(x7); sw x2,-40(x7); sw x2,2(x7)
 abbrev trap_not_cleared_code : List ℕ

@@ -1,41 +1,37 @@
 -- The example description in version 2, and with bits of dependence, the model `off` and the defence `hold`.
-use Rattle.std.proofs.Common.{inr, refl, lit≤}
+use Rattle.std.proofs.Common.{ℕ, IsTrue, refl}
+use lib.Count.{ones}
 use Rattle.machine_desc.specs.Example.{example}
+use Rattle.machine_desc.specs.Ranges.{key_number}
+use Rattle.machine_desc.proofs.Newest.{renewed}
+use Rattle.machine_desc.proofs.Changed.{with_stt}
+use Rattle.machine_desc.proofs.Tested.{all_pass, tested}
 use Rattle.machine_desc.specs.declared.Desc.{Desc}
-use Rattle.machine_desc.specs.declared.SttModel.TheVariants.{Off}
-use Rattle.machine_desc.specs.declared.Defence.TheVariants.{Hold}
+use Rattle.machine_desc.specs.declared.keys.Key.{Key}
+use Rattle.machine_desc.specs.declared.keys.Key.TheVariants.{PredictorDepend}
+use Rattle.machine_desc.specs.declared.SttModel.TheVariants.{Spectre, Off}
+use Rattle.machine_desc.specs.declared.Defence.TheVariants.{Stt, Hold}
 
 -- the example in version 2
 abbrev pub example_2 : Desc
-example_2 = record example {
-  version = 2;
-  some_version = lit≤ tt;
-  known_version = lit≤ tt;
-  few_entries = lit≤ tt;
-  few_stations = lit≤ tt;
-  few_loads = lit≤ tt;
-  few_stores = lit≤ tt;
-  short_queue = lit≤ tt;
-  few_misaligned = lit≤ tt;
-  few_depend = lit≤ tt;
-  short_history = lit≤ tt;
-  few_returns = lit≤ tt;
-  few_second_sets = lit≤ tt;
-  few_second_ways = lit≤ tt;
-  short_second_latency = lit≤ tt;
-  few_prefetches = lit≤ tt;
-  model_known = refl;
-  defence_known = refl;
-}
+example_2 = renewed example
 
 -- with 16 bits of dependence
+abbrev pub bits_number : Key → ℕ
+bits_number PredictorDepend = 16
+bits_number key = key_number example key
+
+pub bits_pass : IsTrue (all_pass 2 bits_number Spectre Stt)
+unfolding ones
+bits_pass = refl
+
 abbrev pub with_bits : Desc
-with_bits = record example_2 { predictor_depend = 16; few_depend = lit≤ tt; depend_power = inr (4, refl) }
+with_bits = tested 2 bits_number Spectre Stt bits_pass
 
 -- under the model that protects nothing
 abbrev pub unprotected : Desc
-unprotected = record example_2 { stt_model = Off; model_known = refl }
+unprotected = with_stt example_2 Off Stt refl refl
 
 -- under the defence that holds the results of loads back
 abbrev pub holding : Desc
-holding = record example_2 { stt_defence = Hold; defence_known = refl }
+holding = with_stt example_2 Spectre Hold refl refl

@@ -1,10 +1,16 @@
 -- Loads that passed a store wrongly: which one is fetched anew, and what is then as it was before it.
-use Rattle.std.proofs.Common.{◌≡◌, ℕ, List, [], ◌∷◌, ◌++◌, Some, false, refl, lit≤}
+use Rattle.std.proofs.Common.{◌≡◌, ℕ, List, [], ◌∷◌, ◌++◌, Some, false, IsTrue, refl}
 use Rattle.std.specs.Int.Count.{count_leading_zeros}
+use lib.Count.{ones}
 use Rattle.rv_types.specs.Decode.{decode}
 use Rattle.rv_types.specs.declared.End.TheVariants.{Exit}
 use Rattle.machine_desc.specs.declared.Desc.{Desc}
-use Rattle.worked_runs.proofs.Version2.{with_bits}
+use Rattle.machine_desc.specs.declared.SttModel.TheVariants.{Spectre}
+use Rattle.machine_desc.specs.declared.Defence.TheVariants.{Stt}
+use Rattle.machine_desc.specs.declared.keys.Key.{Key}
+use Rattle.machine_desc.specs.declared.keys.Key.TheVariants.{PredictorHistory, PredictorReturns}
+use Rattle.machine_desc.proofs.Tested.{all_pass, tested}
+use Rattle.worked_runs.proofs.Version2.{bits_number, with_bits}
 use Rattle.window_model.specs.declared.Event.TheVariants.{Fill, Done, Res, Bp, Bt, Sq, Clr, Vio, Dp, Ret, St, Call, Alu, Mul, Div, Agu, Std, Ld, Ren, Fet}
 use Rattle.window_model.specs.declared.Look.TheVariants.{Miss, Join}
 use Rattle.window_model.specs.declared.Way.TheVariants.{Taken, NotTaken, Jump}
@@ -25,8 +31,16 @@ abbrev stack_after_violation_code : List ℕ
 stack_after_violation_code = 0x00c000ef ∷ 0x05d00893 ∷ 0x00000073 ∷ 0x020002b3 ∷ 0x002282b3 ∷ 0x0022a023 ∷ 0x00012303 ∷ 0x020283b3 ∷ 0x007080b3 ∷ 0x00008067 ∷ []
 
 -- the example in version 2 with bits of dependence and a return stack
+abbrev stack_number : Key → ℕ
+stack_number PredictorReturns = 4
+stack_number key = bits_number key
+
+stack_passes : IsTrue (all_pass 2 stack_number Spectre Stt)
+unfolding ones
+stack_passes = refl
+
 abbrev with_stack : Desc
-with_stack = record with_bits { predictor_returns = 4; few_returns = lit≤ tt }
+with_stack = tested 2 stack_number Spectre Stt stack_passes
 
 -- beq x0,x0,+8; addi x0,x0,0; mul x5,x0,x0; add x5,x5,x2; sw x2,0(x5); lw x6,0(x2); bne x0,x0,+8; addi x17,x0,93; ecall
 abbrev history_after_violation_code : List ℕ
@@ -38,8 +52,16 @@ abbrev violated_by_one_byte_code : List ℕ
 violated_by_one_byte_code = 0x020002b3 ∷ 0x002282b3 ∷ 0x002280a3 ∷ 0x00100413 ∷ 0x0002a303 ∷ 0x028143b3 ∷ 0xfe23a023 ∷ 0x00812483 ∷ 0x05d00893 ∷ 0x00000073 ∷ []
 
 -- the description with bits of dependence, and with history
+abbrev history_number : Key → ℕ
+history_number PredictorHistory = 2
+history_number key = bits_number key
+
+history_passes : IsTrue (all_pass 2 history_number Spectre Stt)
+unfolding ones
+history_passes = refl
+
 abbrev with_history : Desc
-with_history = record with_bits { predictor_history = 2; short_history = lit≤ tt }
+with_history = tested 2 history_number Spectre Stt history_passes
 
 -- Where two loads passed the store wrongly the older one is fetched anew, and all behind it.
 oldest_load_violated_rows : List Row

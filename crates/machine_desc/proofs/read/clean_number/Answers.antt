@@ -1,7 +1,7 @@
-use Rattle.std.proofs.Common.{◌≡◌, subst}
 use Rattle.toml.specs.View.{table_view}
-use Rattle.machine_desc.specs.Ranges.{MayBe}
-use Rattle.machine_desc.proofs.Passing.{found}
+use Rattle.std.proofs.Common.{◌≡◌, subst}
+use Rattle.machine_desc.specs.Allowed.{MayBe}
+use Rattle.machine_desc.proofs.Passing.{number_at, found, may_be}
 use Rattle.machine_desc.proofs.read.clean_number.Goals as goal
 
 pub unreachable-requires : goal.unreachable-requires
@@ -17,5 +17,5 @@ returns-clause-set c =
 pub returns-clause-fits : goal.returns-clause-fits
 returns-clause-fits c =
     let f = found c.args.version (table_view c.args.document.now) c.args.key c.requires.clean c.requires.whole in
-    let same : f.value ≡ c.in-Ok.number = cc (f.is, c.in-Ok.ensures) in
-    subst (MayBe c.args.version c.args.key) same f.fits
+    let same : number_at c.args.version (table_view c.args.document.now) c.args.key ≡ c.in-Ok.number = cc (f.is, c.in-Ok.ensures) in
+    subst (MayBe c.args.version c.args.key) same (may_be c.args.version (table_view c.args.document.now) c.args.key c.requires.clean)

@@ -5,73 +5,42 @@ use Rattle.machine_desc.specs.declared.keys.Key.TheVariants.{CoreFetchWidth, Cor
 use Rattle.machine_desc.specs.Description.{OneModel, OneDefence, set_to}
 use Rattle.machine_desc.proofs.Faultless.{latencies, ends, registers, second}
 use Rattle.machine_desc.proofs.Named.{model_known, defence_known}
-use Rattle.machine_desc.proofs.Versions.{most_by_version}
 use Rattle.machine_desc.proofs.read.desc.Goals as goal
 
 pub invariant_of-result : goal.invariant_of-result
 invariant_of-result c = record {
-  some_version = c.requires.known.0;
-  known_version = c.requires.known.1;
-  some_fetches = c.clean_number.ensures.fits.0;
-  few_fetches = c.clean_number.ensures.fits.1;
-  some_retires = c.clean_number-2.ensures.fits.0;
-  few_retires = c.clean_number-2.ensures.fits.1;
-  some_entries = c.clean_number-3.ensures.fits.0;
-  few_entries = c.clean_number-3.ensures.fits.1;
-  some_stations = c.clean_number-4.ensures.fits.0;
-  few_stations = c.clean_number-4.ensures.fits.1;
-  some_loads = c.clean_number-5.ensures.fits.0;
-  few_loads = c.clean_number-5.ensures.fits.1;
-  some_stores = c.clean_number-6.ensures.fits.0;
-  few_stores = c.clean_number-6.ensures.fits.1;
-  some_queue = c.clean_number-7.ensures.fits.0;
-  short_queue = c.clean_number-7.ensures.fits.1;
-  some_alus = c.clean_number-8.ensures.fits.0;
-  few_alus = c.clean_number-8.ensures.fits.1;
-  some_mul_latency = c.clean_number-9.ensures.fits.0;
-  short_mul_latency = c.clean_number-9.ensures.fits.1;
-  some_counters = c.clean_number-10.ensures.fits.0;
-  few_counters = c.clean_number-10.ensures.fits.1;
-  counters_power = c.clean_number-10.ensures.fits.2;
-  some_targets = c.clean_number-11.ensures.fits.0;
-  few_targets = c.clean_number-11.ensures.fits.1;
-  targets_power = c.clean_number-11.ensures.fits.2;
-  some_sets = c.clean_number-12.ensures.fits.0;
-  few_sets = c.clean_number-12.ensures.fits.1;
-  sets_power = c.clean_number-12.ensures.fits.2;
-  some_ways = c.clean_number-13.ensures.fits.0;
-  few_ways = c.clean_number-13.ensures.fits.1;
-  some_bytes = c.clean_number-14.ensures.fits.0;
-  few_bytes = c.clean_number-14.ensures.fits.1;
-  line_power = c.clean_number-14.ensures.fits.2;
-  some_hit_latency = c.clean_number-15.ensures.fits.0;
-  short_hit_latency = c.clean_number-15.ensures.fits.1;
-  miss_above_hit = latencies c.args.version (table_view c.args.document.now) _ _ c.requires.clean.latencies c.clean_number-15.ensures.number c.clean_number-16.ensures.number;
-  short_miss_latency = c.clean_number-16.ensures.fits.1;
-  some_misses = c.clean_number-17.ensures.fits.0;
-  few_misses = c.clean_number-17.ensures.fits.1;
-  low_base = c.clean_number-18.ensures.fits.1;
-  base_aligned = c.clean_number-18.ensures.fits.2;
-  some_ram = c.clean_number-19.ensures.fits.0;
-  small_ram = c.clean_number-19.ensures.fits.1;
-  size_aligned = c.clean_number-19.ensures.fits.2;
-  ram_ends = ends c.args.version (table_view c.args.document.now) _ _ c.requires.clean.ends c.clean_number-18.ensures.number c.clean_number-19.ensures.number;
-  few_misaligned = most_by_version 0 1 c.args.version c.clean_number-20.result c.requires.known c.clean_number-20.ensures.fits.1;
-  few_depend = most_by_version 0 1024 c.args.version c.clean_number-21.result c.requires.known c.clean_number-21.ensures.fits.1;
-  depend_power = c.clean_number-21.ensures.fits.2;
-  short_history = most_by_version 0 12 c.args.version c.clean_number-22.result c.requires.known c.clean_number-22.ensures.fits.1;
-  few_returns = most_by_version 0 16 c.args.version c.clean_number-23.result c.requires.known c.clean_number-23.ensures.fits.1;
-  few_second_sets = most_by_version 0 1024 c.args.version c.clean_number-24.result c.requires.known c.clean_number-24.ensures.fits.1;
-  second_sets_power = c.clean_number-24.ensures.fits.2;
-  some_second_ways = c.clean_number-25.ensures.fits.0;
-  few_second_ways = most_by_version 1 8 c.args.version c.clean_number-25.result c.requires.known c.clean_number-25.ensures.fits.1;
-  some_second_latency = c.clean_number-26.ensures.fits.0;
-  short_second_latency = most_by_version 2 100 c.args.version c.clean_number-26.result c.requires.known c.clean_number-26.ensures.fits.1;
-  few_prefetches = most_by_version 0 1 c.args.version c.clean_number-27.result c.requires.known c.clean_number-27.ensures.fits.1;
-  two_lines = registers c.args.version (table_view c.args.document.now) _ _ c.requires.clean.registers c.clean_number-20.ensures.number c.clean_number-17.ensures.number;
-  second_between = second c.args.version (table_view c.args.document.now) _ _ _ _ c.requires.clean.second c.clean_number-24.ensures.number c.clean_number-15.ensures.number c.clean_number-26.ensures.number c.clean_number-16.ensures.number;
-  model_known = model_known c.args.version (table_view c.args.document.now) c.args.stt_model c.requires.model;
-  defence_known = defence_known c.args.version c.requires.known (table_view c.args.document.now) c.args.stt_defence c.requires.defence;
+  stands = record {
+    version = c.requires.known;
+    fetch_width = c.clean_number.ensures.fits;
+    retire_width = c.clean_number-2.ensures.fits;
+    rob = c.clean_number-3.ensures.fits;
+    stations = c.clean_number-4.ensures.fits;
+    loads = c.clean_number-5.ensures.fits;
+    stores = c.clean_number-6.ensures.fits;
+    queue = c.clean_number-7.ensures.fits;
+    alus = c.clean_number-8.ensures.fits;
+    mul_latency = c.clean_number-9.ensures.fits;
+    counters = c.clean_number-10.ensures.fits;
+    btb = c.clean_number-11.ensures.fits;
+    sets = c.clean_number-12.ensures.fits;
+    ways = c.clean_number-13.ensures.fits;
+    line = c.clean_number-14.ensures.fits;
+    hit_latency = c.clean_number-15.ensures.fits;
+    miss_latency = (c.clean_number-16.ensures.fits, latencies c.args.version (table_view c.args.document.now) _ _ c.requires.clean.latencies c.clean_number-15.ensures.number c.clean_number-16.ensures.number);
+    mshrs = c.clean_number-17.ensures.fits;
+    ram_base = c.clean_number-18.ensures.fits;
+    ram_size = (c.clean_number-19.ensures.fits, ends c.args.version (table_view c.args.document.now) _ _ c.requires.clean.ends c.clean_number-18.ensures.number c.clean_number-19.ensures.number);
+    misaligned = (c.clean_number-20.ensures.fits, registers c.args.version (table_view c.args.document.now) _ _ c.requires.clean.registers c.clean_number-20.ensures.number c.clean_number-17.ensures.number);
+    depend = c.clean_number-21.ensures.fits;
+    history = c.clean_number-22.ensures.fits;
+    returns = c.clean_number-23.ensures.fits;
+    second_sets = c.clean_number-24.ensures.fits;
+    second_ways = c.clean_number-25.ensures.fits;
+    second_latency = (c.clean_number-26.ensures.fits, second c.args.version (table_view c.args.document.now) _ _ _ _ c.requires.clean.second c.clean_number-24.ensures.number c.clean_number-15.ensures.number c.clean_number-26.ensures.number c.clean_number-16.ensures.number);
+    prefetch = c.clean_number-27.ensures.fits;
+    model = model_known c.args.version (table_view c.args.document.now) c.args.stt_model c.requires.model;
+    defence = defence_known c.args.version c.requires.known (table_view c.args.document.now) c.args.stt_defence c.requires.defence;
+  };
 }
 
 pub returns-clause-keys : goal.returns-clause-keys

@@ -5,7 +5,7 @@ use Rattle.history_pred.proofs.history.History.new.Goals as goal
 pub invariant_of-result : goal.invariant_of-result
 invariant_of-result c =
     let desc = c.args.desc.now in
-    let some = desc.some_counters in (
+    let some = desc.stands.counters.0 in (
       omega (arith, some),
       few_directions desc,
       few_returns desc,
