@@ -5,7 +5,7 @@ use Rattle.machine_desc.specs.declared.Desc.{Desc}
 use Rattle.machine_desc.specs.declared.SttModel.{SttModel}
 use Rattle.machine_desc.specs.declared.SttModel.TheVariants.{Spectre, Futuristic, Off}
 use Rattle.machine_desc.specs.declared.Defence.{Defence}
-use Rattle.machine_desc.specs.declared.Defence.TheVariants.{Stt, Hold}
+use Rattle.machine_desc.specs.declared.Defence.TheVariants.{Stt, Hold, Delay}
 use Rattle.machine_desc.specs.declared.keys.Key.{Key}
 use Rattle.machine_desc.specs.declared.keys.Key.TheVariants.{CoreFetchWidth}
 use Rattle.machine_desc.specs.declared.keys.Shape.{Shape}
@@ -78,6 +78,7 @@ model_in_newest v Off h = refl
 defence_in_newest : (v : ℕ) (t : Defence) → IsTrue (knows_defence v t) → IsTrue (knows_defence newest t)
 defence_in_newest v Stt h = refl
 defence_in_newest v Hold h = refl
+defence_in_newest v Delay h = refl
 
 pub meets_in_newest : (d : Desc) → Meets newest (key_number d) d.stt_model d.stt_defence
 meets_in_newest d = record {

@@ -8,7 +8,7 @@ use Rattle.machine_desc.specs.declared.Desc.{Desc}
 use Rattle.machine_desc.specs.declared.SttModel.{SttModel}
 use Rattle.machine_desc.specs.declared.SttModel.TheVariants.{Spectre, Futuristic, Off}
 use Rattle.machine_desc.specs.declared.Defence.{Defence}
-use Rattle.machine_desc.specs.declared.Defence.TheVariants.{Stt as SttDefence, Hold}
+use Rattle.machine_desc.specs.declared.Defence.TheVariants.{Stt as SttDefence, Hold, Delay}
 use Rattle.machine_desc.specs.declared.keys.Section.{Section}
 use Rattle.machine_desc.specs.declared.keys.Key.{Key}
 use Rattle.machine_desc.specs.declared.keys.Key.TheVariants.{CacheHitLatency, CacheMissLatency, CacheMshrs, RamBase, RamSize, SttModel as ModelKey, RamMisaligned, CacheSecondSets, CacheSecondLatency, SttDefence as DefenceKey}
@@ -121,6 +121,7 @@ abbrev pub defence_named : Key → Bool → List ℕ → Result Defence DescFaul
 defence_named key hold text =
     if bytes_eq text (codes "stt") then Ok SttDefence
     else if hold && bytes_eq text (codes "hold") then Ok Hold
+    else if hold && bytes_eq text (codes "delay") then Ok Delay
     else Err (Kind (OfKey key))
 
 -- the defence of a key that may be left out: `stt` then, else a text that names one

@@ -3,7 +3,7 @@ use Rattle.std.specs.Prelude.{ℕ, Bool, true, ◌==◌, ◌≤◌, ◌&&◌, �
 use Rattle.machine_desc.specs.declared.SttModel.{SttModel}
 use Rattle.machine_desc.specs.declared.SttModel.TheVariants.{Off}
 use Rattle.machine_desc.specs.declared.Defence.{Defence}
-use Rattle.machine_desc.specs.declared.Defence.TheVariants.{Hold}
+use Rattle.machine_desc.specs.declared.Defence.TheVariants.{Hold, Delay}
 
 -- the newest version that this program knows; it knows each one from 1 on
 abbrev pub newest : ℕ
@@ -21,7 +21,7 @@ most in_1 in_2 version = if version == 1 then in_1 else in_2
 abbrev pub knows_off : ℕ → Bool
 knows_off version = not (version == 1)
 
--- whether the defence `hold` may be: in each but the first
+-- whether the defences `hold` and `delay` may be: in each but the first
 abbrev pub knows_hold : ℕ → Bool
 knows_hold version = not (version == 1)
 
@@ -33,6 +33,7 @@ knows_model version _ = true
 -- the version knows the defence
 abbrev pub knows_defence : ℕ → Defence → Bool
 knows_defence version Hold = knows_hold version
+knows_defence version Delay = knows_hold version
 knows_defence version _ = true
 
 -- where there is a second level, a line of it comes later than a hit and sooner than from memory

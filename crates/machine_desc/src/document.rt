@@ -171,6 +171,7 @@ fn defence_named(key: Key, hold: bool, text: &str) -> Result<Defence, DescFault>
     match text {
         "stt" => Ok(Defence::Stt),
         "hold" if hold => Ok(Defence::Hold),
+        "delay" if hold => Ok(Defence::Delay),
         _ => Err(DescFault::Kind(Subject::Key(key))),
     }
 }

@@ -47,6 +47,9 @@ pub enum Defence {
     Stt,
     /// No value that counts as a secret is used at all: a load's result is held back until the load is visible.
     Hold,
+    /// Whatever could show an operand waits until it is visible, be the operand a secret or not: addresses of loads and
+    /// stores, divisions, and branches and indirect jumps that take effect.
+    Delay,
 }
 
 /// A machine description of a known version: every number is in its key's range in that version and of its key's shape,

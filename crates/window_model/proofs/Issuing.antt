@@ -24,6 +24,7 @@ use Rattle.window_model.specs.Retire.{has_line, op_of, byte_count}
 use Rattle.window_model.specs.Order.{Place, each_from, is_waiting, is_load, is_store, has_address, has_data, sources, base_of, others_of}
 use Rattle.window_model.specs.State.{Machine, line_of, lines_of, upper_line}
 use Rattle.window_model.specs.Taint.{any_tainted, address_tainted}
+use Rattle.window_model.specs.Delay.{may_show}
 use Rattle.window_model.specs.Ready.{is_known, all_known, ready}
 use Rattle.window_model.specs.declared.lookup.Line.{Line}
 use Rattle.window_model.specs.declared.lookup.Lines.{Lines}
@@ -57,7 +58,7 @@ may_parts d now b e h =
 
 -- a load that may issue has an untainted address
 pub load_clean : (k : Kind) (d : Desc) (now : Around) (b : List Entry) (e : Entry) → may_issue_as k d now b e ≡ true → is_load k ≡ true → address_tainted d.stt_model b e ≡ false
-load_clean Load d now b e h l = not_true _ (both _ _ h).0
+load_clean Load d now b e h l = not_true _ (both (not (address_tainted d.stt_model b e)) (may_show d b) (both _ _ h).0).0
 load_clean _ d now b e h l = absurd (cc)
 
 -- what a load asks of the older stores
@@ -67,7 +68,7 @@ load_behind _ d now b e h l = absurd (cc)
 
 -- a division that may issue has no tainted operand
 pub division_clean : (k : Kind) (d : Desc) (now : Around) (b : List Entry) (e : Entry) → may_issue_as k d now b e ≡ true → is_division k ≡ true → any_tainted d.stt_model b e ≡ false
-division_clean Div d now b e h l = not_true _ (both _ _ h).0
+division_clean Div d now b e h l = not_true _ (both (not (any_tainted d.stt_model b e)) (may_show d b) (both _ _ h).0).0
 division_clean _ d now b e h l = absurd (cc)
 
 -- ---- what asks for which port
@@ -129,13 +130,13 @@ known_others : (d : Desc) (b : List Entry) (rs : List ℕ) → all_known d b rs 
 known_others d b [] h = refl
 known_others d b (r ∷ rs) h = (both (is_known d b r) (all_known d b rs) h).1
 
-own_ready : (d : Desc) (v : Bool) (own : List ℕ) (b : List Entry) (e : Entry) → (ready d b e ≡ true → all_known d b own ≡ true) → (if v then ready d b e && is_whole e else all_known d b own) ≡ true → all_known d b own ≡ true
-own_ready d true own b e f h = f (both (ready d b e) _ h).0
-own_ready d false own b e f h = h
+own_ready : (d : Desc) (v : Bool) (own : List ℕ) (shows : Bool) (b : List Entry) (e : Entry) → (ready d b e ≡ true → all_known d b own ≡ true) → (if v then ready d b e && is_whole e && may_show d b else shows && all_known d b own) ≡ true → all_known d b own ≡ true
+own_ready d true own shows b e f h = f (both (ready d b e) _ (both (ready d b e && is_whole e) _ h).0).0
+own_ready d false own shows b e f h = (both shows _ h).1
 
-go_of : (has : Bool) (d : Desc) (own : List ℕ) (b : List Entry) (e : Entry) → (ready d b e ≡ true → all_known d b own ≡ true) → (not has && ready_part d own b e) ≡ true → MayGo d has own b
-go_of has d own b e f h =
-    let p = both (not has) _ h in record { fresh = not_true has p.0; known = own_ready d (d.version == 1) own b e f p.1 }
+go_of : (has : Bool) (d : Desc) (own : List ℕ) (shows : Bool) (b : List Entry) (e : Entry) → (ready d b e ≡ true → all_known d b own ≡ true) → (not has && ready_part d own shows b e) ≡ true → MayGo d has own b
+go_of has d own shows b e f h =
+    let p = both (not has) _ h in record { fresh = not_true has p.0; known = own_ready d (d.version == 1) own shows b e f p.1 }
 
 -- ---- what becomes of it
 
@@ -176,8 +177,8 @@ module _ (d : Desc) (now : Around) (b : List Entry) (e : Entry) (P : Entry → T
   by_store s =
       granted_if (is_granted d now AddressPort b e) (is_granted d now DataPort b e)
       (parts s _ _
-      (λ g. go_of (has_address e) d (base_of (sources e)) b e (known_base d b (sources e)) (sym (address_part d b e) ∙ may_go (is_store e.item.kind) s _ _ (both (may_at d now AddressPort b e) _ g).0))
-      (λ g. go_of (has_data e) d (others_of (sources e)) b e (known_others d b (sources e)) (sym (data_part d b e) ∙ may_go (is_store e.item.kind) s _ _ (both (may_at d now DataPort b e) _ g).0)))
+      (λ g. go_of (has_address e) d (base_of (sources e)) (may_show d b) b e (known_base d b (sources e)) (sym (address_part d b e) ∙ may_go (is_store e.item.kind) s _ _ (both (may_at d now AddressPort b e) _ g).0))
+      (λ g. go_of (has_data e) d (others_of (sources e)) true b e (known_others d b (sources e)) (sym (data_part d b e) ∙ may_go (is_store e.item.kind) s _ _ (both (may_at d now DataPort b e) _ g).0)))
     where
       may_go : (s : Bool) → s ≡ true → (p m : Bool) → (if s then p else m) ≡ true → p ≡ true
       may_go true q p m h = h

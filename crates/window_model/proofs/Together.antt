@@ -12,6 +12,7 @@ use Rattle.window_model.specs.declared.Entry.{Entry}
 use Rattle.window_model.specs.declared.Event.TheVariants as event
 use Rattle.window_model.specs.Around.{Around}
 use Rattle.window_model.specs.Order.{is_store, has_address, has_data, sources, base_of, others_of}
+use Rattle.window_model.specs.Delay.{may_show}
 use Rattle.window_model.specs.Ready.{ready, all_known}
 use Rattle.window_model.specs.MayIssue.{Asks, asks_by_parts, effect_of, may_issue}
 use Rattle.window_model.specs.Ports.{AddressPort, DataPort, asking, is_granted, may_at, part_may, port_of, same_port}
@@ -24,21 +25,22 @@ use Rattle.window_model.specs.inner.Issue.{data_events, parts_as}
 abbrev pub is_whole : Entry → Bool
 is_whole e = not (has_address e || has_data e)
 
--- what a part of a store waits for besides not having issued: its own register; in version 1 what the store waits for
-abbrev pub ready_part : Desc → List ℕ → List Entry → Entry → Bool
-ready_part d own before e = if d.version == 1 then ready d before e && is_whole e else all_known d before own
+-- what a part of a store waits for besides not having issued: its own register, and whether it may show it; in version 1
+-- what the store waits for
+abbrev pub ready_part : Desc → List ℕ → Bool → List Entry → Entry → Bool
+ready_part d own shows before e = if d.version == 1 then ready d before e && is_whole e && may_show d before else shows && all_known d before own
 
 -- a store that goes in one piece has issued neither part
-not_gone : (a c r : Bool) → (r && not (a || c)) ≡ (not a && (r && not (a || c)))
-not_gone false c r = refl
-not_gone true c true = refl
-not_gone true c false = refl
+not_gone : (a c r g : Bool) → (r && not (a || c) && g) ≡ (not a && (r && not (a || c) && g))
+not_gone false c r g = refl
+not_gone true c true g = refl
+not_gone true c false g = refl
 
-not_stored : (a c r : Bool) → (r && not (a || c)) ≡ (not c && (r && not (a || c)))
-not_stored a false r = refl
-not_stored true true true = refl
-not_stored false true true = refl
-not_stored a true false = refl
+not_stored : (a c r g : Bool) → (r && not (a || c) && g) ≡ (not c && (r && not (a || c) && g))
+not_stored a false r g = refl
+not_stored true true true g = refl
+not_stored false true true g = refl
+not_stored a true false g = refl
 
 address_as : (v m k a : Bool) (p : Asks) → m ≡ (not a && m) → p.address ≡ (not a && k) →
     (let w : Asks = record { address = m; stored = m } in if v then w else p).address ≡ (not a && (if v then m else k))
@@ -51,16 +53,16 @@ stored_as true m k c p h q = h
 stored_as false m k c p h q = q
 
 -- the address part may issue where it hasn't, and what it waits for is there
-pub address_part : (d : Desc) (b : List Entry) (e : Entry) → part_may AddressPort d b e ≡ (not (has_address e) && ready_part d (base_of (sources e)) b e)
+pub address_part : (d : Desc) (b : List Entry) (e : Entry) → part_may AddressPort d b e ≡ (not (has_address e) && ready_part d (base_of (sources e)) (may_show d b) b e)
 address_part d b e =
-    address_as (d.version == 1) (ready d b e && is_whole e) (all_known d b (base_of (sources e))) (has_address e) (asks_by_parts d b e)
-    (not_gone (has_address e) (has_data e) (ready d b e)) refl
+    address_as (d.version == 1) (ready d b e && is_whole e && may_show d b) (may_show d b && all_known d b (base_of (sources e))) (has_address e) (asks_by_parts d b e)
+    (not_gone (has_address e) (has_data e) (ready d b e) (may_show d b)) refl
 
 -- the data part may issue where it hasn't, and what it waits for is there
-pub data_part : (d : Desc) (b : List Entry) (e : Entry) → part_may DataPort d b e ≡ (not (has_data e) && ready_part d (others_of (sources e)) b e)
+pub data_part : (d : Desc) (b : List Entry) (e : Entry) → part_may DataPort d b e ≡ (not (has_data e) && ready_part d (others_of (sources e)) true b e)
 data_part d b e =
-    stored_as (d.version == 1) (ready d b e && is_whole e) (all_known d b (others_of (sources e))) (has_data e) (asks_by_parts d b e)
-    (not_stored (has_address e) (has_data e) (ready d b e)) refl
+    stored_as (d.version == 1) (ready d b e && is_whole e && may_show d b) (all_known d b (others_of (sources e))) (has_data e) (asks_by_parts d b e)
+    (not_stored (has_address e) (has_data e) (ready d b e) (may_show d b)) refl
 
 -- ---- in version 1 the parts go together
 
@@ -85,7 +87,7 @@ module _ (d : Desc) (now : Around) (first : d.version ≡ 1) where
   ask_together b e = by_kind (is_store e.item.kind)
     where
       by_kind : (s : Bool) → (if s then part_may DataPort d b e else may_issue d now b e && same_port (port_of e.item.kind) DataPort) ≡ (if s then part_may AddressPort d b e else may_issue d now b e && same_port (port_of e.item.kind) AddressPort)
-      by_kind true = asks_both d.version (ready d b e && is_whole e) (asks_by_parts d b e) first
+      by_kind true = asks_both d.version (ready d b e && is_whole e && may_show d b) (asks_by_parts d b e) first
       by_kind false = let n = no_store_port e.item.kind in asks_neither (may_issue d now b e) _ _ n.0 n.1
 
   asking_together : (b : List Entry) → asking d now DataPort b ≡ asking d now AddressPort b

@@ -4,6 +4,7 @@ pub mod State
 pub mod Order
 pub mod Serials
 pub mod Taint
+pub mod Delay
 pub mod Ready
 pub mod SecondLevel
 pub mod Fill

@@ -15,6 +15,7 @@ use Rattle.window_model.specs.Around.{Around, is_free}
 use Rattle.window_model.specs.Order.{is_waiting, is_done, is_store, has_address, has_data, operand, sources, base_of, others_of}
 use Rattle.window_model.specs.Taint.{any_tainted, address_tainted}
 use Rattle.window_model.specs.Ready.{all_known, ready}
+use Rattle.window_model.specs.Delay.{may_show}
 use Rattle.window_model.specs.Dependence.{waits_for_stores}
 use Rattle.window_model.specs.Retire.{byte_count}
 use Rattle.window_model.specs.Access.{covers}
@@ -74,8 +75,8 @@ goes_behind d now before e =
 
 -- what loads and divisions ask for besides
 abbrev pub may_issue_as : Kind → Desc → Around → List Entry → Entry → Bool
-may_issue_as Load d now before e = not (address_tainted d.stt_model before e) && goes_behind d now before e
-may_issue_as Div d now before e = not (any_tainted d.stt_model before e) && is_free now
+may_issue_as Load d now before e = (not (address_tainted d.stt_model before e) && may_show d before) && goes_behind d now before e
+may_issue_as Div d now before e = (not (any_tainted d.stt_model before e) && may_show d before) && is_free now
 may_issue_as _ d now before e = true
 
 -- an entry that is no store: waiting and ready; a load with an untainted base, and behind stores that let it go; a
@@ -93,12 +94,12 @@ pub record Asks : Type 0 where
 -- a store of version 1 goes in one piece: once all its registers are there it asks for both ports, unless it has issued
 abbrev pub asks_in_one : Desc → List Entry → Entry → Asks
 asks_in_one d before e =
-    let may = ready d before e && not (has_address e || has_data e) in record { address = may; stored = may }
+    let may = ready d before e && not (has_address e || has_data e) && may_show d before in record { address = may; stored = may }
 
 -- a store of version 2 goes by parts: a part that hasn't issued asks for its port once its own register is there
 abbrev pub asks_by_parts : Desc → List Entry → Entry → Asks
 asks_by_parts d before e = record {
-  address = not (has_address e) && all_known d before (base_of (sources e));
+  address = not (has_address e) && (may_show d before && all_known d before (base_of (sources e)));
   stored = not (has_data e) && all_known d before (others_of (sources e));
 }
 

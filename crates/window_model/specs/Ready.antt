@@ -3,7 +3,7 @@ use Rattle.std.specs.Prelude.{ℕ, Bool, true, false, not, ◌&&◌, List, [], �
 use Rattle.std.specs.List.{list_all}
 use Rattle.machine_desc.specs.declared.Desc.{Desc}
 use Rattle.machine_desc.specs.declared.Defence.{Defence}
-use Rattle.machine_desc.specs.declared.Defence.TheVariants.{Stt, Hold}
+use Rattle.machine_desc.specs.declared.Defence.TheVariants.{Stt, Hold, Delay}
 use Rattle.window_model.specs.declared.Entry.{Entry}
 use Rattle.window_model.specs.Order.{is_done, is_load, writes, sources}
 use Rattle.window_model.specs.Taint.{visible}
@@ -12,6 +12,7 @@ use Rattle.window_model.specs.Taint.{visible}
 abbrev pub holds : Defence → Bool
 holds Stt = false
 holds Hold = true
+holds Delay = false
 
 -- the entry's result is held back
 abbrev pub is_held : Desc → List Entry → Entry → Bool
