@@ -26,7 +26,7 @@ impl<R: RenameTaint> Parts<R> {
         ensures advanced { HasAdvanced self.new.point self.new.machine.window }
     {
         match self.desc.stt_defence {
-            Defence::Stt => self.point.advance(&self.rob),
+            Defence::Stt | Defence::Delay => self.point.advance(&self.rob),
             Defence::Hold => advance_and_wake(&mut self.point, &self.rob, &mut self.stations),
         }
     }

@@ -13,6 +13,7 @@ use Rattle.rv_types.specs.declared.Kind.{Kind}
 use Rattle.rv_types.specs.declared.Kind.TheVariants.{Mul, Div, Load, Store}
 use Rattle.machine_desc.specs.declared.Desc.{Desc}
 use Rattle.machine_desc.specs.Ranges.{IsDesc}
+use Rattle.window_model.specs.Delay.{may_show}
 use Rattle.window_model.specs.declared.Entry.{Entry}
 use Rattle.window_model.specs.declared.Miss.{Miss}
 use Rattle.window_model.specs.declared.Progress.{Progress}
@@ -44,7 +45,7 @@ use Rattle.progress.specs.Laws.{Allows}
 use Rattle.progress.specs.Measure.{wait, takes}
 use Rattle.progress.proofs.OneLine.{registers_enough}
 use Rattle.progress.proofs.Bounds.{register_nearer, miss_takes_time}
-use Rattle.progress.proofs.Oldest.{oldest_known, oldest_ready, oldest_untainted, oldest_address}
+use Rattle.progress.proofs.Oldest.{shown_first, oldest_known, oldest_ready, oldest_untainted, oldest_address}
 
 -- the cycles until the entry is done
 abbrev pub needs : Entry → Desc → ℕ → List Miss → ℕ → ℕ
@@ -71,9 +72,9 @@ granted k d now e s m p =
     both_true (may_own d now [] (made Waiting k e) s ∙ both_true (oldest_ready d (made Waiting k e)) m) (is_below 0 (ports d (port_of k)) (omega arith))
 
 -- a part of a store is ready whose own source is there; in version 1 where both sources are and neither part has issued
-part_ready : (v r w k : Bool) → r ≡ true → (v ≡ true → w ≡ true) → k ≡ true → (if v then r && w else k) ≡ true
-part_ready true r w k p q s = both_true p (q refl)
-part_ready false r w k p q s = s
+part_ready : (v r w g s k : Bool) → r ≡ true → (v ≡ true → w ≡ true) → g ≡ true → s ≡ true → k ≡ true → (if v then r && w && g else s && k) ≡ true
+part_ready true r w g s k p q h t u = both_true (both_true p (q refl)) h
+part_ready false r w g s k p q h t u = both_true t u
 
 neither : (a c : Bool) → a ≡ false → a ≡ c → not (a || c) ≡ true
 neither false false p q = refl
@@ -83,18 +84,18 @@ neither false true p q = absurd (cc)
 address_granted : (d : Desc) (now : Around) (e : Entry) → Together d (made Waiting Store e) → has_address e ≡ false → is_granted d now AddressPort [] (made Waiting Store e) ≡ true
 address_granted d now e t h =
     let a = made Waiting Store e in
-    both_true (address_part d [] a ∙ both_true (ap not h) (part_ready (d.version == 1) (ready d [] a) (is_whole a) (all_known d [] (base_of (sources a))) (oldest_ready d a)
-    (λ v. neither (has_address e) (has_data e) h (t (eqb-true _ _ v) refl)) (oldest_known d (base_of (sources a))))) refl
+    both_true (address_part d [] a ∙ both_true (ap not h) (part_ready (d.version == 1) (ready d [] a) (is_whole a) (may_show d []) (may_show d []) (all_known d [] (base_of (sources a))) (oldest_ready d a)
+    (λ v. neither (has_address e) (has_data e) h (t (eqb-true _ _ v) refl)) (shown_first d) (shown_first d) (oldest_known d (base_of (sources a))))) refl
 
 data_granted : (d : Desc) (now : Around) (e : Entry) → Together d (made Waiting Store e) → has_data e ≡ false → is_granted d now DataPort [] (made Waiting Store e) ≡ true
 data_granted d now e t h =
     let a = made Waiting Store e in
-    both_true (data_part d [] a ∙ both_true (ap not h) (part_ready (d.version == 1) (ready d [] a) (is_whole a) (all_known d [] (others_of (sources a))) (oldest_ready d a)
-    (λ v. let q = t (eqb-true _ _ v) refl in neither (has_address e) (has_data e) (q ∙ h) q) (oldest_known d (others_of (sources a))))) refl
+    both_true (data_part d [] a ∙ both_true (ap not h) (part_ready (d.version == 1) (ready d [] a) (is_whole a) (may_show d []) true (all_known d [] (others_of (sources a))) (oldest_ready d a)
+    (λ v. let q = t (eqb-true _ _ v) refl in neither (has_address e) (has_data e) (q ∙ h) q) (shown_first d) refl (oldest_known d (others_of (sources a))))) refl
 
 -- an oldest load may issue
 load_may : (d : Desc) (now : Around) (e : Entry) → may_issue_as Load d now [] (made Waiting Load e) ≡ true
-load_may d now e = both_true (ap not (oldest_address d (made Waiting Load e))) (in_each (d.version == 1))
+load_may d now e = both_true (both_true (ap not (oldest_address d (made Waiting Load e))) (shown_first d)) (in_each (d.version == 1))
   where
     in_each : (b : Bool) → (if b then true else true) ≡ true
     in_each true = refl
@@ -102,7 +103,7 @@ load_may d now e = both_true (ap not (oldest_address d (made Waiting Load e))) (
 
 -- an oldest division may issue, where the divider is free
 division_may : (d : Desc) (now : Around) (e : Entry) → is_free now ≡ true → may_issue_as Div d now [] (made Waiting Div e) ≡ true
-division_may d now e h = both_true (ap not (oldest_untainted d (made Waiting Div e))) h
+division_may d now e h = both_true (both_true (ap not (oldest_untainted d (made Waiting Div e))) (shown_first d)) h
 
 -- ---- how much an entry needs
 
@@ -175,7 +176,7 @@ misses_of_tried false p o d x h = absurd (cc)
 -- ---- the oldest is a division: where the divider is busy, none issues
 
 busy_divider : (k : Kind) (d : Desc) (now : Around) (before : List Entry) (e : Entry) → is_free now ≡ false → ((is_waiting e.state && ready d before e && may_issue_as k d now before e) && same_port (port_of k) DivPort) ≡ false
-busy_divider Div d now before e f = by (is_waiting e.state) (ready d before e) (not (any_tainted d.stt_model before e)) (is_free now) f
+busy_divider Div d now before e f = by (is_waiting e.state) (ready d before e) (not (any_tainted d.stt_model before e) && may_show d before) (is_free now) f
   where
     by : (w r t n : Bool) → n ≡ false → ((w && r && (t && n)) && true) ≡ false
     by true true true n f = ap (λ b. b && true) f

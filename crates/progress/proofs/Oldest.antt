@@ -5,6 +5,7 @@ use Rattle.std.specs.Cmp.Derive.{both_true}
 use Rattle.std.specs.List.{list_all}
 use Rattle.std.proofs.lemmas.List.{reverse-reverse}
 use Rattle.machine_desc.specs.declared.Desc.{Desc}
+use Rattle.window_model.specs.Delay.{delays, may_show}
 use Rattle.window_model.specs.declared.Entry.{Entry}
 use Rattle.window_model.specs.declared.Divider.{Divider}
 use Rattle.window_model.specs.declared.Item.{Item}
@@ -16,7 +17,7 @@ use Rattle.window_model.specs.Resolve.{resolve, resolve_at, may_resolve, learn, 
 use Rattle.machine_desc.specs.Questions.{loads_pass}
 use Rattle.window_model.specs.Clear.{clear, clear_at, clear_with, cleared_one, may_clear, violated_by}
 use Rattle.window_model.specs.Retire.{may_leave}
-use Rattle.window_model.proofs.Booleans.{both, done_waits}
+use Rattle.window_model.proofs.Booleans.{both, done_waits, or_true}
 use Rattle.window_model.proofs.Clearing.{clear_keep}
 use Rattle.window_model.proofs.Places.{found}
 use Rattle.window_model.proofs.Placing.{resolve_keep}
@@ -73,6 +74,16 @@ unresolved_leaves true true false true h p q = absurd (cc)
 unresolved_leaves true true false false h p q = absurd (cc)
 unresolved_leaves c false r a h p q = absurd (cc)
 
+-- the oldest may show its operands
+pub shown_first : (d : Desc) → may_show d [] ≡ true
+shown_first d = or_true (not (delays d.stt_defence)) true refl
+
+shown_so : (a t s : Bool) → s ≡ true → (a && (t && s)) ≡ false → (a && t) ≡ false
+shown_so true true true q n = n
+shown_so true true false q n = absurd (cc)
+shown_so true false s q n = refl
+shown_so false t s q n = refl
+
 module _ (d : Desc) (h : Entry) (younger : List Entry) (x : Machine) where
   -- the oldest entry stays the oldest where a younger one is resolved, or none
   behind_it : (o : Option Place) → may_resolve d [] h ≡ false → first_from (may_resolve d) (h ∷ []) younger ≡ o → StaysOldest h (resolve_at d o (record x { window = h ∷ younger })).machine.window
@@ -82,7 +93,7 @@ module _ (d : Desc) (h : Entry) (younger : List Entry) (x : Machine) where
     shape = refl;
     state = refl;
     item = refl;
-    leaves = unresolved_leaves (is_control h.item.kind) (is_done h.state) h.resolved (any_tainted d.stt_model [] h) n (oldest_untainted d h);
+    leaves = unresolved_leaves (is_control h.item.kind) (is_done h.state) h.resolved (any_tainted d.stt_model [] h) (shown_so _ (not (any_tainted d.stt_model [] h)) (may_show d []) (shown_first d) n) (oldest_untainted d h);
   }
   behind_it (Some p) n q =
       let whole : Machine = record x { window = h ∷ younger } in
@@ -96,7 +107,7 @@ module _ (d : Desc) (h : Entry) (younger : List Entry) (x : Machine) where
         shape = a.1 ∙ ap (λ v. v ++ record (p.entry) { resolved = true } ∷ a.0) older;
         state = refl;
         item = refl;
-        leaves = unresolved_leaves (is_control h.item.kind) (is_done h.state) h.resolved (any_tainted d.stt_model [] h) n (oldest_untainted d h);
+        leaves = unresolved_leaves (is_control h.item.kind) (is_done h.state) h.resolved (any_tainted d.stt_model [] h) (shown_so _ (not (any_tainted d.stt_model [] h)) (may_show d []) (shown_first d) n) (oldest_untainted d h);
       }
 
   by_may : (b : Bool) → may_resolve d [] h ≡ b → StaysOldest h (resolve_at d (if b then Some (record { before = []; entry = h; younger = younger }) else first_from (may_resolve d) (h ∷ []) younger) (record x { window = h ∷ younger })).machine.window

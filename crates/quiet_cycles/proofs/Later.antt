@@ -9,6 +9,7 @@ use Rattle.rv_types.specs.declared.Cause.{Cause}
 use Rattle.rv_types.specs.declared.Kind.{Kind}
 use Rattle.rv_types.specs.declared.Kind.TheVariants.{Div, Load}
 use Rattle.machine_desc.specs.declared.Desc.{Desc}
+use Rattle.window_model.specs.Delay.{may_show}
 use Rattle.window_model.specs.declared.Entry.{Entry}
 use Rattle.window_model.specs.declared.Event.{Event}
 use Rattle.window_model.specs.declared.Event.TheVariants as event
@@ -79,7 +80,7 @@ module _ (d : Desc) (x : Machine) (c : ℕ) where
 
   module _ (q : is_free later ≡ is_free now) where
     same_kind_may : (k : Kind) (before : List Entry) (e : Entry) → may_issue_as k d later before e ≡ may_issue_as k d now before e
-    same_kind_may Div before e = ap (λ b. not (any_tainted d.stt_model before e) && b) q
+    same_kind_may Div before e = ap (λ b. (not (any_tainted d.stt_model before e) && may_show d before) && b) q
     same_kind_may Load before e = refl
     same_kind_may _ before e = refl
 
