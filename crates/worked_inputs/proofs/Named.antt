@@ -129,6 +129,7 @@ keys_since_version_2 : all (
     tells (key "cache" "prefetch" example_1) "K2 cache.prefetch" ∷
     tells (with_key "stt" "defence" (text "stt") example_1) "K2 stt.defence" ∷
     tells (with_key "stt" "defence" (text "hold") (of_version (number 1))) "K2 stt.defence" ∷
+    tells (with_key "stt" "defence" (text "delay") (of_version (number 1))) "K2 stt.defence" ∷
     accepts (key "ram" "misaligned" example_2) ∷
     accepts (key "predictor" "depend" example_2) ∷
     accepts (key "predictor" "history" example_2) ∷
@@ -138,6 +139,7 @@ keys_since_version_2 : all (
     accepts (with_key "cache" "second_latency" (number 3) example_2) ∷
     accepts (with_key "cache" "second_latency" (number 3) (key "cache" "second_sets" example_2)) ∷
     accepts (with_key "stt" "defence" (text "hold") example_2) ∷
+    accepts (with_key "stt" "defence" (text "delay") example_2) ∷
     []) ≡ true
 unfolding document_fault end_fault key_fault keys_fault latency_fault registers_fault second_fault sections_fault top_fault digits ones
 keys_since_version_2 = refl
@@ -221,9 +223,13 @@ models_and_defences : all (
     tells (model "Spectre" example_2) "K4 stt.model" ∷
     tells (model "" example_2) "K4 stt.model" ∷
     tells (model "hold" example_2) "K4 stt.model" ∷
+    tells (model "delay" example_2) "K4 stt.model" ∷
     tells (with_key "stt" "model" (number 1) example_2) "K4 stt.model" ∷
     accepts (defence "stt" example_2) ∷
     accepts (defence "hold" example_2) ∷
+    accepts (defence "delay" example_2) ∷
+    tells (defence "Delay" example_2) "K4 stt.defence" ∷
+    tells (defence "delayed" example_2) "K4 stt.defence" ∷
     tells (defence "fence" example_2) "K4 stt.defence" ∷
     tells (defence "off" example_2) "K4 stt.defence" ∷
     tells (defence "" example_2) "K4 stt.defence" ∷

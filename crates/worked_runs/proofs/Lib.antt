@@ -9,6 +9,7 @@ pub mod PassedStores
 pub mod Violated
 pub mod Unprotected
 pub mod Held
+pub mod Delayed
 pub mod Values
 pub mod Paths
 pub mod Limits

@@ -1,4 +1,5 @@
--- The example description in version 2, and with bits of dependence, the model `off` and the defence `hold`.
+-- The example description in version 2, and with bits of dependence, the model `off`, and the defences `hold` and
+-- `delay`.
 use Rattle.std.proofs.Common.{ℕ, IsTrue, refl}
 use lib.Count.{ones}
 use Rattle.machine_desc.specs.Example.{example}
@@ -10,7 +11,7 @@ use Rattle.machine_desc.specs.declared.Desc.{Desc}
 use Rattle.machine_desc.specs.declared.keys.Key.{Key}
 use Rattle.machine_desc.specs.declared.keys.Key.TheVariants.{PredictorDepend}
 use Rattle.machine_desc.specs.declared.SttModel.TheVariants.{Spectre, Off}
-use Rattle.machine_desc.specs.declared.Defence.TheVariants.{Stt, Hold}
+use Rattle.machine_desc.specs.declared.Defence.TheVariants.{Stt, Hold, Delay}
 
 -- the example in version 2
 abbrev pub example_2 : Desc
@@ -35,3 +36,7 @@ unprotected = with_stt example_2 Off Stt refl refl
 -- under the defence that holds the results of loads back
 abbrev pub holding : Desc
 holding = with_stt example_2 Spectre Hold refl refl
+
+-- under the defence that keeps what shows an operand waiting
+abbrev pub delaying : Desc
+delaying = with_stt example_2 Spectre Delay refl refl
