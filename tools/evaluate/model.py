@@ -9,7 +9,7 @@ from types import SimpleNamespace
 from wadrelwy.riscv.kinds import BRANCH, CALL, DIVISION, JAL, JALR, LOAD, MULTIPLICATION, STOP, STORE
 from wadrelwy.riscv.operation import SIZES, WORD, decode, division_time, effect, extend
 from wadrelwy.verdict.hart import JUMP_MISALIGNED, Memory, stored_bytes, system_call
-from wadrelwy.view.description import FUTURISTIC, HOLD, OPTIONAL, SPECTRE
+from wadrelwy.view.description import DELAY, FUTURISTIC, HOLD, OPTIONAL, SPECTRE
 
 WAITING, BUSY, DONE = "waiting", "busy", "done"
 ALU, MULTIPLIER, DIVIDER, ADDRESS, DATA, LOADS = "alu", "multiplier", "divider", "address", "data", "loads"
@@ -128,6 +128,10 @@ class Machine:
     def is_visible(self, entry):
         return all(map(self.permits, self.window[:self.window.index(entry)]))
 
+    def may_show(self, entry):
+        """What shows an operand of it may go: it is visible, or the defence doesn't delay what isn't."""
+        return self.d.defence != DELAY or self.is_visible(entry)
+
     def hidden_roots(self):
         """For each entry whether each of its sources is tainted: by the loads from which it flows that aren't visible."""
         roots, tainted, visible = {}, {}, True
@@ -205,7 +209,7 @@ class Machine:
     def resolve(self):
         tainted = self.hidden_roots()
         able = [entry for entry in self.window if entry.kind in CONTROL and entry.state == DONE and not entry.resolved
-                and not any(tainted[entry.serial])]
+                and not any(tainted[entry.serial]) and self.may_show(entry)]
         if not able:
             return []
         entry, item = able[0], able[0].item
@@ -309,9 +313,11 @@ class Machine:
         if entry.kind == STORE:
             if self.d.version == 1:
                 return [ADDRESS, DATA] if entry.state == WAITING and self.known(entry, (0, 1)) else []
-            ports = [ADDRESS] if entry.address_due is None and self.known(entry, (0,)) else []
+            ports = [ADDRESS] if entry.address_due is None and self.known(entry, (0,)) and self.may_show(entry) else []
             return ports + ([DATA] if entry.data_due is None and self.known(entry, (1,)) else [])
         if entry.state != WAITING or not self.known(entry, range(len(entry.writers))):
+            return []
+        if entry.kind in (LOAD, DIVISION) and not self.may_show(entry):
             return []
         if entry.kind == LOAD and (tainted[entry.serial][0] or not self.may_load(entry, before, tainted)):
             return []

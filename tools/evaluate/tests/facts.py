@@ -9,11 +9,15 @@ import re
 from types import SimpleNamespace
 from typing import NamedTuple
 
+from wadrelwy.view.description import OPTIONAL
+
 CRATES = os.path.join(os.path.dirname(os.path.realpath(__file__)), "..", "..", "..", "crates")
 # what facts name and the files of facts, each with the facts of one matter
 SHARED = ["machine_desc/specs/Example", "rv_types/specs/Causes", "window_model/proofs/Worked", "worked_runs/proofs/Version2"]
 FILES = ["Flow", "Accesses", "BoundsCheck", "Shadows", "PassedStores", "Violated", "Unprotected", "Held"]
 
+# the version of a description that is `renewed`
+NEWEST = 2
 START, SIZE = 0x10000, 0x10000
 BOUND, SECRET = 0x1fff0, 0x1fff8
 
@@ -50,13 +54,30 @@ def defined(text, kind):
     return dict(re.findall(DEFINED.format(kind), text, re.M | re.S))
 
 
-def values_of(name, descriptions):
-    """The values of a description, by the names of their keys; those of the one that it changes first."""
-    base, fields = re.fullmatch(r"record (\w* ?)\{(.*)\}", descriptions[name], re.S).groups()
-    values = values_of(base.strip(), descriptions) if base else {}
-    for field, value in re.findall(r"(\w+) = (\d+|[A-Z]\w+)(?=;| )", fields):
-        values[field if field == "version" else field.split("_", 1)[1]] = int(value) if value.isdigit() else value.lower()
-    return values
+def key_of(name):
+    """A key's name by that of its variant: rob by CoreRob."""
+    return re.sub("(?<!^)([A-Z])", r"_\1", name).lower().split("_", 1)[1]
+
+
+def numbers_of(name, text, descriptions):
+    """The numbers of a function of keys, by the names of the keys; those of what it changes first."""
+    *said, (_, rest) = re.findall(rf"^{name} (\w+) = (.*)$", text, re.M)
+    changed = {key_of(key): int(value) for key, value in said}
+    what, _, base = rest.removesuffix(" key").rpartition(" ")
+    if rest == "least_of (row 1 key).values":
+        return {key: default for key, (_, default) in OPTIONAL.items()} | changed
+    return (values_of(base, text, descriptions) if what == "key_number" else numbers_of(base, text, descriptions)) | changed
+
+
+def values_of(name, text, descriptions):
+    """The values of a description, by the names of their keys."""
+    how, *words = descriptions[name].split("(")[0].split()
+    if how == "renewed":
+        return values_of(words[0], text, descriptions) | {"version": NEWEST}
+    if how == "with_stt":
+        return values_of(words[0], text, descriptions) | {"model": words[1].lower(), "defence": words[2].lower()}
+    assert how in ("described", "tested"), how
+    return numbers_of(words[1], text, descriptions) | {"version": int(words[0]), "model": words[2].lower(), "defence": words[3].lower()}
 
 
 def image_of(code, bound, secret):
@@ -102,7 +123,7 @@ def read_facts():
             fact = SimpleNamespace(**found.groupdict())
             last = f"end {end_text(fact.end, causes)} retired {fact.retired} cycles {fact.cycles}"
             lines = [*row_lines(rows[fact.rows]), last]
-            facts[fact.name] = Fact(SimpleNamespace(**values_of(fact.description, descriptions)),
+            facts[fact.name] = Fact(SimpleNamespace(**values_of(fact.description, text, descriptions)),
                                     image_of(code[fact.code], int(fact.bound), int(fact.secret)), int(fact.budget),
                                     "".join(line + "\n" for line in lines))
     return facts

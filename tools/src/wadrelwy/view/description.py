@@ -8,7 +8,8 @@ from typing import NamedTuple, Optional
 from . import Fault
 
 SPECTRE, FUTURISTIC, OFF = "spectre", "futuristic", "off"
-STT, HOLD = "stt", "hold"
+STT, HOLD, DELAY = "stt", "hold", "delay"
+MODELS, DEFENCES = (SPECTRE, FUTURISTIC, OFF), (STT, HOLD, DELAY)
 # the most bytes of a description (docs/formats.md, "Words")
 DESCRIPTION_MAX = 65536
 
@@ -76,7 +77,7 @@ def read_description(name: str) -> "Description":
         values |= {key: tables.get(table, {}).get(key, default) for key, (table, default) in OPTIONAL.items()}
     except (KeyError, TypeError, AttributeError) as error:
         raise Fault(f"{name}: the description has no {error}") from None
-    for key, texts in (("model", (SPECTRE, FUTURISTIC, OFF)), ("defence", (STT, HOLD))):
+    for key, texts in (("model", MODELS), ("defence", DEFENCES)):
         if values[key] not in texts:
             raise Fault(f"{name}: stt.{key} is none of {', '.join(texts)}")
     return Description(version=tables.get("version", 1), **values)
