@@ -2,7 +2,7 @@
 use Rattle.std.proofs.Common.{refl, [], ◌∷◌}
 use Rattle.std.specs.List.{AllByRecursion as Each}
 use Rattle.machine_desc.specs.declared.SttModel.TheVariants.{Futuristic, Off, Spectre}
-use Rattle.machine_desc.specs.declared.Defence.TheVariants.{Hold, Stt}
+use Rattle.machine_desc.specs.declared.Defence.TheVariants.{Delay, Hold, Stt}
 use lib.Count.{ones}
 use lib.Utf8.{encode}
 use Rattle.std.specs.Float.Numeral.{scan_numeral}
@@ -35,6 +35,7 @@ use Rattle.generated_runs.specs.ByteAtItsEndCovered.{byte_at_its_end_covered}
 use Rattle.generated_runs.specs.CheckpointOfTheLoad.{checkpoint_of_the_load}
 use Rattle.generated_runs.specs.ClearedAtASquash.{cleared_at_a_squash}
 use Rattle.generated_runs.specs.CoveredLineIsAccessed.{covered_line_is_accessed}
+use Rattle.generated_runs.specs.DelayedUnderSpectre.{delayed_under_spectre}
 use Rattle.generated_runs.specs.DividerKeptAtAViolation.{divider_kept_at_a_violation}
 use Rattle.generated_runs.specs.DoneBranchIsUnsafe.{done_branch_is_unsafe}
 use Rattle.generated_runs.specs.FaultHeld.{fault_held}
@@ -87,6 +88,8 @@ use Rattle.generated_runs.specs.Mixed7.{mixed_7}
 use Rattle.generated_runs.specs.Mixed8.{mixed_8}
 use Rattle.generated_runs.specs.MixedAnyAddress1.{mixed_any_address_1}
 use Rattle.generated_runs.specs.MixedAnyAddress2.{mixed_any_address_2}
+use Rattle.generated_runs.specs.MixedDelay1.{mixed_delay_1}
+use Rattle.generated_runs.specs.MixedDelay2.{mixed_delay_2}
 use Rattle.generated_runs.specs.MixedHistory1.{mixed_history_1}
 use Rattle.generated_runs.specs.MixedHistory2.{mixed_history_2}
 use Rattle.generated_runs.specs.MixedMemory1.{mixed_memory_1}
@@ -105,6 +108,7 @@ use Rattle.generated_runs.specs.NoPrefetchOfAddress0.{no_prefetch_of_address_0}
 use Rattle.generated_runs.specs.NoPrefetchOnItsWay.{no_prefetch_on_its_way}
 use Rattle.generated_runs.specs.NoPrefetchWithoutRegister.{no_prefetch_without_register}
 use Rattle.generated_runs.specs.OffClearsAtOnce.{off_clears_at_once}
+use Rattle.generated_runs.specs.OffDelaysNothing.{off_delays_nothing}
 use Rattle.generated_runs.specs.OffDivides.{off_divides}
 use Rattle.generated_runs.specs.OffForwards.{off_forwards}
 use Rattle.generated_runs.specs.OffHoldsNothing.{off_holds_nothing}
@@ -295,6 +299,15 @@ unfolding ones encode scan_numeral digits count_leading_zeros chars is_utf8 skip
     second_fault sections_fault top_fault half has_magic word header_fault code_of ram_after ram_fault segment_at
     end_line cycle fetch rename retire event_text events_text row_text rows_text trace_text
 covered_line_is_accessed_agrees = agrees covered_line_is_accessed (record { version = 2; numbers = 2 ∷ 2 ∷ 16 ∷ 8 ∷ 4 ∷ 4 ∷ 8 ∷ 2 ∷ 3 ∷ 16 ∷ 4 ∷ 2 ∷ 2 ∷ 16 ∷ 2 ∷ 10 ∷ 2 ∷ 65536 ∷ 65536 ∷ 1 ∷ 0 ∷ 0 ∷ 0 ∷ 0 ∷ 1 ∷ 2 ∷ 0 ∷ []; model = Spectre; defence = Stt }) refl refl refl refl refl
+
+delayed_under_spectre_agrees : Agrees delayed_under_spectre
+unfolding ones encode scan_numeral digits count_leading_zeros chars is_utf8 skip_from skip_ws decimal_number number
+    plain_number underscore_fits unquoted word_len word_value body key_after one_line quoted simple_key special atom
+    expression header_key key_equals line lines parse_document skip_bom val along_dots along_header at_key define
+    decode zeros description_of document_fault end_fault key_fault keys_fault latency_fault registers_fault
+    second_fault sections_fault top_fault half has_magic word header_fault code_of ram_after ram_fault segment_at
+    end_line cycle fetch rename retire event_text events_text row_text rows_text trace_text
+delayed_under_spectre_agrees = agrees delayed_under_spectre (record { version = 2; numbers = 2 ∷ 2 ∷ 16 ∷ 8 ∷ 4 ∷ 4 ∷ 8 ∷ 2 ∷ 3 ∷ 16 ∷ 4 ∷ 2 ∷ 2 ∷ 16 ∷ 2 ∷ 10 ∷ 2 ∷ 65536 ∷ 65536 ∷ 0 ∷ 0 ∷ 0 ∷ 0 ∷ 0 ∷ 1 ∷ 2 ∷ 0 ∷ []; model = Spectre; defence = Delay }) refl refl refl refl refl
 
 divider_kept_at_a_violation_agrees : Agrees divider_kept_at_a_violation
 unfolding ones encode scan_numeral digits count_leading_zeros chars is_utf8 skip_from skip_ws decimal_number number
@@ -764,6 +777,24 @@ unfolding ones encode scan_numeral digits count_leading_zeros chars is_utf8 skip
     end_line cycle fetch rename retire event_text events_text row_text rows_text trace_text
 mixed_any_address_2_agrees = agrees mixed_any_address_2 (record { version = 2; numbers = 4 ∷ 2 ∷ 4 ∷ 8 ∷ 4 ∷ 2 ∷ 8 ∷ 1 ∷ 1 ∷ 2 ∷ 4 ∷ 4 ∷ 2 ∷ 4 ∷ 1 ∷ 11 ∷ 2 ∷ 65536 ∷ 65536 ∷ 1 ∷ 0 ∷ 0 ∷ 0 ∷ 0 ∷ 1 ∷ 2 ∷ 0 ∷ []; model = Spectre; defence = Stt }) refl refl refl refl refl
 
+mixed_delay_1_agrees : Agrees mixed_delay_1
+unfolding ones encode scan_numeral digits count_leading_zeros chars is_utf8 skip_from skip_ws decimal_number number
+    plain_number underscore_fits unquoted word_len word_value body key_after one_line quoted simple_key special atom
+    expression header_key key_equals line lines parse_document skip_bom val along_dots along_header at_key define
+    decode zeros description_of document_fault end_fault key_fault keys_fault latency_fault registers_fault
+    second_fault sections_fault top_fault half has_magic word header_fault code_of ram_after ram_fault segment_at
+    end_line cycle fetch rename retire event_text events_text row_text rows_text trace_text
+mixed_delay_1_agrees = agrees mixed_delay_1 (record { version = 2; numbers = 4 ∷ 3 ∷ 40 ∷ 20 ∷ 10 ∷ 10 ∷ 8 ∷ 2 ∷ 3 ∷ 16 ∷ 2 ∷ 1 ∷ 1 ∷ 16 ∷ 2 ∷ 9 ∷ 3 ∷ 65536 ∷ 4096 ∷ 1 ∷ 4 ∷ 2 ∷ 3 ∷ 2 ∷ 2 ∷ 4 ∷ 1 ∷ []; model = Spectre; defence = Delay }) refl refl refl refl refl
+
+mixed_delay_2_agrees : Agrees mixed_delay_2
+unfolding ones encode scan_numeral digits count_leading_zeros chars is_utf8 skip_from skip_ws decimal_number number
+    plain_number underscore_fits unquoted word_len word_value body key_after one_line quoted simple_key special atom
+    expression header_key key_equals line lines parse_document skip_bom val along_dots along_header at_key define
+    decode zeros description_of document_fault end_fault key_fault keys_fault latency_fault registers_fault
+    second_fault sections_fault top_fault half has_magic word header_fault code_of ram_after ram_fault segment_at
+    end_line cycle fetch rename retire event_text events_text row_text rows_text trace_text
+mixed_delay_2_agrees = agrees mixed_delay_2 (record { version = 2; numbers = 4 ∷ 2 ∷ 16 ∷ 20 ∷ 10 ∷ 4 ∷ 8 ∷ 1 ∷ 3 ∷ 16 ∷ 2 ∷ 1 ∷ 1 ∷ 16 ∷ 2 ∷ 6 ∷ 3 ∷ 65536 ∷ 4096 ∷ 1 ∷ 4 ∷ 2 ∷ 3 ∷ 2 ∷ 2 ∷ 4 ∷ 1 ∷ []; model = Futuristic; defence = Delay }) refl refl refl refl refl
+
 mixed_history_1_agrees : Agrees mixed_history_1
 unfolding ones encode scan_numeral digits count_leading_zeros chars is_utf8 skip_from skip_ws decimal_number number
     plain_number underscore_fits unquoted word_len word_value body key_after one_line quoted simple_key special atom
@@ -925,6 +956,15 @@ unfolding ones encode scan_numeral digits count_leading_zeros chars is_utf8 skip
     second_fault sections_fault top_fault half has_magic word header_fault code_of ram_after ram_fault segment_at
     end_line cycle fetch rename retire event_text events_text row_text rows_text trace_text
 off_clears_at_once_agrees = agrees off_clears_at_once (record { version = 2; numbers = 2 ∷ 2 ∷ 16 ∷ 8 ∷ 4 ∷ 4 ∷ 8 ∷ 2 ∷ 3 ∷ 16 ∷ 4 ∷ 2 ∷ 2 ∷ 16 ∷ 2 ∷ 10 ∷ 2 ∷ 65536 ∷ 65536 ∷ 0 ∷ 16 ∷ 0 ∷ 0 ∷ 0 ∷ 1 ∷ 2 ∷ 0 ∷ []; model = Off; defence = Stt }) refl refl refl refl refl
+
+off_delays_nothing_agrees : Agrees off_delays_nothing
+unfolding ones encode scan_numeral digits count_leading_zeros chars is_utf8 skip_from skip_ws decimal_number number
+    plain_number underscore_fits unquoted word_len word_value body key_after one_line quoted simple_key special atom
+    expression header_key key_equals line lines parse_document skip_bom val along_dots along_header at_key define
+    decode zeros description_of document_fault end_fault key_fault keys_fault latency_fault registers_fault
+    second_fault sections_fault top_fault half has_magic word header_fault code_of ram_after ram_fault segment_at
+    end_line cycle fetch rename retire event_text events_text row_text rows_text trace_text
+off_delays_nothing_agrees = agrees off_delays_nothing (record { version = 2; numbers = 2 ∷ 2 ∷ 16 ∷ 8 ∷ 4 ∷ 4 ∷ 8 ∷ 2 ∷ 3 ∷ 16 ∷ 4 ∷ 2 ∷ 2 ∷ 16 ∷ 2 ∷ 10 ∷ 2 ∷ 65536 ∷ 65536 ∷ 0 ∷ 0 ∷ 0 ∷ 0 ∷ 0 ∷ 1 ∷ 2 ∷ 0 ∷ []; model = Off; defence = Delay }) refl refl refl refl refl
 
 off_divides_agrees : Agrees off_divides
 unfolding ones encode scan_numeral digits count_leading_zeros chars is_utf8 skip_from skip_ws decimal_number number
@@ -1863,4 +1903,4 @@ unfolding ones encode scan_numeral digits count_leading_zeros chars is_utf8 skip
 younger_store_hides_nothing_agrees = agrees younger_store_hides_nothing (record { version = 2; numbers = 2 ∷ 2 ∷ 16 ∷ 8 ∷ 4 ∷ 4 ∷ 8 ∷ 2 ∷ 3 ∷ 16 ∷ 4 ∷ 2 ∷ 2 ∷ 16 ∷ 2 ∷ 10 ∷ 2 ∷ 65536 ∷ 65536 ∷ 0 ∷ 0 ∷ 0 ∷ 0 ∷ 0 ∷ 1 ∷ 2 ∷ 0 ∷ []; model = Spectre; defence = Stt }) refl refl refl refl refl
 
 pub each_agrees : Each Agrees runs
-each_agrees = (across_two_lines_agrees, (bit_asks_for_addresses_agrees, (bit_asks_for_no_clearing_agrees, (bits_stay_set_agrees, (branch_to_the_next_agrees, (byte_at_its_end_covered_agrees, (checkpoint_of_the_load_agrees, (cleared_at_a_squash_agrees, (covered_line_is_accessed_agrees, (divider_kept_at_a_violation_agrees, (done_branch_is_unsafe_agrees, (fault_held_agrees, (faulting_branch_squashes_agrees, (faulting_load_agrees, (faulting_store_agrees, (fill_leaves_second_agrees, (fills_as_taken_agrees, (five_returns_agrees, (five_ways_in_second_agrees, (forwarded_across_lines_agrees, (forwarded_moves_no_line_agrees, (found_in_second_agrees, (four_sets_agrees, (full_stack_agrees, (half_issued_agrees, (half_issued_data_agrees, (held_under_futuristic_agrees, (hidden_base_agrees, (history_as_fetched_agrees, (history_behind_a_jalr_agrees, (hit_and_join_agrees, (hit_leaves_second_agrees, (join_leaves_second_agrees, (joined_line_takes_no_register_agrees, (jump_that_links_elsewhere_agrees, (jumps_leave_history_agrees, (large_window_agrees, (late_address_agrees, (late_data_agrees, (late_data_version_1_agrees, (later_of_two_lines_agrees, (levels_drop_apart_agrees, (link_is_no_root_agrees, (link_through_x1_agrees, (linking_jump_agrees, (load_moves_the_line_that_hits_agrees, (load_reaches_behind_memory_agrees, (loop_by_history_agrees, (lower_line_comes_later_agrees, (memory_and_second_agrees, (misaligned_refused_agrees, (mixed_1_agrees, (mixed_2_agrees, (mixed_3_agrees, (mixed_4_agrees, (mixed_5_agrees, (mixed_6_agrees, (mixed_7_agrees, (mixed_8_agrees, (mixed_any_address_1_agrees, (mixed_any_address_2_agrees, (mixed_history_1_agrees, (mixed_history_2_agrees, (mixed_memory_1_agrees, (mixed_memory_2_agrees, (mixed_second_level_1_agrees, (mixed_second_level_2_agrees, (mixed_settings_agrees, (mixed_together_1_agrees, (mixed_together_2_agrees, (next_line_fetched_agrees, (no_prefetch_behind_memory_agrees, (no_prefetch_for_a_hit_agrees, (no_prefetch_for_a_join_agrees, (no_prefetch_of_a_held_line_agrees, (no_prefetch_of_address_0_agrees, (no_prefetch_on_its_way_agrees, (no_prefetch_without_register_agrees, (off_clears_at_once_agrees, (off_divides_agrees, (off_forwards_agrees, (off_holds_nothing_agrees, (off_violates_agrees, (older_load_hides_nothing_agrees, (older_store_without_data_agrees, (older_tainted_address_agrees, (one_byte_agrees, (one_port_each_agrees, (partly_covered_agrees, (parts_alone_agrees, (prefetch_at_the_end_of_memory_agrees, (prefetch_behind_both_lines_agrees, (prefetch_behind_the_lower_line_agrees, (prefetch_behind_x0_agrees, (prefetch_from_second_agrees, (prefetch_moves_second_agrees, (prefetched_to_the_front_agrees, (recent_in_second_agrees, (registers_for_both_lines_agrees, (return_by_another_register_agrees, (return_by_stack_agrees, (return_from_no_call_agrees, (return_that_links_agrees, (return_without_stack_agrees, (run_01_agrees, (run_02_agrees, (run_03_agrees, (run_04_agrees, (run_05_agrees, (run_06_agrees, (run_07_agrees, (run_08_agrees, (run_09_agrees, (run_10_agrees, (run_11_agrees, (run_12_agrees, (run_13_agrees, (run_14_agrees, (run_15_agrees, (run_16_agrees, (run_17_agrees, (run_18_agrees, (run_19_agrees, (run_20_agrees, (run_21_agrees, (run_22_agrees, (run_23_agrees, (run_24_agrees, (run_25_agrees, (run_26_agrees, (run_27_agrees, (run_28_agrees, (run_29_agrees, (run_30_agrees, (run_31_agrees, (run_32_agrees, (run_33_agrees, (run_34_agrees, (run_35_agrees, (run_36_agrees, (run_37_agrees, (run_38_agrees, (second_filled_at_fill_agrees, (second_moved_at_once_agrees, (sets_of_second_agrees, (seven_digits_of_history_agrees, (short_history_agrees, (sixteen_bits_agrees, (squash_by_history_agrees, (stack_behind_a_squash_agrees, (store_behind_load_agrees, (store_moves_both_lines_agrees, (store_moves_the_line_that_hits_agrees, (store_moves_the_lower_line_agrees, (store_passes_second_agrees, (store_reaches_behind_memory_agrees, (store_without_data_shadows_agrees, (taint_through_division_agrees, (tainted_address_agrees, (tainted_address_faulting_load_agrees, (tainted_address_faulting_store_agrees, (tainted_address_hidden_agrees, (tainted_data_agrees, (tainted_data_hides_nothing_agrees, (tainted_fault_hides_agrees, (tainted_link_agrees, (target_replaced_agrees, (two_joins_agrees, (uncleared_fault_hides_agrees, (violated_behind_a_younger_store_agrees, (violated_without_data_agrees, (visible_fault_given_agrees, (waiting_fence_is_safe_agrees, (waiting_jal_is_safe_agrees, (waiting_jalr_is_unsafe_agrees, (waiting_load_moves_nothing_agrees, (waiting_lui_is_safe_agrees, (waiting_product_is_safe_agrees, (waiting_store_hides_nothing_agrees, (wrong_return_pops_agrees, (younger_address_agrees, (younger_store_agrees, (younger_store_hides_nothing_agrees, tt)))))))))))))))))))))))))))))))))))))))))))))))))))))))))))))))))))))))))))))))))))))))))))))))))))))))))))))))))))))))))))))))))))))))))))))))))))))))))))))))))))))))))))))))))))))))
+each_agrees = (across_two_lines_agrees, (bit_asks_for_addresses_agrees, (bit_asks_for_no_clearing_agrees, (bits_stay_set_agrees, (branch_to_the_next_agrees, (byte_at_its_end_covered_agrees, (checkpoint_of_the_load_agrees, (cleared_at_a_squash_agrees, (covered_line_is_accessed_agrees, (delayed_under_spectre_agrees, (divider_kept_at_a_violation_agrees, (done_branch_is_unsafe_agrees, (fault_held_agrees, (faulting_branch_squashes_agrees, (faulting_load_agrees, (faulting_store_agrees, (fill_leaves_second_agrees, (fills_as_taken_agrees, (five_returns_agrees, (five_ways_in_second_agrees, (forwarded_across_lines_agrees, (forwarded_moves_no_line_agrees, (found_in_second_agrees, (four_sets_agrees, (full_stack_agrees, (half_issued_agrees, (half_issued_data_agrees, (held_under_futuristic_agrees, (hidden_base_agrees, (history_as_fetched_agrees, (history_behind_a_jalr_agrees, (hit_and_join_agrees, (hit_leaves_second_agrees, (join_leaves_second_agrees, (joined_line_takes_no_register_agrees, (jump_that_links_elsewhere_agrees, (jumps_leave_history_agrees, (large_window_agrees, (late_address_agrees, (late_data_agrees, (late_data_version_1_agrees, (later_of_two_lines_agrees, (levels_drop_apart_agrees, (link_is_no_root_agrees, (link_through_x1_agrees, (linking_jump_agrees, (load_moves_the_line_that_hits_agrees, (load_reaches_behind_memory_agrees, (loop_by_history_agrees, (lower_line_comes_later_agrees, (memory_and_second_agrees, (misaligned_refused_agrees, (mixed_1_agrees, (mixed_2_agrees, (mixed_3_agrees, (mixed_4_agrees, (mixed_5_agrees, (mixed_6_agrees, (mixed_7_agrees, (mixed_8_agrees, (mixed_any_address_1_agrees, (mixed_any_address_2_agrees, (mixed_delay_1_agrees, (mixed_delay_2_agrees, (mixed_history_1_agrees, (mixed_history_2_agrees, (mixed_memory_1_agrees, (mixed_memory_2_agrees, (mixed_second_level_1_agrees, (mixed_second_level_2_agrees, (mixed_settings_agrees, (mixed_together_1_agrees, (mixed_together_2_agrees, (next_line_fetched_agrees, (no_prefetch_behind_memory_agrees, (no_prefetch_for_a_hit_agrees, (no_prefetch_for_a_join_agrees, (no_prefetch_of_a_held_line_agrees, (no_prefetch_of_address_0_agrees, (no_prefetch_on_its_way_agrees, (no_prefetch_without_register_agrees, (off_clears_at_once_agrees, (off_delays_nothing_agrees, (off_divides_agrees, (off_forwards_agrees, (off_holds_nothing_agrees, (off_violates_agrees, (older_load_hides_nothing_agrees, (older_store_without_data_agrees, (older_tainted_address_agrees, (one_byte_agrees, (one_port_each_agrees, (partly_covered_agrees, (parts_alone_agrees, (prefetch_at_the_end_of_memory_agrees, (prefetch_behind_both_lines_agrees, (prefetch_behind_the_lower_line_agrees, (prefetch_behind_x0_agrees, (prefetch_from_second_agrees, (prefetch_moves_second_agrees, (prefetched_to_the_front_agrees, (recent_in_second_agrees, (registers_for_both_lines_agrees, (return_by_another_register_agrees, (return_by_stack_agrees, (return_from_no_call_agrees, (return_that_links_agrees, (return_without_stack_agrees, (run_01_agrees, (run_02_agrees, (run_03_agrees, (run_04_agrees, (run_05_agrees, (run_06_agrees, (run_07_agrees, (run_08_agrees, (run_09_agrees, (run_10_agrees, (run_11_agrees, (run_12_agrees, (run_13_agrees, (run_14_agrees, (run_15_agrees, (run_16_agrees, (run_17_agrees, (run_18_agrees, (run_19_agrees, (run_20_agrees, (run_21_agrees, (run_22_agrees, (run_23_agrees, (run_24_agrees, (run_25_agrees, (run_26_agrees, (run_27_agrees, (run_28_agrees, (run_29_agrees, (run_30_agrees, (run_31_agrees, (run_32_agrees, (run_33_agrees, (run_34_agrees, (run_35_agrees, (run_36_agrees, (run_37_agrees, (run_38_agrees, (second_filled_at_fill_agrees, (second_moved_at_once_agrees, (sets_of_second_agrees, (seven_digits_of_history_agrees, (short_history_agrees, (sixteen_bits_agrees, (squash_by_history_agrees, (stack_behind_a_squash_agrees, (store_behind_load_agrees, (store_moves_both_lines_agrees, (store_moves_the_line_that_hits_agrees, (store_moves_the_lower_line_agrees, (store_passes_second_agrees, (store_reaches_behind_memory_agrees, (store_without_data_shadows_agrees, (taint_through_division_agrees, (tainted_address_agrees, (tainted_address_faulting_load_agrees, (tainted_address_faulting_store_agrees, (tainted_address_hidden_agrees, (tainted_data_agrees, (tainted_data_hides_nothing_agrees, (tainted_fault_hides_agrees, (tainted_link_agrees, (target_replaced_agrees, (two_joins_agrees, (uncleared_fault_hides_agrees, (violated_behind_a_younger_store_agrees, (violated_without_data_agrees, (visible_fault_given_agrees, (waiting_fence_is_safe_agrees, (waiting_jal_is_safe_agrees, (waiting_jalr_is_unsafe_agrees, (waiting_load_moves_nothing_agrees, (waiting_lui_is_safe_agrees, (waiting_product_is_safe_agrees, (waiting_store_hides_nothing_agrees, (wrong_return_pops_agrees, (younger_address_agrees, (younger_store_agrees, (younger_store_hides_nothing_agrees, tt)))))))))))))))))))))))))))))))))))))))))))))))))))))))))))))))))))))))))))))))))))))))))))))))))))))))))))))))))))))))))))))))))))))))))))))))))))))))))))))))))))))))))))))))))))))))))))

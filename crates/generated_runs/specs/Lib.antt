@@ -10,6 +10,7 @@ pub mod ByteAtItsEndCovered
 pub mod CheckpointOfTheLoad
 pub mod ClearedAtASquash
 pub mod CoveredLineIsAccessed
+pub mod DelayedUnderSpectre
 pub mod DividerKeptAtAViolation
 pub mod DoneBranchIsUnsafe
 pub mod FaultHeld
@@ -62,6 +63,8 @@ pub mod Mixed7
 pub mod Mixed8
 pub mod MixedAnyAddress1
 pub mod MixedAnyAddress2
+pub mod MixedDelay1
+pub mod MixedDelay2
 pub mod MixedHistory1
 pub mod MixedHistory2
 pub mod MixedMemory1
@@ -80,6 +83,7 @@ pub mod NoPrefetchOfAddress0
 pub mod NoPrefetchOnItsWay
 pub mod NoPrefetchWithoutRegister
 pub mod OffClearsAtOnce
+pub mod OffDelaysNothing
 pub mod OffDivides
 pub mod OffForwards
 pub mod OffHoldsNothing

@@ -10,6 +10,7 @@ use Rattle.generated_runs.specs.ByteAtItsEndCovered.{byte_at_its_end_covered}
 use Rattle.generated_runs.specs.CheckpointOfTheLoad.{checkpoint_of_the_load}
 use Rattle.generated_runs.specs.ClearedAtASquash.{cleared_at_a_squash}
 use Rattle.generated_runs.specs.CoveredLineIsAccessed.{covered_line_is_accessed}
+use Rattle.generated_runs.specs.DelayedUnderSpectre.{delayed_under_spectre}
 use Rattle.generated_runs.specs.DividerKeptAtAViolation.{divider_kept_at_a_violation}
 use Rattle.generated_runs.specs.DoneBranchIsUnsafe.{done_branch_is_unsafe}
 use Rattle.generated_runs.specs.FaultHeld.{fault_held}
@@ -62,6 +63,8 @@ use Rattle.generated_runs.specs.Mixed7.{mixed_7}
 use Rattle.generated_runs.specs.Mixed8.{mixed_8}
 use Rattle.generated_runs.specs.MixedAnyAddress1.{mixed_any_address_1}
 use Rattle.generated_runs.specs.MixedAnyAddress2.{mixed_any_address_2}
+use Rattle.generated_runs.specs.MixedDelay1.{mixed_delay_1}
+use Rattle.generated_runs.specs.MixedDelay2.{mixed_delay_2}
 use Rattle.generated_runs.specs.MixedHistory1.{mixed_history_1}
 use Rattle.generated_runs.specs.MixedHistory2.{mixed_history_2}
 use Rattle.generated_runs.specs.MixedMemory1.{mixed_memory_1}
@@ -80,6 +83,7 @@ use Rattle.generated_runs.specs.NoPrefetchOfAddress0.{no_prefetch_of_address_0}
 use Rattle.generated_runs.specs.NoPrefetchOnItsWay.{no_prefetch_on_its_way}
 use Rattle.generated_runs.specs.NoPrefetchWithoutRegister.{no_prefetch_without_register}
 use Rattle.generated_runs.specs.OffClearsAtOnce.{off_clears_at_once}
+use Rattle.generated_runs.specs.OffDelaysNothing.{off_delays_nothing}
 use Rattle.generated_runs.specs.OffDivides.{off_divides}
 use Rattle.generated_runs.specs.OffForwards.{off_forwards}
 use Rattle.generated_runs.specs.OffHoldsNothing.{off_holds_nothing}
@@ -197,6 +201,7 @@ runs =
     checkpoint_of_the_load ∷
     cleared_at_a_squash ∷
     covered_line_is_accessed ∷
+    delayed_under_spectre ∷
     divider_kept_at_a_violation ∷
     done_branch_is_unsafe ∷
     fault_held ∷
@@ -249,6 +254,8 @@ runs =
     mixed_8 ∷
     mixed_any_address_1 ∷
     mixed_any_address_2 ∷
+    mixed_delay_1 ∷
+    mixed_delay_2 ∷
     mixed_history_1 ∷
     mixed_history_2 ∷
     mixed_memory_1 ∷
@@ -267,6 +274,7 @@ runs =
     no_prefetch_on_its_way ∷
     no_prefetch_without_register ∷
     off_clears_at_once ∷
+    off_delays_nothing ∷
     off_divides ∷
     off_forwards ∷
     off_holds_nothing ∷

@@ -4,9 +4,11 @@ the right rule; PROVED are those that a theorem refuses, by the name of the crat
 SAFE = "return self.kind not in (CALL, STOP) and self.settled and (self.kind not in CONTROL or self.fault is None)"
 KEEPS = "if head is None or head.state != DONE or head.kind in CONTROL"
 FLOWS = "set().union(*by_source)"
-SETTLED = "return self.resolved if self.kind in CONTROL else self.cleared"
-UNKNOWN = "            if store.address_due is None and not passes:\n"
 GIVES = "writer not in self.window or self.gives(writer) for"
+HELD = "held = self.d.defence == HOLD and"
+CLEARS = "and not tainted[entry.serial][0]]\n        if not able:"
+ISSUES_LOAD = "if entry.kind == LOAD and (tainted[entry.serial][0] or"
+DIVIDES = "if entry.kind == DIVISION and (any(tainted[entry.serial]) or"
 RENAMED = '            events.append(f"ren:{self.next_serial}:{item.pc:08x}")\n'
 
 ALIKE = [
@@ -41,11 +43,16 @@ ALIKE = [
     ("`hold` leaves out divisions", GIVES, GIVES.replace("self.gives(writer)", "self.gives(writer) or writer.state == DONE and "
      "entry.kind == DIVISION"),
      "what is held back is tainted, and a division with a tainted operand waits anyway"),
+    ("`delay` holds results back as `hold` does", HELD, HELD.replace("== HOLD", "in (HOLD, DELAY)"),
+     "a load issues only once it is visible, and it stays so"),
+    ("under `delay` a store is cleared only once it is visible", CLEARS, CLEARS.replace("]\n", " and self.may_show(entry)]\n"),
+     "its address issues only once it is visible, and it stays so"),
+    ("under `delay` a load may have a tainted base", ISSUES_LOAD, ISSUES_LOAD.replace("tainted", "self.d.defence != DELAY and tainted"),
+     "what is visible has no tainted operand, for what is older is visible too"),
+    ("under `delay` a division may have a tainted operand", DIVIDES, DIVIDES.replace("(any", "(self.d.defence != DELAY and any"),
+     "what is visible has no tainted operand, for what is older is visible too"),
 ]
 PROVED = [
-    ("under `spectre` a store that no load passed hides nothing", (SETTLED, UNKNOWN),
-     (SETTLED.replace("self.cleared", "self.cleared or not getattr(self, 'passed', False)"),
-      "            store.passed = getattr(store, 'passed', False) or store.address_due is None\n" + UNKNOWN), "noninterference"),
     ("behind the last address nothing follows", "pc, behind = item.pc, item.pc + 4 & WORD", "pc, behind = item.pc, item.pc + 4",
      "committed_state"),
 ]

@@ -25,7 +25,7 @@ COUNTS = "self.counters[place] = min(self.counters[place] + 1, 3) if entry.value
 GUESS = "return self.counters[self.counter_of(branch)] >= 2"
 TEACHES = "elif entry.fault is None:\n            place"
 SQUASHES = "if entry.fault is not None or entry.next != item.predicted:"
-ABLE = "entry.state == DONE and not entry.resolved\n                and not any(tainted[entry.serial])]"
+ABLE = "entry.state == DONE and not entry.resolved\n                and not any(tainted[entry.serial]) and self.may_show(entry)]"
 STORED_TARGET = "return stored[1] if stored and stored[0] == pc else behind"
 GOES_ON = "self.fetch_pc = None if entry.fault is not None else entry.next"
 FREED = "        if self.user in self.window[keep:]:\n            self.free_from, self.user = 0, None\n"

@@ -1,4 +1,4 @@
-"""Wrong rules of the model `off` and of the defence `hold`: what is wrong, a text of the model, what stands there then, and facts whose
+"""Wrong rules of the model `off` and of the defences `hold` and `delay`: what is wrong, a text of the model, what stands there then, and facts whose
 traces it changes."""
 
 PASSES = "entry.settled if self.d.model == SPECTRE else entry.safe if self.d.model == FUTURISTIC else True"
@@ -12,11 +12,37 @@ AS_SPECTRE = f"""        model, self.d.model = self.d.model, SPECTRE if {OFF} el
 """
 HELD = "held = self.d.defence == HOLD and writer.kind == LOAD and not self.is_visible(writer)"
 GIVES = "writer not in self.window or self.gives(writer) for"
+SHOWS = "return self.d.defence != DELAY or self.is_visible(entry)"
+RESOLVES_SO = "and not any(tainted[entry.serial]) and self.may_show(entry)]"
+WAITS = "        if entry.kind in (LOAD, DIVISION) and not self.may_show(entry):\n"
+ADDRESS_WAITS = " and self.known(entry, (0,)) and self.may_show(entry) else []"
+OLDER = "self.window[:self.window.index(entry)]"
 
 
 def leaves_out(which):
     """`hold` that holds nothing back from these."""
     return GIVES.replace("self.gives(writer)", f"self.gives(writer) or writer.state == DONE and ({which})")
+
+
+def delays(which):
+    """`delay` that asks of an entry this instead of whether it is visible."""
+    return SHOWS.replace("self.is_visible(entry)", which)
+
+
+def under(model, other):
+    """`delay` that asks what is visible under another model than the description's, where that is this one."""
+    permits = {"spectre": "earlier.settled", "futuristic": "earlier.safe", "off": "True"}[other]
+    return delays(f"all({permits} if self.d.model == {model!r} else self.permits(earlier) for earlier in {OLDER})")
+
+
+def resolves(kind):
+    """Resolve in which entries of this kind don't wait."""
+    return RESOLVES_SO.replace("self.may_show(entry)", f"(entry.kind == {kind} or self.may_show(entry))")
+
+
+def waits_too(which):
+    """Issue in which these wait, too."""
+    return WAITS.replace("entry.kind in (LOAD, DIVISION)", f"({which})")
 
 
 WRONG = [
@@ -46,4 +72,36 @@ WRONG = [
     ("`hold` leaves out the second source", GIVES, leaves_out("len(sources) == 2 and writer is entry.writers[1]"), ["each_kind_held"]),
     ("`hold` holds back the result of a load that is visible", HELD, HELD.replace(" and not self.is_visible(writer)", ""), ["visible_given"]),
     ("`hold` holds back what isn't a load's result", HELD, HELD.replace("writer.kind == LOAD and ", ""), ["sums_not_held"]),
+
+    # the defence `delay`
+    ("`delay` is as `stt`", SHOWS, "return True", ["delayed_under_spectre", "mixed_delay_1", "mixed_delay_2"]),
+    ("`stt` is as `delay`", SHOWS, "return self.is_visible(entry)", ["bypass_2", "passed_2"]),
+    ("`hold` delays too", SHOWS, SHOWS.replace("!= DELAY", "not in (DELAY, HOLD)"), ["data_held", "base_held", "mixed_settings"]),
+    ("under `delay` a load doesn't wait", WAITS, WAITS.replace("(LOAD, DIVISION)", "(DIVISION,)"),
+     ["delayed_under_spectre", "mixed_delay_2"]),
+    ("under `delay` a division doesn't wait", WAITS, WAITS.replace("(LOAD, DIVISION)", "(LOAD,)"),
+     ["delayed_under_spectre", "mixed_delay_2"]),
+    ("under `delay` a branch doesn't wait", RESOLVES_SO, resolves("BRANCH"),
+     ["delayed_under_spectre"]),
+    ("under `delay` a JALR doesn't wait", RESOLVES_SO, resolves("JALR"),
+     ["delayed_under_spectre", "mixed_delay_2"]),
+    ("under `delay` the address of a store doesn't wait", ADDRESS_WAITS, ADDRESS_WAITS.replace(" and self.may_show(entry)", ""),
+     ["delayed_under_spectre"]),
+    ("under `delay` the data of a store waits", "self.known(entry, (1,)) else", "self.known(entry, (1,)) and self.may_show(entry) else",
+     ["delayed_under_spectre"]),
+    ("under `delay` arithmetic waits", WAITS, waits_too("entry.kind not in (MULTIPLICATION, *CONTROL)"), ["delayed_under_spectre"]),
+    ("under `delay` a multiplication waits", WAITS, waits_too("entry.kind in (LOAD, DIVISION, MULTIPLICATION)"), ["delayed_under_spectre"]),
+    ("under `delay` a branch waits before it executes", WAITS, waits_too("entry.kind in (LOAD, DIVISION, BRANCH)"), ["delayed_under_spectre"]),
+    ("under `delay` a JALR waits before it executes", WAITS, waits_too("entry.kind in (LOAD, DIVISION, JALR)"), ["delayed_under_spectre"]),
+    ("under `delay` an entry waits for itself", SHOWS, delays("all(map(self.permits, self.window[:self.window.index(entry) + 1]))"),
+     ["delayed_under_spectre", "mixed_delay_2"]),
+    ("under `delay` the entry before isn't asked", SHOWS, delays("all(map(self.permits, self.window[:max(self.window.index(entry) - 1, 0)]))"),
+     ["delayed_under_spectre", "mixed_delay_2"]),
+    ("under `delay` what shows waits until it is the oldest", SHOWS, delays("entry is self.window[0]"), ["delayed_under_spectre"]),
+    ("under `delay` what shows waits only behind branches", SHOWS, delays(f"all(map(self.permits, (e for e in {OLDER} if e.kind in CONTROL)))"),
+     ["mixed_delay_2"]),
+    ("under `spectre` `delay` asks what `futuristic` does", SHOWS, under("spectre", "futuristic"), ["delayed_under_spectre"]),
+    ("under `futuristic` `delay` asks what `spectre` does", SHOWS, under("futuristic", "spectre"), ["mixed_delay_2"]),
+    ("under `off` `delay` asks what `spectre` does", SHOWS, under("off", "spectre"), ["off_delays_nothing"]),
+    ("under `off` `delay` asks what `futuristic` does", SHOWS, under("off", "futuristic"), ["off_delays_nothing"]),
 ]

@@ -8,13 +8,14 @@ FLOWS = "roots[entry.serial] = set().union(*by_source) | ({entry.serial} if entr
 OWN = "if entry.kind == LOAD and not visible else set()"
 TAINTS = "tainted[entry.serial] = [bool(source) for source in by_source]"
 ORDER = "            visible = visible and self.permits(entry)\n"
-ABLE = "and not any(tainted[entry.serial])]\n        if not able:\n            return []\n        entry, item"
+ABLE = "and not any(tainted[entry.serial]) and self.may_show(entry)]\n        if not able:\n            return []\n        entry, item"
 DIVIDES = "if entry.kind == DIVISION and (any(tainted[entry.serial]) or"
 LOADS = "if entry.kind == LOAD and (tainted[entry.serial][0] or not"
 HIDES = "not any(tainted[store.serial][0] for store in before if store.kind == STORE)"
+UNKNOWN = "            if store.address_due is None and not passes:\n"
 FAULTS = 'return [(load, {**values, "value": 0, "fault": fault})], [f"ld:{serial}:x"]'
 PASSES = "return entry.settled if self.d.model == SPECTRE else entry.safe if self.d.model == FUTURISTIC else True"
-PARTS = "            ports = [ADDRESS] if entry.address_due is None and self.known(entry, (0,)) else []\n"
+PARTS = "            ports = [ADDRESS] if entry.address_due is None and self.known(entry, (0,)) and self.may_show(entry) else []\n"
 
 WRONG = [
     # what is safe
@@ -73,6 +74,9 @@ WRONG = [
     ("under `spectre` a store hides only with its address unknown", SETTLED,
      SETTLED.replace("else self.cleared", "else self.cleared or self.address_due is not None"),
      ["uncleared_fault_hides"]),
+    ("under `spectre` a store that no load passed hides nothing", (SETTLED, UNKNOWN),
+     (SETTLED.replace("self.cleared", "self.cleared or not getattr(self, 'passed', False)"),
+      "            store.passed = getattr(store, 'passed', False) or store.address_due is None\n" + UNKNOWN), ["mixed_delay_1"]),
 
     # what is tainted
     ("taint flows through the first source alone", FLOWS, FLOWS.replace("*by_source", "*by_source[:1]"),
