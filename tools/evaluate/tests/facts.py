@@ -14,7 +14,7 @@ from wadrelwy.view.description import OPTIONAL
 CRATES = os.path.join(os.path.dirname(os.path.realpath(__file__)), "..", "..", "..", "crates")
 # what facts name and the files of facts, each with the facts of one matter
 SHARED = ["machine_desc/specs/Example", "rv_types/specs/Causes", "window_model/proofs/Worked", "worked_runs/proofs/Version2"]
-FILES = ["Flow", "Accesses", "BoundsCheck", "Shadows", "PassedStores", "Violated", "Unprotected", "Held"]
+FILES = ["Flow", "Accesses", "BoundsCheck", "Shadows", "PassedStores", "Violated", "Unprotected", "Held", "Delayed"]
 
 # the version of a description that is `renewed`
 NEWEST = 2
