@@ -11,10 +11,9 @@ use Rattle.machine_desc.specs.declared.Desc.{Desc}
 use Rattle.machine_desc.specs.declared.SttModel.TheVariants.{Spectre}
 use Rattle.machine_desc.specs.declared.Defence.TheVariants.{Stt}
 use Rattle.machine_desc.specs.declared.keys.Key.{Key}
-use Rattle.machine_desc.specs.declared.keys.Key.TheVariants.{RamBase, RamSize}
-use Rattle.machine_desc.specs.declared.keys.Values.{Values}
-use Rattle.machine_desc.specs.declared.keys.Values.TheVariants.{Numbers, Optional}
-use Rattle.machine_desc.specs.Table.{values_of}
+use Rattle.machine_desc.specs.declared.keys.Key.TheVariants.{CoreFetchWidth, CoreRetireWidth, CoreRob, CoreStations, CoreLoads, CoreStores, CoreQueue, UnitsAlus, UnitsMulLatency, PredictorCounters, PredictorBtb, PredictorDepend, PredictorHistory, PredictorReturns, CacheSets, CacheWays, CacheLine, CacheHitLatency, CacheMissLatency, CacheMshrs, CacheSecondSets, CacheSecondWays, CacheSecondLatency, CachePrefetch, RamBase, RamSize, RamMisaligned}
+use Rattle.machine_desc.specs.Table.{row}
+use Rattle.machine_desc.specs.Clean.{least_of}
 use Rattle.machine_desc.specs.Ranges.{bound}
 use Rattle.machine_desc.proofs.Tested.{all_pass, tested}
 use Rattle.window_model.specs.declared.Entry.{Entry}
@@ -36,17 +35,36 @@ use Rattle.window_model.specs.SecondLevel.{second_set_of, second_with_line}
 use Rattle.window_model.specs.State.{Machine, opening, set_of}
 use Rattle.window_model.proofs.Worked.{memory}
 
--- the most of a key's numbers
-abbrev most_of : Values → ℕ
-most_of (Numbers least most shape) = most
-most_of (Optional least most shape) = most
-most_of _ = 0
-
--- each number the most that version 2 knows, but for RAM's
+-- each number the most that version 2 knows, but for RAM's; a key that is left out here has the least
 abbrev largest_number : Key → ℕ
+largest_number CoreFetchWidth = 4
+largest_number CoreRetireWidth = 4
+largest_number CoreRob = 192
+largest_number CoreStations = 96
+largest_number CoreLoads = 64
+largest_number CoreStores = 48
+largest_number CoreQueue = 32
+largest_number UnitsAlus = 4
+largest_number UnitsMulLatency = 8
+largest_number PredictorCounters = 4096
+largest_number PredictorBtb = 256
+largest_number PredictorDepend = 1024
+largest_number PredictorHistory = 12
+largest_number PredictorReturns = 16
+largest_number CacheSets = 256
+largest_number CacheWays = 8
+largest_number CacheLine = 64
+largest_number CacheHitLatency = 8
+largest_number CacheMissLatency = 200
+largest_number CacheMshrs = 8
+largest_number CacheSecondSets = 1024
+largest_number CacheSecondWays = 8
+largest_number CacheSecondLatency = 100
+largest_number CachePrefetch = 1
 largest_number RamBase = 65536
 largest_number RamSize = 65536
-largest_number key = most_of (values_of 2 key)
+largest_number RamMisaligned = 1
+largest_number key = least_of (row 2 key).values
 
 largest_passes : IsTrue (all_pass 2 largest_number Spectre Stt)
 unfolding ones
