@@ -1,6 +1,6 @@
 -- Who may be resolved, cleared and issue, who asks for a port and who is granted one is seen alike, where each load
 -- that asks has one address.
-use Rattle.std.proofs.Common.{◌≡◌, ℕ, ◌+◌, Bool, true, false, not, ◌&&◌, List, [], ◌∷◌, refl, ap, ap₂, sym, ◌∙◌}
+use Rattle.std.proofs.Common.{◌≡◌, ℕ, ◌+◌, Bool, true, false, not, ◌&&◌, ◌||◌, List, [], ◌∷◌, refl, ap, ap₂, sym, ◌∙◌}
 use Rattle.std.specs.Prelude.{if◌then◌else◌, nat_lt, ◌==◌}
 use Rattle.rv_types.specs.Causes.{load_misaligned, load_outside}
 use Rattle.rv_types.specs.Memory.{load_fault, range}
@@ -17,6 +17,7 @@ use Rattle.window_model.specs.MayIssue.{address_of, bytes_of, goes_behind, may_i
 use Rattle.window_model.specs.Ports.{Port, AddressPort, DataPort, asking, is_granted, may_at, part_may, port_of, ports, same_port}
 use Rattle.window_model.proofs.Together.{address_part, data_part, is_whole, ready_part}
 use Rattle.window_model.specs.Order.{base_of, has_address, has_data, is_control, is_done, is_load, is_store, is_waiting, others_of, sources}
+use Rattle.window_model.specs.Delay.{delays, may_show}
 use Rattle.window_model.specs.Dependence.{waits_for_stores}
 use Rattle.window_model.specs.Ready.{ready}
 use Rattle.window_model.specs.Retire.{byte_count}
@@ -24,14 +25,19 @@ use Rattle.window_model.specs.Taint.{address_tainted, any_tainted}
 use Rattle.window_model.proofs.Memory.{same_fault}
 use Rattle.two_runs.specs.Laws.{MayClearAlike, MayResolveAlike}
 use Rattle.two_runs.specs.Seen.{AsksAlike, EachAsks, SeenEntries, SeenMachine, without_outcome}
-use Rattle.two_runs.proofs.Looking.{same_address, same_all_known, same_any, same_stores_done, stores_let_alike}
+use Rattle.two_runs.proofs.Looking.{same_address, same_all_known, same_any, same_stores_done, same_visible, stores_let_alike}
 
 -- ---- who may be resolved, and who may be cleared
+
+-- two runs see alike whether what stands behind these entries may show its operands
+pub show_alike : (d : Desc) (b b2 : List Entry) → SeenEntries d.stt_model b b2 → may_show d b ≡ may_show d b2
+show_alike d b b2 s = ap (λ v. not (delays d.stt_defence) || v) (same_visible d.stt_model b b2 s)
 
 -- two runs see alike whether an entry may be resolved
 pub may_resolve_alike : MayResolveAlike
 may_resolve_alike d b b2 s e e2 h =
-    ap₂ (λ a t. a && not t) (ap (λ (t : Entry). is_control t.item.kind && is_done t.state && not t.resolved) h) (same_any d.stt_model b b2 s e e2 h)
+    ap₂ (λ a c. a && c) (ap (λ (t : Entry). is_control t.item.kind && is_done t.state && not t.resolved) h)
+    (ap₂ (λ t v. not t && v) (same_any d.stt_model b b2 s e e2 h) (show_alike d b b2 s))
 
 -- two runs see alike whether an entry may be cleared
 pub may_clear_alike : MayClearAlike
@@ -85,17 +91,17 @@ module _ (d : Desc) (x x2 : Machine) (m : SeenMachine x x2) where
     ready_alike = same_all_known d b b2 (sources e) (sources e2) s (ap sources h)
 
     -- two runs see alike whether an entry of a kind may issue as one
-    kind_alike : (k : Kind) → ((is_load k && (is_waiting e.state && ready d b e && not (address_tainted d.stt_model b e))) ≡ true → address_of x.regs b e ≡ address_of x2.regs b2 e2) →
+    kind_alike : (k : Kind) → ((is_load k && (is_waiting e.state && ready d b e && (not (address_tainted d.stt_model b e) && may_show d b))) ≡ true → address_of x.regs b e ≡ address_of x2.regs b2 e2) →
         (is_waiting e.state && ready d b e && may_issue_as k d now b e) ≡ (is_waiting e2.state && ready d b2 e2 && may_issue_as k d now2 b2 e2)
     kind_alike Load n =
-        let tainted = ap not (same_address d.stt_model b b2 s e e2 h) in
-        guarded (is_waiting e.state) (ready d b e) (not (address_tainted d.stt_model b e)) (goes_behind d now b e) (goes_behind d now2 b2 e2) (λ q. behind_alike (n q))
-        ∙ ap₂ (λ w r. w && r && (not (address_tainted d.stt_model b e) && goes_behind d now2 b2 e2)) waits_alike ready_alike
-        ∙ ap (λ c. is_waiting e2.state && ready d b2 e2 && (c && goes_behind d now2 b2 e2)) tainted
+        let clear = ap₂ (λ t v. not t && v) (same_address d.stt_model b b2 s e e2 h) (show_alike d b b2 s) in
+        guarded (is_waiting e.state) (ready d b e) (not (address_tainted d.stt_model b e) && may_show d b) (goes_behind d now b e) (goes_behind d now2 b2 e2) (λ q. behind_alike (n q))
+        ∙ ap₂ (λ w r. w && r && ((not (address_tainted d.stt_model b e) && may_show d b) && goes_behind d now2 b2 e2)) waits_alike ready_alike
+        ∙ ap (λ c. is_waiting e2.state && ready d b2 e2 && (c && goes_behind d now2 b2 e2)) clear
     kind_alike Div n =
-        let tainted = ap not (same_any d.stt_model b b2 s e e2 h) in
-        ap₂ (λ w r. w && r && (not (any_tainted d.stt_model b e) && is_free now)) waits_alike ready_alike
-        ∙ ap₂ (λ c f. is_waiting e2.state && ready d b2 e2 && (c && f)) tainted m.free
+        let clear = ap₂ (λ t v. not t && v) (same_any d.stt_model b b2 s e e2 h) (show_alike d b b2 s) in
+        ap₂ (λ w r. w && r && ((not (any_tainted d.stt_model b e) && may_show d b) && is_free now)) waits_alike ready_alike
+        ∙ ap₂ (λ c f. is_waiting e2.state && ready d b2 e2 && (c && f)) clear m.free
     kind_alike _ n = ap₂ (λ w r. w && r && true) waits_alike ready_alike
 
     -- two runs see alike whether an entry may issue as one
@@ -105,16 +111,18 @@ module _ (d : Desc) (x x2 : Machine) (m : SeenMachine x x2) where
         ∙ ap (λ (u : Entry). is_waiting e2.state && ready d b2 e2 && may_issue_as u.item.kind d now2 b2 e2) h
 
     -- two runs see alike whether a part of a store is ready
-    part_ready : (own own2 : List ℕ) → own ≡ own2 → ready_part d own b e ≡ ready_part d own2 b2 e2
-    part_ready own own2 q = ap₂ (λ y z. if d.version == 1 then y else z) (ap₂ (λ r w. r && w) ready_alike (ap is_whole h)) (same_all_known d b b2 own own2 s q)
+    part_ready : (own own2 : List ℕ) (shows shows2 : Bool) → own ≡ own2 → shows ≡ shows2 → ready_part d own shows b e ≡ ready_part d own2 shows2 b2 e2
+    part_ready own own2 shows shows2 q k =
+        ap₂ (λ y z. if d.version == 1 then y else z) (ap₂ (λ r v. r && v) (ap₂ (λ r w. r && w) ready_alike (ap is_whole h)) (show_alike d b b2 s))
+        (ap₂ (λ g a. g && a) k (same_all_known d b b2 own own2 s q))
 
     -- two runs see alike whether a part of a store may issue at a port
     pub part_alike : (port : Port) → part_may port d b e ≡ part_may port d b2 e2
     part_alike AddressPort =
-        address_part d b e ∙ ap₂ (λ a k. not a && k) (ap has_address h) (part_ready _ _ (ap (λ (u : Entry). base_of (sources u)) h))
+        address_part d b e ∙ ap₂ (λ a k. not a && k) (ap has_address h) (part_ready _ _ _ _ (ap (λ (u : Entry). base_of (sources u)) h) (show_alike d b b2 s))
         ∙ sym (address_part d b2 e2)
     part_alike DataPort =
-        data_part d b e ∙ ap₂ (λ a k. not a && k) (ap has_data h) (part_ready _ _ (ap (λ (u : Entry). others_of (sources u)) h))
+        data_part d b e ∙ ap₂ (λ a k. not a && k) (ap has_data h) (part_ready _ _ true true (ap (λ (u : Entry). others_of (sources u)) h) refl)
         ∙ sym (data_part d b2 e2)
     part_alike _ = refl
 

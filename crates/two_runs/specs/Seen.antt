@@ -8,6 +8,7 @@ use Rattle.window_model.specs.declared.Entry.{Entry}
 use Rattle.window_model.specs.State.{After, Machine}
 use Rattle.window_model.specs.Access.{covers}
 use Rattle.window_model.specs.Around.{around, is_free}
+use Rattle.window_model.specs.Delay.{may_show}
 use Rattle.window_model.specs.MayIssue.{address_of}
 use Rattle.window_model.specs.Order.{is_load, is_store, is_waiting}
 use Rattle.window_model.specs.Ready.{ready}
@@ -37,10 +38,11 @@ pub record SeenMachine (x x2 : Machine) : Type 0 where
   pub free : is_free (around x) ≡ is_free (around x2)
   pub place : SameShape x.ram x2.ram
 
--- an entry has one address in both runs, if it is a load that waits and is ready, with an untainted base
+-- an entry has one address in both runs, if it is a load that waits and is ready, with an untainted base that it may
+-- show
 abbrev pub AsksAlike : Desc → Machine → Machine → List Entry → List Entry → Entry → Entry → Type 0
 AsksAlike d x x2 before before2 e e2 =
-    (is_load e.item.kind && (is_waiting e.state && ready d before e && not (address_tainted d.stt_model before e))) ≡ true →
+    (is_load e.item.kind && (is_waiting e.state && ready d before e && (not (address_tainted d.stt_model before e) && may_show d before))) ≡ true →
     address_of x.regs before e ≡ address_of x2.regs before2 e2
 
 -- each of these entries, youngest first, asks alike
