@@ -15,6 +15,7 @@ use Rattle.window_model.specs.Ready.{ready}
 use Rattle.window_model.specs.Rename.{is_call}
 use Rattle.window_model.specs.Access.{covers}
 use Rattle.window_model.specs.Retire.{Retired, addr_of, byte_count, hart_of, op_of}
+use Rattle.window_model.specs.Delay.{may_show}
 use Rattle.window_model.specs.Taint.{address_tainted, any_tainted}
 use Rattle.window_model.proofs.Booleans.{neither}
 use Rattle.window_model.proofs.Taints.{any_agree}
@@ -36,7 +37,7 @@ use Rattle.secret_marks.proofs.Outputs.{of_nothing}
 use Rattle.secret_marks.proofs.Publish.{PutAlike}
 use Rattle.two_runs.specs.Seen.{SeenEntries, SeenMachine, without_outcome}
 use Rattle.two_runs.proofs.Looking.{same_address, same_any}
-use Rattle.two_runs.proofs.May.{part_alike, ready_alike, waits_alike}
+use Rattle.two_runs.proofs.May.{part_alike, ready_alike, show_alike, waits_alike}
 
 -- ---- marks of operands
 
@@ -154,11 +155,11 @@ module _ (d : Desc) (m : Marks) (x x2 : Machine) (h : AlikeBut m x x2) where
 
     decides_alike : (j : Kind) → decides_as j d b e ≡ decides_as j d b2 e2
     decides_alike Load =
-        ap₂ (λ w r. w && r && not (address_tainted d.stt_model b e)) (waits_alike d x x2 seen b b2 older e e2 others) (ready_alike d x x2 seen b b2 older e e2 others)
-        ∙ ap (λ c. is_waiting e2.state && ready d b2 e2 && not c) (same_address d.stt_model b b2 older e e2 others)
+        ap₂ (λ w r. w && r && (not (address_tainted d.stt_model b e) && may_show d b)) (waits_alike d x x2 seen b b2 older e e2 others) (ready_alike d x x2 seen b b2 older e e2 others)
+        ∙ ap₂ (λ c v. is_waiting e2.state && ready d b2 e2 && (not c && v)) (same_address d.stt_model b b2 older e e2 others) (show_alike d b b2 older)
     decides_alike Div =
-        ap₂ (λ w r. w && r && not (any_tainted d.stt_model b e)) (waits_alike d x x2 seen b b2 older e e2 others) (ready_alike d x x2 seen b b2 older e e2 others)
-        ∙ ap (λ c. is_waiting e2.state && ready d b2 e2 && not c) (same_any d.stt_model b b2 older e e2 others)
+        ap₂ (λ w r. w && r && (not (any_tainted d.stt_model b e) && may_show d b)) (waits_alike d x x2 seen b b2 older e e2 others) (ready_alike d x x2 seen b b2 older e e2 others)
+        ∙ ap₂ (λ c v. is_waiting e2.state && ready d b2 e2 && (not c && v)) (same_any d.stt_model b b2 older e e2 others) (show_alike d b b2 older)
     decides_alike Store = part_alike d x x2 seen b b2 older e e2 others AddressPort
     decides_alike _ = refl
 
