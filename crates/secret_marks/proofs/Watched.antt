@@ -1,5 +1,5 @@
 -- A cycle in which nothing shows moves marks alike beside two machines, and shows nothing of the second.
-use Rattle.std.proofs.Common.{◌≡◌, ℕ, ◌+◌, ◌-◌, Bool, true, false, ◌||◌, List, [], ◌++◌, length, take, replicate, Option, Some, None, refl, ap, ap₂, sym, ◌∙◌, subst}
+use Rattle.std.proofs.Common.{◌≡◌, ℕ, ◌+◌, ◌-◌, false, ◌||◌, List, [], ◌++◌, length, take, replicate, Option, Some, None, refl, ap, ap₂, sym, ◌∙◌, subst}
 use Rattle.rv_types.specs.Memory.{Code}
 use Rattle.rv_types.specs.declared.End.{End}
 use Rattle.machine_desc.specs.declared.Desc.{Desc}
@@ -14,17 +14,16 @@ use Rattle.window_model.specs.Rename.{rename}
 use Rattle.window_model.specs.Cycle.{begins_cycle, cycle}
 use Rattle.window_model.specs.Committed.{Aligned}
 use Rattle.window_model.proofs.Booleans.{neither}
-use Rattle.window_model.proofs.Quiet.{at_retire, before_quiet}
+use Rattle.window_model.proofs.Quiet.{before_quiet}
 use Rattle.committed_state.specs.Consistent.{Consistent, ConsistentIn}
 use Rattle.committed_state.proofs.Cycle.{consistent_before}
 use Rattle.committed_state.proofs.Numbers.{before_cycle, retire_cycle}
 use Rattle.committed_state.proofs.Retire.{consistent_retire}
-use Rattle.secret_marks.specs.declared.EntryMarks.{EntryMarks}
 use Rattle.secret_marks.specs.Marks.{Marks, after_issue_marks, after_retire_marks, cut, extended, issued_from, new_entry}
 use Rattle.secret_marks.specs.Published.{Public, published, published_marks}
-use Rattle.secret_marks.specs.Shows.{head_shows, operands_show, resolved_shows}
+use Rattle.secret_marks.specs.Shows.{head_shows, resolved_shows}
 use Rattle.secret_marks.specs.Watch.{Watched, then_watches, watch_before, watch_clear, watch_complete, watch_cycle, watch_fetch, watch_issue, watch_resolve, watch_retire}
-use Rattle.secret_marks.specs.Alike.{AlikeBut, SameEntry, StaysAlike}
+use Rattle.secret_marks.specs.Alike.{AlikeBut, SameEntry}
 use Rattle.secret_marks.proofs.Complete.{complete_keeps, fill_keeps}
 use Rattle.secret_marks.proofs.Resolve.{resolve_keeps}
 use Rattle.secret_marks.proofs.Clear.{clear_keeps}
