@@ -6,6 +6,7 @@ use Rattle.window_model.specs.State.{Machine}
 use Rattle.window_model.specs.Around.{around, is_free}
 use Rattle.window_model.specs.Ports.{Port, is_granted, may_at}
 use Rattle.window_model.specs.Order.{is_load, is_waiting}
+use Rattle.window_model.specs.Delay.{may_show}
 use Rattle.window_model.specs.Ready.{ready}
 use Rattle.window_model.specs.Shape.{SameShape}
 use Rattle.window_model.specs.Taint.{address_tainted}
@@ -25,8 +26,9 @@ module _ (d : Desc) (x x2 : Machine) (r : Alike x x2) (place : SameShape x.ram x
   asks : (b b2 : List Entry) → SameOutcomes d.stt_model b b2 → (e e2 : Entry) → without_outcome e ≡ without_outcome e2 → AsksAlike d x x2 b b2 e e2
   asks b b2 s e e2 h q =
       let w = (both (is_load e.item.kind) _ q).1 in
+      let t = (both (is_waiting e.state && ready d b e) (not (address_tainted d.stt_model b e) && may_show d b) w).1 in
       address_alike d.stt_model x x2 (ap (λ (m : Machine). m.regs) r) b b2 s e e2 h
-      (not_true _ (both (is_waiting e.state && ready d b e) (not (address_tainted d.stt_model b e)) w).1)
+      (not_true _ (both (not (address_tainted d.stt_model b e)) (may_show d b) t).0)
 
   each_asks : (b b2 : List Entry) → SameOutcomes d.stt_model b b2 → EachAsks d x x2 b b2
   each_asks [] [] s = tt

@@ -79,7 +79,7 @@ places_tell d (Some p) (Some p2) x x2 s f q =
     let t = both (is_control e.item.kind && is_done e.state && not e.resolved) _ may in
     let done = both (is_control e.item.kind && is_done e.state) _ t.0 in
     let k = (both (is_control e.item.kind) _ done.0).0 in
-    let same = same_entry e p2.entry s.here.but_outcome (same_outcome e.item.kind d.stt_model p.before e p2.entry s.here.outcomes k (not_true _ t.1)) in
+    let same = same_entry e p2.entry s.here.but_outcome (same_outcome e.item.kind d.stt_model p.before e p2.entry s.here.outcomes k (not_true _ (both (not (any_tainted d.stt_model p.before e)) _ t.1).0)) in
     let h = same_rest d.stt_model p.before p2.before (seen_alike d.stt_model p.before p2.before s.before) in
     at_tells d p.before p2.before e p.younger p2.younger x x2 h s.younger q
     ∙ ap (λ t. shown_after (resolve_at d (Some (record { before = p2.before; entry = t; younger = p2.younger })) x2)) same
