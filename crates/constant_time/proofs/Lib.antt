@@ -1,0 +1,14 @@
+pub mod Differ
+pub mod Onward
+pub mod Issue
+pub mod Resolve
+pub mod Retire
+pub mod Cycle
+pub mod Runs
+pub mod Sources
+pub mod Pieces
+pub mod StepMarks
+pub mod PathMarks
+pub mod Delayed
+pub mod Ciphers
+pub mod Judged

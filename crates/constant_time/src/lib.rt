@@ -1,0 +1,71 @@
+//! Laws of the constant-time contract: what leaks alike on the path gives one trace, under a defence that lets nothing
+//! show an operand before it is visible, as `delay` is (docs/theorems.md, "Constant time on the path").
+//!
+//! The path of a program is its run of the instruction set. What it leaks are the addresses of its instructions, of its
+//! loads and stores, where its branches go, its dividends and what its calls are asked for (`specs/Leaks.antt`).
+#![tactic(auto)]
+
+ghost use Rattle.constant_time.specs.Certified.{
+  EndedPathLeaksAlike,
+  EveryCore,
+  EveryCoreOfOneOutput,
+  FirstStepShows,
+  OnePathForAllOfOneOutput,
+  OnePathTellsAll,
+  PathPublishesItsSteps,
+};
+ghost use Rattle.constant_time.specs.Laws.{
+  ContractUnderDelay,
+  ContractWhereShownIsVisible,
+  DelayWaits,
+  IssueLeaksAlike,
+  ResolveLeaksAlike,
+  RetireLeaksAlike,
+};
+ghost use Rattle.constant_time.specs.Worked.{CipherOnEveryCore, PathsThatHide, PathsThatPublish, PathsThatShow, TableShows};
+
+/// Two memories of one shape of which the path leaks alike, in the steps that a trace retires and as many more as the
+/// window holds, give one trace: under a model that protects, in any run in which what shows an operand is visible.
+/// Under the defence `delay` that is every run.
+pub fn what_leaks_alike_gives_one_trace()
+    ensures wherever_visible { ContractWhereShownIsVisible }
+    ensures waits { DelayWaits }
+    ensures delay { ContractUnderDelay }
+{}
+
+/// In each phase that looks at values two machines whose paths leak alike have the same events, and stay equal but for
+/// values.
+pub fn phases_leak_alike()
+    ensures resolve { ResolveLeaksAlike }
+    ensures retire { RetireLeaksAlike }
+    ensures issue { IssueLeaksAlike }
+{}
+
+/// One run of the instruction set that ends, with marks beside it of which none shows, proves for every secret with
+/// which it publishes the same, that the trace is one: under every description with a model that protects and the
+/// defence `delay`, whatever its sizes, and of any number of cycles. Where no stream is public that is every secret.
+/// Where something shows there is a first step in which it does.
+pub fn one_path_proves_every_core()
+    ensures path { OnePathTellsAll }
+    ensures ended { EndedPathLeaksAlike }
+    ensures publishes { PathPublishesItsSteps }
+    ensures first { FirstStepShows }
+    ensures one_path { OnePathForAllOfOneOutput }
+    ensures every_core_output { EveryCoreOfOneOutput }
+    ensures every_core { EveryCore }
+{}
+
+/// What the paths of small programs show, and in which step; what they don't; and what shows no more once it is
+/// published.
+pub fn paths_are_judged()
+    ensures shown { PathsThatShow }
+    ensures hidden { PathsThatHide }
+    ensures published { PathsThatPublish }
+{}
+
+/// A cipher that loads its key has one trace for all keys on every core with `delay`, by one run of the instruction set
+/// with one key; a look-up in a table by the key shows.
+pub fn cipher_hides_its_key_on_every_core()
+    ensures every_core { CipherOnEveryCore }
+    ensures table { TableShows }
+{}
