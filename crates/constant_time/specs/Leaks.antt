@@ -1,5 +1,5 @@
--- What a path leaks, step by step: what the constant-time contract lets be seen (docs/theorems.md, "Constant time on the
--- path").
+-- What a path leaks, step by step: what the constant-time contract lets be seen (docs/theorems.md, "Constant time on
+-- the path").
 use Rattle.std.specs.Prelude.{◌≡◌, ℕ, zero, suc, ◌+◌, ◌≤◌, ◌||◌, ◌==◌, if◌then◌else◌, List, [], ◌∷◌}
 use Rattle.rv_types.specs.Memory.{Code}
 use Rattle.rv_types.specs.Value.{one_if}
@@ -14,8 +14,8 @@ use Rattle.window_model.specs.Path.{path}
 use Rattle.window_model.specs.Retire.{hart_of}
 use Rattle.window_model.specs.State.{Machine}
 
--- where a branch or JALR goes: its value (of a branch 1 where it is taken, else 0), the next address, and 1 where that is
--- misaligned
+-- where a branch or JALR goes: its value (of a branch 1 where it is taken, else 0), the next address, and 1 where that
+-- is misaligned
 abbrev pub goes_so : Effect → List ℕ
 goes_so f = f.value ∷ f.next ∷ one_if f.misaligned ∷ []
 
@@ -26,8 +26,8 @@ asked regs =
     ∷ (if reg regs 17 == 93 || reg regs 17 == 94 then reg regs 10 ∷ []
     else if reg regs 17 == 64 then reg regs 10 ∷ reg regs 11 ∷ reg regs 12 ∷ [] else [])
 
--- what an instruction of a kind leaks in a state: the base of a load or store, the dividend of a division, where a branch
--- or JALR goes, what a call is asked for
+-- what an instruction of a kind leaks in a state: the base of a load or store, the dividend of a division, where a
+-- branch or JALR goes, what a call is asked for
 abbrev pub leak_as : Kind → Hart → Instr → List ℕ
 leak_as Load s i = first_of (reads_of i) s.regs ∷ []
 leak_as Store s i = first_of (reads_of i) s.regs ∷ []
