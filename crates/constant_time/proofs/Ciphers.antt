@@ -4,33 +4,28 @@ use Rattle.std.specs.Int.Count.{count_leading_zeros}
 use Rattle.rv_types.specs.Decode.{decode}
 use Rattle.rv_types.specs.Isa.{isa_step, start}
 use Rattle.rv_types.specs.Path.{pass_step}
-use Rattle.machine_desc.specs.declared.SttModel.{SttModel}
-use Rattle.machine_desc.specs.declared.SttModel.TheVariants.{Spectre, Futuristic, Off}
-use Rattle.window_model.specs.Path.{path}
 use Rattle.window_model.proofs.Worked.{aligned_words, code_of}
 use Rattle.secret_marks.specs.Cipher.{cipher, keyed, no_key, the_key}
 use Rattle.secret_marks.proofs.EveryKey.{agree_but}
 use Rattle.secret_marks.specs.Published.{no_stream}
 use Rattle.constant_time.specs.PathMarks.{first_marks, path_shows}
 use Rattle.constant_time.specs.Worked.{CipherEnds, CipherOnEveryCore, TableShows}
-use Rattle.constant_time.proofs.Delayed.{every_core}
+use Rattle.constant_time.proofs.BothModels.{every_core_of_both}
+use Rattle.constant_time.proofs.PathMarks.{nothing_published}
 
-ends : (model : SttModel) → CipherEnds model
-unfolding decode isa_step pass_step count_leading_zeros keyed code_of
-ends Spectre = refl
-ends Futuristic = refl
-ends Off = refl
+ends : CipherEnds
+unfolding decode pass_step count_leading_zeros keyed code_of
+ends = refl
 
-hides : (model : SttModel) → path_shows no_stream (path model) (code_of cipher) 60 (start 0x10000 (keyed no_key)) (first_marks the_key (keyed no_key)) ≡ false
-unfolding decode isa_step pass_step count_leading_zeros keyed code_of
-hides Spectre = refl
-hides Futuristic = refl
-hides Off = refl
+hides : path_shows no_stream pass_step (code_of cipher) 60 (start 0x10000 (keyed no_key)) (first_marks the_key (keyed no_key)) ≡ false
+unfolding decode pass_step count_leading_zeros keyed code_of
+hides = refl
 
 pub cipher_on_every_core : CipherOnEveryCore
 cipher_on_every_core d n protected delayed key l b =
-    every_core (code_of cipher) 0x10000 the_key (keyed no_key) (keyed key) 60 (aligned_words cipher) (agree_but key l b) d n protected delayed (ends d.stt_model) (hides d.stt_model)
+    every_core_of_both no_stream (code_of cipher) 0x10000 the_key (keyed no_key) (keyed key) 60 (aligned_words cipher) (agree_but key l b) ends hides
+    (nothing_published pass_step (code_of cipher) 60 0x10000 (keyed no_key) (keyed key)) d n protected delayed
 
 pub table_shows : TableShows
-unfolding decode isa_step pass_step count_leading_zeros keyed code_of
+unfolding decode isa_step count_leading_zeros keyed code_of
 table_shows = refl

@@ -10,5 +10,6 @@ pub mod Pieces
 pub mod StepMarks
 pub mod PathMarks
 pub mod Delayed
+pub mod BothModels
 pub mod Ciphers
 pub mod Judged

@@ -3,6 +3,7 @@
 use Rattle.std.specs.Prelude.{◌≡◌, ℕ, ◌+◌, true, false, is_some}
 use Rattle.rv_types.specs.Isa.{Hart, Step, isa_step, start}
 use Rattle.rv_types.specs.Memory.{Code, Ram}
+use Rattle.rv_types.specs.Path.{pass_step}
 use Rattle.machine_desc.specs.declared.Desc.{Desc}
 use Rattle.machine_desc.specs.declared.SttModel.{SttModel}
 use Rattle.window_model.specs.Committed.{Aligned}
@@ -64,6 +65,15 @@ abbrev pub EveryCoreOfOneOutput : Type 0
 EveryCoreOfOneOutput = (public : Public) (code : Code) (entry : ℕ) (secret : Secret) (m m2 : Ram) (k : ℕ) → Aligned code → AgreeBut secret m m2 →
     (d : Desc) (n : ℕ) → protects d.stt_model ≡ true → delays d.stt_defence ≡ true → path_ends (path d.stt_model) code k (start entry m) ≡ true →
     path_shows public (path d.stt_model) code k (start entry m) (first_marks secret m) ≡ false → PublishSame public (path d.stt_model) code k entry m m2 →
+    trace d code entry m2 n ≡ trace d code entry m n
+
+-- one walk is of both models: where the run that passes faulting accesses over ends within k steps in which nothing
+-- marked shows, every memory that differs in secret bytes alone, and from which these steps publish the same, gives the
+-- trace, on every core with a model that protects and the defence `delay`
+abbrev pub EveryCoreOfBothModels : Type 0
+EveryCoreOfBothModels = (public : Public) (code : Code) (entry : ℕ) (secret : Secret) (m m2 : Ram) (k : ℕ) → Aligned code → AgreeBut secret m m2 →
+    path_ends pass_step code k (start entry m) ≡ true → path_shows public pass_step code k (start entry m) (first_marks secret m) ≡ false →
+    PublishSame public pass_step code k entry m m2 → (d : Desc) (n : ℕ) → protects d.stt_model ≡ true → delays d.stt_defence ≡ true →
     trace d code entry m2 n ≡ trace d code entry m n
 
 -- where no stream is public nothing is asked of what memories publish: where the path of one memory ends within k steps

@@ -4,6 +4,7 @@ use Rattle.machine_desc.specs.declared.Desc.{Desc}
 use Rattle.machine_desc.specs.declared.SttModel.{SttModel}
 use Rattle.machine_desc.specs.declared.SttModel.TheVariants.{Spectre, Futuristic}
 use Rattle.rv_types.specs.Isa.{start}
+use Rattle.rv_types.specs.Path.{pass_step}
 use Rattle.window_model.proofs.Worked.{bounds_check, branch, code_of, divisor, fault, injection, memory}
 use Rattle.window_model.specs.Cycle.{trace}
 use Rattle.window_model.specs.Delay.{delays}
@@ -89,9 +90,9 @@ pub record PathsThatPublish : Type 0 where
 
 -- ---- a cipher, and a look-up in a table
 
--- a run of the cipher with the key 0 ends within 60 steps
-abbrev pub CipherEnds : SttModel → Type 0
-CipherEnds model = path_ends (path model) (code_of cipher) 60 (start 0x10000 (keyed no_key)) ≡ true
+-- the run of the cipher with the key 0 ends within 60 steps
+abbrev pub CipherEnds : Type 0
+CipherEnds = path_ends pass_step (code_of cipher) 60 (start 0x10000 (keyed no_key)) ≡ true
 
 -- two rounds of XTEA have one trace for all keys, of any number of cycles, on every core with a model that protects and
 -- the defence `delay`

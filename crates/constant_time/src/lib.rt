@@ -8,6 +8,7 @@
 ghost use Rattle.constant_time.specs.Certified.{
   EndedPathLeaksAlike,
   EveryCore,
+  EveryCoreOfBothModels,
   EveryCoreOfOneOutput,
   FirstStepShows,
   OnePathForAllOfOneOutput,
@@ -44,7 +45,8 @@ pub fn phases_leak_alike()
 /// One run of the instruction set that ends, with marks beside it of which none shows, proves for every secret with
 /// which it publishes the same, that the trace is one: under every description with a model that protects and the
 /// defence `delay`, whatever its sizes, and of any number of cycles. Where no stream is public that is every secret.
-/// Where something shows there is a first step in which it does.
+/// One walk of the run that passes faulting accesses over is enough for both models. Where something shows there is a
+/// first step in which it does.
 pub fn one_path_proves_every_core()
     ensures path { OnePathTellsAll }
     ensures ended { EndedPathLeaksAlike }
@@ -53,6 +55,7 @@ pub fn one_path_proves_every_core()
     ensures one_path { OnePathForAllOfOneOutput }
     ensures every_core_output { EveryCoreOfOneOutput }
     ensures every_core { EveryCore }
+    ensures both_models { EveryCoreOfBothModels }
 {}
 
 /// What the paths of small programs show, and in which step; what they don't; and what shows no more once it is
