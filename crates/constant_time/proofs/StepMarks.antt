@@ -415,18 +415,18 @@ module _ (m : PathMarks) (s s2 : Hart) (h : StatesAlike m s s2) where
   word_go b None n = (tt, tt)
   word_go b (Some w) n = (step_go b (decode w) n, step_pieces b (decode w) n)
 
-  path_is : (code : Code) (t : Hart) (o : Option ℕ) (b : Bool) → code t.pc ≡ o → (if b then pass_at o t else step_at o t) ≡ at_word b o t
-  path_is code t None true q = refl
-  path_is code t None false q = refl
-  path_is code t (Some w) true q = refl
-  path_is code t (Some w) false q = refl
+  path_is : (t : Hart) (o : Option ℕ) (b : Bool) → (if b then pass_at o t else step_at o t) ≡ at_word b o t
+  path_is t None true = refl
+  path_is t None false = refl
+  path_is t (Some w) true = refl
+  path_is t (Some w) false = refl
 
   at_same : (b : Bool) (code : Code) → shows_as (kind_at (code s.pc)) s (instr_at (code s.pc)) m.regs ≡ false →
       Both (instr_at (code s.pc)) (if b then pass_at (code s.pc) s else step_at (code s.pc) s) (if b then pass_at (code s2.pc) s2 else step_at (code s2.pc) s2)
   at_same b code n =
       let i = instr_at (code s.pc) in
-      let q2 = ap (λ p. if b then pass_at (code p) s2 else step_at (code p) s2) (sym h.pc) ∙ path_is code s2 (code s.pc) b (ap code (sym h.pc)) in
-      subst (λ t. Both i t (if b then pass_at (code s2.pc) s2 else step_at (code s2.pc) s2)) (sym (path_is code s (code s.pc) b refl)) (subst (λ t. Both i (at_word b (code s.pc) s) t) (sym q2) (word_go b (code s.pc) n))
+      let q2 = ap (λ p. if b then pass_at (code p) s2 else step_at (code p) s2) (sym h.pc) ∙ path_is s2 (code s.pc) b in
+      subst (λ t. Both i t (if b then pass_at (code s2.pc) s2 else step_at (code s2.pc) s2)) (sym (path_is s (code s.pc) b)) (subst (λ t. Both i (at_word b (code s.pc) s) t) (sym q2) (word_go b (code s.pc) n))
 
   -- a step of a path in which nothing shows
   pub path_go : (model : SttModel) (code : Code) → shows_as (kind_at (code s.pc)) s (instr_at (code s.pc)) m.regs ≡ false → Both (instr_at (code s.pc)) (path model code s) (path model code s2)
