@@ -41,7 +41,7 @@ isa_ends code (suc k) s h = more (isa_step code s) refl (λ t a. isa_ends code k
 
 -- a run that passes faults over, ends within k steps and leaks alike in them does so on the path of each model that
 -- protects, in any number of steps
-on_path : (model : SttModel) → protects model ≡ true → (code : Code) (k n : ℕ) (s s2 : Hart) → path_ends pass_step code k s ≡ true → LeakAlike pass_step code k s s2 →
+pub on_path : (model : SttModel) → protects model ≡ true → (code : Code) (k n : ℕ) (s s2 : Hart) → path_ends pass_step code k s ≡ true → LeakAlike pass_step code k s s2 →
     LeakAlike (path model) code n s s2
 on_path Spectre p code k n s s2 e h = ended_leaks pass_step code k n s s2 e h
 on_path Futuristic p code k n s s2 e h = ended_leaks isa_step code k n s s2 (isa_ends code k s e) (isa_leaks code k s s2 h)

@@ -12,10 +12,12 @@ unfolding decode isa_step pass_step count_leading_zeros memory code_of
 paths_that_show = record {
   looked_up = refl;
   stored_to = refl;
+  stored_told = refl;
   branches = refl;
   jumps = refl;
   divides = refl;
   exits = refl;
+  exit_told = refl;
   passed = refl;
   forwarded = refl;
   stored = refl;

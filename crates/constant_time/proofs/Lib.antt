@@ -11,5 +11,6 @@ pub mod StepMarks
 pub mod PathMarks
 pub mod Delayed
 pub mod BothModels
+pub mod PlainEnds
 pub mod Ciphers
 pub mod Judged

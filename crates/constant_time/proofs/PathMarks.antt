@@ -8,10 +8,13 @@ use Rattle.machine_desc.specs.declared.SttModel.{SttModel}
 use Rattle.window_model.specs.Fetch.{instr_at, kind_at}
 use Rattle.window_model.specs.Path.{path}
 use Rattle.window_model.proofs.Booleans.{neither}
+use Rattle.secret_marks.specs.Alike.{AgreeBut}
+use Rattle.secret_marks.specs.Marks.{Secret}
 use Rattle.secret_marks.specs.Published.{Public, no_stream, published, published_in, then_published}
 use Rattle.secret_marks.proofs.Outputs.{split}
 use Rattle.secret_marks.proofs.Trace.{opening_alike}
 use Rattle.constant_time.specs.Certified.{EndedPathLeaksAlike, FirstStepShows, OnePathTellsAll, PathPublishesItsSteps, PublishSame}
+use Rattle.constant_time.specs.declared.FirstStep.{FirstStep}
 use Rattle.constant_time.specs.Leaks.{BothGo, LeakAlike, leak, leak_as}
 use Rattle.constant_time.specs.PathMarks.{PathMarks, after_instr, after_step, behind, ends_behind, first_behind, first_marks, first_shown, path_ends, path_published, path_shows, shows, shows_as}
 use Rattle.constant_time.proofs.Pieces.{PiecesAlike, published_alike, published_length}
@@ -52,16 +55,20 @@ path_leaks public model code (suc n) m s s2 h q e =
     more (Exits v t) t2 a o k e f = tt
     more (Traps c) t2 a o k e f = tt
 
-pub path_tells : OnePathTellsAll
-path_tells public model code entry secret m m2 n agree q e =
+-- two memories that agree but for secret bytes begin in states that are equal but where marks stand
+pub starts_alike : (entry : ℕ) (secret : Secret) (m m2 : Ram) → AgreeBut secret m m2 → StatesAlike (first_marks secret m) (start entry m) (start entry m2)
+starts_alike entry secret m m2 agree =
     let x = opening_alike example entry secret m m2 agree in
-    let start_alike : StatesAlike (first_marks secret m) (start entry m) (start entry m2) = record {
+    record {
       pc = refl;
       regs = x.regs;
       place = record { base = agree.base; size = agree.size; misaligned = agree.misaligned };
       bytes = x.bytes;
-    } in
-    path_leaks public model code n (first_marks secret m) (start entry m) (start entry m2) start_alike q e
+    }
+
+pub path_tells : OnePathTellsAll
+path_tells public model code entry secret m m2 n agree q e =
+    path_leaks public model code n (first_marks secret m) (start entry m) (start entry m2) (starts_alike entry secret m m2 agree) q e
 
 -- ---- paths that end
 
@@ -110,7 +117,7 @@ pub first_shows : FirstStepShows
 first_shows public step code zero k s m = refl
 first_shows public step code (suc n) k s m = by_test (shows code s m) _ _ (more (step code s) (λ t o. first_shows public step code n (k + 1) t (after_step public s (instr_at (code s.pc)) o m)))
   where
-    by_test : (b : Bool) (o : Option ℕ) (c : Bool) → is_some o ≡ c → is_some (if b then Some k else o) ≡ (b || c)
+    by_test : (b : Bool) (o : Option FirstStep) (c : Bool) → is_some o ≡ c → is_some (if b then Some (record { step = k; kind = kind_at (code s.pc); pc = s.pc }) else o) ≡ (b || c)
     by_test true o c q = refl
     by_test false o c q = q
 

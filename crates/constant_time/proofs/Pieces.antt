@@ -46,6 +46,27 @@ silent_passed true s i (Traps c) h = by_cause (nat_le 4 c.number)
 
 -- ---- two steps
 
+-- where the first step goes on, so does the second
+abbrev pub GoesWith : Step → Step → Type 0
+GoesWith (Goes t p) (Goes t2 p2) = Unit {0}
+GoesWith (Goes t p) _ = ⊥
+GoesWith _ _ = Unit {0}
+
+-- accesses that fault alike go on alike
+pub with_or : (f f2 : Option Cause) → f ≡ f2 → (t t2 : Step) → GoesWith t t2 → GoesWith (or_trap f t) (or_trap f2 t2)
+with_or None None e t t2 h = h
+with_or (Some c) f2 e t t2 h = tt
+with_or None (Some c) e t t2 h = absurd (cc)
+
+-- instructions that jump alike go on alike
+pub with_other : (s s2 : Hart) (rd rd2 : Option ℕ) (e e2 : Effect) → e.misaligned ≡ e2.misaligned → GoesWith (other_step s rd e) (other_step s2 rd2 e2)
+with_other s s2 rd rd2 e e2 q = by_jump e.misaligned e2.misaligned q
+  where
+    by_jump : (c c2 : Bool) → c ≡ c2 → GoesWith (if c then Traps jump_misaligned else Goes (goes_to s rd e) []) (if c2 then Traps jump_misaligned else Goes (goes_to s2 rd2 e2) [])
+    by_jump false false q = tt
+    by_jump true c2 q = tt
+    by_jump false true q = absurd (cc)
+
 -- two steps put out as many bytes to one stream, which both memories have behind them from a1 on
 pub record WroteAlike (s s2 t t2 : Hart) (p p2 : List ℕ) : Type 0 where
   pub stream : reg s.regs 10 ≡ reg s2.regs 10

@@ -34,7 +34,7 @@ use Rattle.secret_marks.proofs.Access.{no_byte}
 use Rattle.secret_marks.proofs.Calls.{CallsAlike, calls_alike, same_reg}
 use Rattle.secret_marks.proofs.Publish.{empty_of, asked_same as asked_same_call}
 use Rattle.secret_marks.proofs.Puts.{CallPuts, Writes, call_puts}
-use Rattle.constant_time.proofs.Pieces.{PiecesAlike, Silent, both_silent, silent_or, silent_other, silent_passed}
+use Rattle.constant_time.proofs.Pieces.{GoesWith, PiecesAlike, Silent, both_silent, silent_or, silent_other, silent_passed, with_or, with_other}
 use Rattle.constant_time.proofs.Sources.{StatesAlike, asked_same, bytes_map, first_equal, first_same, second_equal, second_same, size_le}
 use Rattle.machine_desc.specs.Example.{example}
 use Rattle.secret_marks.proofs.Constants.{same_result}
@@ -399,6 +399,46 @@ module _ (m : PathMarks) (s s2 : Hart) (h : StatesAlike m s s2) where
   step_pieces b instr.Ebreak n = pieces_at b instr.Ebreak tt tt
   step_pieces b (instr.Illegal w) n = pieces_at b (instr.Illegal w) tt tt
   step_pieces b i n = pieces_at b i (silent_other s (writes_of i) (effect_in s i)) (silent_other s2 (writes_of i) (effect_in s2 i))
+
+  -- a call that goes on does so with both states
+  call_goes : (t t2 : Step) → CallsAlike at_rest (still s) (still s2) t t2 → GoesWith t t2
+  call_goes (Goes t p) (Goes t2 p2) c = tt
+  call_goes (Exits v t) t2 c = tt
+  call_goes (Traps c) t2 e = tt
+  call_goes (Goes t p) (Exits v t2) e = absurd e
+  call_goes (Goes t p) (Traps c) e = absurd e
+
+  -- where an instruction goes on in the first state, so it does in the second
+  step_goes : (i : Instr) → shows_as (kind_of i) s i m.regs ≡ false → GoesWith (step_of s i) (step_of s2 i)
+  step_goes (instr.Load o rd rs1 imm) n =
+      let i = instr.Load o rd rs1 imm in
+      let qa = ap (λ (f : Effect). f.addr) (same_effect i (first_equal m.regs s.regs s2.regs h.regs.words (reads_of i) n) refl) in
+      let qf : load_fault s.ram (effect_in s i).addr (size_of o) ≡ load_fault s2.ram (effect_in s2 i).addr (size_of o) =
+      sym (same_fault load_misaligned load_outside s.ram s2.ram (effect_in s i).addr (size_of o) h.place) ∙ ap (λ a. load_fault s2.ram a (size_of o)) qa in
+      with_or _ _ qf _ _ tt
+  step_goes (instr.Store o rs1 rs2 imm) n =
+      let i = instr.Store o rs1 rs2 imm in
+      let one : first_of (reads_of i) s.regs ≡ first_of (reads_of i) s2.regs = first_equal m.regs s.regs s2.regs h.regs.words (reads_of i) n in
+      let qa : (effect_in s i).addr ≡ (effect_in s2 i).addr = ap (λ v. (effect s.pc i v (B i)).addr) one in
+      let qf : store_fault s.ram (effect_in s i).addr (size_of o) ≡ store_fault s2.ram (effect_in s2 i).addr (size_of o) =
+      sym (same_fault store_misaligned store_outside s.ram s2.ram (effect_in s i).addr (size_of o) h.place) ∙ ap (λ a. store_fault s2.ram a (size_of o)) qa in
+      with_or _ _ qf _ _ tt
+  step_goes instr.Ecall n = call_goes (call s) (call s2) (calls_alike at_rest (still s) (still s2) still_alike n)
+  step_goes instr.Ebreak n = tt
+  step_goes (instr.Illegal w) n = tt
+  step_goes (instr.Branch o rs1 rs2 imm) n = let i = instr.Branch o rs1 rs2 imm in with_other s s2 (writes_of i) (writes_of i) (effect_in s i) (effect_in s2 i) (ap (λ (f : Effect). f.misaligned) (by_either i n))
+  step_goes (instr.Jalr rd rs1 imm) n = let i = instr.Jalr rd rs1 imm in with_other s s2 (writes_of i) (writes_of i) (effect_in s i) (effect_in s2 i) (ap (λ (f : Effect). f.misaligned) (by_either i n))
+  step_goes (instr.Jal rd imm) n = let i = instr.Jal rd imm in with_other s s2 (writes_of i) (writes_of i) (effect_in s i) (effect_in s2 i) (ap (λ p. (effect p i 0 0).misaligned) h.pc)
+  step_goes i n = with_other s s2 (writes_of i) (writes_of i) (effect_in s i) (effect_in s2 i) refl
+
+  word_goes : (o : Option ℕ) → shows_as (kind_at o) s (instr_at o) m.regs ≡ false → GoesWith (step_at o s) (step_at o s2)
+  word_goes None n = tt
+  word_goes (Some w) n = step_goes (decode w) n
+
+  -- where a step of the instruction set goes on in the first state, so it does in the second
+  pub isa_goes : (code : Code) → shows_as (kind_at (code s.pc)) s (instr_at (code s.pc)) m.regs ≡ false → GoesWith (isa_step code s) (isa_step code s2)
+  unfolding isa_step
+  isa_goes code n = subst (λ o. GoesWith (step_at (code s.pc) s) (step_at o s2)) (ap code h.pc) (word_goes (code s.pc) n)
 
   -- ---- a step at the pc
 

@@ -1,7 +1,9 @@
 -- One run of the instruction set that shows nothing proves it for every secret, on every core with the defence `delay`
 -- (docs/theorems.md, "Constant time on the path").
-use Rattle.std.specs.Prelude.{◌≡◌, ℕ, ◌+◌, true, false, is_some}
-use Rattle.rv_types.specs.Isa.{Hart, Step, isa_step, start}
+use Rattle.std.specs.Prelude.{◌≡◌, ℕ, ◌+◌, Bool, true, false, not, nat_le, Option, Some, None, is_some}
+use Rattle.rv_types.specs.Isa.{Hart, Step, isa, isa_step, start}
+use Rattle.rv_types.specs.declared.End.{End}
+use Rattle.rv_types.specs.declared.End.TheVariants.{Exit, Trap}
 use Rattle.rv_types.specs.Memory.{Code, Ram}
 use Rattle.rv_types.specs.Path.{pass_step}
 use Rattle.machine_desc.specs.declared.Desc.{Desc}
@@ -75,6 +77,21 @@ EveryCoreOfBothModels = (public : Public) (code : Code) (entry : ℕ) (secret : 
     path_ends pass_step code k (start entry m) ≡ true → path_shows public pass_step code k (start entry m) (first_marks secret m) ≡ false →
     PublishSame public pass_step code k entry m m2 → (d : Desc) (n : ℕ) → protects d.stt_model ≡ true → delays d.stt_defence ≡ true →
     trace d code entry m2 n ≡ trace d code entry m n
+
+-- a run has ended, and not at a load or store that faults
+abbrev pub ends_plainly : Option End → Bool
+ends_plainly None = false
+ends_plainly (Some (Exit v)) = true
+ends_plainly (Some (Trap cause pc)) = not (nat_le 4 cause.number)
+
+-- one run of the instruction set that ends within k steps, not at a load or store that faults, and in which nothing
+-- marked shows: every memory that differs in secret bytes alone, and with which k steps of the instruction set publish
+-- the same, gives the trace, on every core with a model that protects and the defence `delay`
+abbrev pub OneRunForEveryCore : Type 0
+OneRunForEveryCore = (public : Public) (code : Code) (entry : ℕ) (secret : Secret) (m m2 : Ram) (k : ℕ) → Aligned code → AgreeBut secret m m2 →
+    ends_plainly (isa code (start entry m) k).ended ≡ true → path_shows public isa_step code k (start entry m) (first_marks secret m) ≡ false →
+    published_in public code k (start entry m2) ≡ published_in public code k (start entry m) →
+    (d : Desc) (n : ℕ) → protects d.stt_model ≡ true → delays d.stt_defence ≡ true → trace d code entry m2 n ≡ trace d code entry m n
 
 -- where no stream is public nothing is asked of what memories publish: where the path of one memory ends within k steps
 -- in which nothing marked shows, every memory that differs in secret bytes alone gives its trace, on every such core

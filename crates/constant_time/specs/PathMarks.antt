@@ -12,6 +12,7 @@ use Rattle.rv_types.specs.declared.Kind.{Kind}
 use Rattle.rv_types.specs.declared.Kind.TheVariants.{Load, Store, Div, Branch, Jalr, Call}
 use Rattle.rv_types.specs.declared.Op.{Op}
 use Rattle.window_model.specs.Fetch.{instr_at, kind_at}
+use Rattle.constant_time.specs.declared.FirstStep.{FirstStep}
 use Rattle.secret_marks.specs.declared.WordMarks.{WordMarks}
 use Rattle.secret_marks.specs.Words.{any_byte, either, unmarked}
 use Rattle.secret_marks.specs.Results.{loaded_marks, result_marks}
@@ -110,15 +111,15 @@ path_shows public step code (suc n) s m =
     shows code s m || behind (step code s) (λ t p. path_shows public step code n t (after_step public s (instr_at (code s.pc)) p m))
 
 -- the first that is found behind a step, if the run goes on
-abbrev pub first_behind : Step → (Hart → List ℕ → Option ℕ) → Option ℕ
+abbrev pub first_behind : Step → (Hart → List ℕ → Option FirstStep) → Option FirstStep
 first_behind (Goes t p) more = more t p
 first_behind _ more = None
 
--- the first of n steps in which something marked shows, where the next one has number k
-abbrev pub first_shown : Public → (Code → Hart → Step) → Code → ℕ → ℕ → Hart → PathMarks → Option ℕ
+-- the first of n steps in which something marked shows, where the next one has number k; its kind and its address
+abbrev pub first_shown : Public → (Code → Hart → Step) → Code → ℕ → ℕ → Hart → PathMarks → Option FirstStep
 first_shown public step code zero k s m = None
 first_shown public step code (suc n) k s m =
-    if shows code s m then Some k
+    if shows code s m then Some (record { step = k; kind = kind_at (code s.pc); pc = s.pc })
     else first_behind (step code s) (λ t p. first_shown public step code n (k + 1) t (after_step public s (instr_at (code s.pc)) p m))
 
 -- the bytes that the first n steps of a path publish, in order

@@ -13,6 +13,7 @@ ghost use Rattle.constant_time.specs.Certified.{
   FirstStepShows,
   OnePathForAllOfOneOutput,
   OnePathTellsAll,
+  OneRunForEveryCore,
   PathPublishesItsSteps,
 };
 ghost use Rattle.constant_time.specs.Laws.{
@@ -24,6 +25,20 @@ ghost use Rattle.constant_time.specs.Laws.{
   RetireLeaksAlike,
 };
 ghost use Rattle.constant_time.specs.Worked.{CipherOnEveryCore, PathsThatHide, PathsThatPublish, PathsThatShow, TableShows};
+
+use rv_types::Kind;
+
+/// The first step of a run in which something of a marked value shows.
+#[derive(Clone, Copy, Debug, PartialEq, Eq)]
+pub struct FirstStep {
+    /// The number of the step, where that with which the run begins has number 1.
+    pub step: u64,
+    /// The kind of the step's instruction, which tells what shows: the base of a load or store, a dividend, where a
+    /// branch or JALR goes, what a call is asked for.
+    pub kind: Kind,
+    /// The address of the instruction.
+    pub pc: u32,
+}
 
 /// Two memories of one shape of which the path leaks alike, in the steps that a trace retires and as many more as the
 /// window holds, give one trace: under a model that protects, in any run in which what shows an operand is visible.
@@ -45,8 +60,8 @@ pub fn phases_leak_alike()
 /// One run of the instruction set that ends, with marks beside it of which none shows, proves for every secret with
 /// which it publishes the same, that the trace is one: under every description with a model that protects and the
 /// defence `delay`, whatever its sizes, and of any number of cycles. Where no stream is public that is every secret.
-/// One walk of the run that passes faulting accesses over is enough for both models. Where something shows there is a
-/// first step in which it does.
+/// One walk of the run that passes faulting accesses over is enough for both models, and so is one of the instruction
+/// set that doesn't end at such an access. Where something shows there is a first step in which it does.
 pub fn one_path_proves_every_core()
     ensures path { OnePathTellsAll }
     ensures ended { EndedPathLeaksAlike }
@@ -56,6 +71,7 @@ pub fn one_path_proves_every_core()
     ensures every_core_output { EveryCoreOfOneOutput }
     ensures every_core { EveryCore }
     ensures both_models { EveryCoreOfBothModels }
+    ensures one_run { OneRunForEveryCore }
 {}
 
 /// What the paths of small programs show, and in which step; what they don't; and what shows no more once it is
