@@ -1,12 +1,13 @@
 //! The state: pc, registers and memory, and the words that may be fetched.
 ghost use Rattle.std.specs.Prelude.{◌≡◌};
+ghost use Rattle.elf_loader.specs.inner.Code.{instr_at};
 ghost use Rattle.rv_types.specs.Isa.{reg, relative, start, with_reg};
 ghost use Rattle.rv_types.specs.Regs.{unless_zero};
 
 use byte_ram::Ram;
 use elf_loader::{Code, Image};
 use rv_effect::{relative, write_reg};
-use rv_types::{REGISTERS, Reg, SP, STACK_GAP, unless_zero};
+use rv_types::{Instr, REGISTERS, Reg, SP, STACK_GAP, unless_zero};
 use std::marker::Model;
 
 /// The machine of the instruction set, seen as its code and its state. It takes no memory of its own.
@@ -48,6 +49,13 @@ impl Isa {
         ensures { result ≡ self.now.hart.pc }
     {
         self.pc
+    }
+
+    /// The instruction that the next step executes, None exactly where no word may be fetched.
+    pub fn instr(&self) -> Option<Instr>
+        ensures { result ≡ instr_at self.now.code self.now.hart.pc }
+    {
+        self.code.instr(self.pc)
     }
 
     /// The registers of the instruction set's state.

@@ -13,7 +13,7 @@ pub const UNMARKED: WordMarks = WordMarks {
 };
 
 /// The marks of a word of which every byte has this mark.
-pub(crate) fn every_byte(mark: bool) -> WordMarks
+pub fn every_byte(mark: bool) -> WordMarks
     ensures { result ≡ every_byte mark }
 {
     WordMarks {
@@ -25,7 +25,7 @@ pub(crate) fn every_byte(mark: bool) -> WordMarks
 }
 
 /// The marks of a word whose lowest byte has this mark, and no other has one.
-pub(crate) fn lowest_byte(mark: bool) -> WordMarks
+pub fn lowest_byte(mark: bool) -> WordMarks
     ensures { result ≡ lowest_byte mark }
 {
     WordMarks {
@@ -44,7 +44,7 @@ pub fn any_byte(w: WordMarks) -> bool
 }
 
 /// The marks of a word of which a byte is marked where it is in either of two.
-pub(crate) fn either(w: WordMarks, u: WordMarks) -> WordMarks
+pub fn either(w: WordMarks, u: WordMarks) -> WordMarks
     ensures { result ≡ either w u }
 {
     WordMarks {
@@ -56,7 +56,7 @@ pub(crate) fn either(w: WordMarks, u: WordMarks) -> WordMarks
 }
 
 /// The marks from the lowest marked byte upward, as a carry goes.
-pub(crate) fn upward(w: WordMarks) -> WordMarks
+pub fn upward(w: WordMarks) -> WordMarks
     ensures { result ≡ upward w }
 {
     WordMarks {
@@ -68,7 +68,7 @@ pub(crate) fn upward(w: WordMarks) -> WordMarks
 }
 
 /// The marks from the highest marked byte downward, as a shift to the right goes.
-pub(crate) fn downward(w: WordMarks) -> WordMarks
+pub fn downward(w: WordMarks) -> WordMarks
     ensures { result ≡ downward w }
 {
     WordMarks {
@@ -80,14 +80,14 @@ pub(crate) fn downward(w: WordMarks) -> WordMarks
 }
 
 /// The marks of a word of which every byte is marked, where any was.
-pub(crate) fn smeared(w: WordMarks) -> WordMarks
+pub fn smeared(w: WordMarks) -> WordMarks
     ensures { result ≡ smeared w }
 {
     every_byte(any_byte(w))
 }
 
 /// The mark of a byte of the word, by its place: none where it has no such byte.
-pub(crate) fn mark_at(w: WordMarks, i: u64) -> bool
+pub fn mark_at(w: WordMarks, i: u64) -> bool
     ensures { result ≡ mark_at w i }
 {
     match i {

@@ -153,7 +153,7 @@ fn of_zero(op: Op, a: WordMarks, b: WordMarks) -> WordMarks
 }
 
 /// The marks of an instruction's value, by those of its first and second source.
-pub(crate) fn result_marks(instr: &Instr, a: WordMarks, b: WordMarks) -> WordMarks
+pub fn result_marks(instr: &Instr, a: WordMarks, b: WordMarks) -> WordMarks
     ensures { result ≡ result_marks instr.now a b }
 {
     match *instr {

@@ -1,8 +1,8 @@
 use Rattle.std.proofs.Common.{ap, ◌+◌, ◌-◌, ◌++◌, map, ◌∙◌}
 use Rattle.rv_types.specs.Memory.{range}
 use Rattle.secret_marks.specs.Ranges.{secret_in}
-use Rattle.marked_core.proofs.Secrets.{marks_next}
-use Rattle.marked_core.proofs.opening.secret_bytes.Goals as goal
+use Rattle.mark_words.proofs.Secrets.{marks_next}
+use Rattle.mark_words.proofs.secret.secret_bytes.Goals as goal
 
 -- the marks made so far, and those of the bytes that are left, are all, as one more is made
 pub loop-i-preserved : goal.loop-i-preserved
