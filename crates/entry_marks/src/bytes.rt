@@ -2,10 +2,9 @@
 ghost use Rattle.std.specs.Prelude.{◌≡◌, ◌≤◌, ◌<◌, ◌+◌, ℕ, false};
 ghost use Rattle.window_model.specs.Access.{covers};
 ghost use Rattle.secret_marks.specs.Marks.{is_by};
-ghost use Rattle.secret_marks.specs.Words.{every_byte, lowest_byte};
 
 use crate::walk::Walk;
-use crate::words::{UNMARKED, every_byte, lowest_byte, mark_at};
+use mark_words::{every_byte, lower_half, lowest_byte, mark_at, signed_half};
 use rv_types::Op;
 use secret_marks::WordMarks;
 use window_model::Entry;
@@ -42,27 +41,6 @@ fn is_by(cycle: u64, from: Option<u64>) -> bool
     match from {
         Some(from) => from <= cycle,
         None => false,
-    }
-}
-
-// The marks of the lower half of a word, extended by its sign.
-fn signed_half(word: WordMarks) -> WordMarks
-    ensures { result ≡ record (every_byte word.byte1) { byte0 = word.byte0 } }
-{
-    WordMarks {
-        byte0: word.byte0,
-        ..every_byte(word.byte1)
-    }
-}
-
-// The marks of the lower half of a word, extended by zeros.
-fn lower_half(word: WordMarks) -> WordMarks
-    ensures { result ≡ record (lowest_byte word.byte0) { byte1 = word.byte1 } }
-{
-    WordMarks {
-        byte0: word.byte0,
-        byte1: word.byte1,
-        ..UNMARKED
     }
 }
 

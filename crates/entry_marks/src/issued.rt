@@ -3,9 +3,8 @@ ghost use Rattle.std.specs.Prelude.{◌≡◌};
 ghost use Rattle.secret_marks.specs.Marks.{is_at};
 ghost use Rattle.entry_marks.specs.Told.{has_issued};
 
-use crate::results::result_marks;
 use crate::walk::Walk;
-use crate::words::{UNMARKED, any_byte, either};
+use mark_words::{UNMARKED, any_byte, either, result_marks};
 use secret_marks::{EntryMarks, WordMarks};
 use window_model::Entry;
 

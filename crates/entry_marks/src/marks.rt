@@ -4,7 +4,7 @@ ghost use Rattle.circular_buffer.specs.Buffer.{buffer};
 ghost use Rattle.std.specs.Prelude.{◌++◌, ◌-◌, ◌<◌, ◌≤◌, replicate, take};
 ghost use Rattle.secret_marks.specs.Marks.{new_entry};
 
-use crate::words::UNMARKED;
+use mark_words::UNMARKED;
 use circular_buffer::HeapCircularBuffer;
 use rv_types::REGISTERS;
 use secret_marks::{EntryMarks, WordMarks};

@@ -6,7 +6,7 @@ ghost use Rattle.rv_types.specs.declared.Kind.TheVariants as kind;
 ghost use Rattle.rv_types.specs.declared.Width.TheVariants as width;
 ghost use Rattle.secret_marks.specs.Marks.{new_entry};
 
-use crate::words::UNMARKED;
+use mark_words::UNMARKED;
 use arrayvec::ArrayVec;
 use rv_types::{Cause, Instr, Kind, Width};
 use secret_marks::EntryMarks;

@@ -1,23 +1,22 @@
 //! Retire moves marks: each entry that leaves hands those of its value to its register, and a store those of what it
 //! stores to memory.
-ghost use Rattle.std.specs.Prelude.{◌≡◌, ◌+◌, ◌-◌, ◌<◌, ◌≤◌, List, drop, length};
+ghost use Rattle.std.specs.Prelude.{◌≡◌, ◌≤◌, List, drop, length};
 ghost use Rattle.circular_buffer.specs.Buffer.{buffer};
-ghost use Rattle.rv_types.specs.Regs.{writes_of};
 ghost use Rattle.window_model.specs.declared.Entry.{Entry};
 ghost use Rattle.secret_marks.specs.declared.EntryMarks.{EntryMarks};
-ghost use Rattle.secret_marks.specs.Marks.{leaves_as, left, with_byte_marks, with_marks};
+ghost use Rattle.secret_marks.specs.Marks.{leaves_as, left};
 ghost use Rattle.entry_marks.specs.Oldest.{Inside, InsideEach, IsCopied, IsCopiedFrom};
 ghost use Rattle.entry_marks.specs.Walk.{marks_of, marks_with};
 
 use crate::beside::marks_at;
 use crate::marks::Marks;
 use crate::oldest::{LEAVING_MAX, Leaving, LeavingEntry};
-use crate::words::UNMARKED;
 use arrayvec::ArrayVec;
 use circular_buffer::HeapCircularBuffer;
+use mark_words::{UNMARKED, write_memory, write_register};
 use rob_ring::RobRing;
-use rv_types::{Instr, Kind, REGISTERS, writes_of};
-use secret_marks::{EntryMarks, WordMarks};
+use rv_types::Kind;
+use secret_marks::EntryMarks;
 use window_model::Entry;
 
 /// Copies what of the oldest entries moves marks, before Retire: of as many as may retire in a cycle, up to the first
@@ -90,25 +89,4 @@ fn move_marks(marks: &mut Marks, entry: &LeavingEntry, base: u32)
         }
         _ => write_register(&mut marks.regs, &entry.instr, entry.marks.result),
     }
-}
-
-// Gives the register that an instruction writes these marks, if there is one.
-fn write_register(regs: &mut [WordMarks; REGISTERS], instr: &Instr, marks: WordMarks)
-    ensures { regs.new ≡ with_marks regs.old (writes_of instr.now) marks }
-{
-    if let Some(register) = writes_of(instr) {
-        regs[register.number as usize] = marks;
-    }
-}
-
-// Gives `count` bytes of memory, from a position on, the marks of a word's lowest bytes.
-fn write_memory(bytes: &mut Vec<bool>, at: usize, count: u32, marks: WordMarks)
-    requires inside { at + count ≤ length bytes.old.items }
-    requires few { count ≤ 4 }
-    ensures marks { bytes.new.items ≡ with_byte_marks bytes.old.items at count marks }
-    ensures memory { length bytes.new.items ≡ length bytes.old.items }
-{
-    let new = [marks.byte0, marks.byte1, marks.byte2, marks.byte3];
-    let count = count as usize;
-    bytes[at..at + count].copy_from_slice(&new[..count]);
 }

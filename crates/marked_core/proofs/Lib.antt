@@ -4,7 +4,6 @@ pub mod Taken
 pub mod Published
 pub mod Watching
 pub mod Looking
-pub mod Secrets
 pub mod Stamps
 pub mod Unexposed
 pub mod Told

@@ -7,7 +7,7 @@ ghost use Rattle.secret_marks.specs.Shown.{first_shown};
 ghost use Rattle.secret_marks.specs.Streams.{public_in};
 
 use crate::marked::MarkedCore;
-use entry_marks::count_published;
+use mark_words::count_published;
 use rename_taint::RenameTaint;
 use rv_types::Piece;
 use secret_marks::FirstShown;

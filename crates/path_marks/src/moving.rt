@@ -2,7 +2,6 @@
 ghost use Rattle.std.specs.Prelude.{◌≡◌, ◌-◌, false, get_or, length};
 ghost use Rattle.rv_types.specs.Regs.{reads_of};
 ghost use Rattle.rv_types.specs.declared.Op.TheVariants.{Lw};
-
 ghost use Rattle.secret_marks.specs.Results.{loaded_marks, result_marks};
 ghost use Rattle.constant_time.specs.PathMarks.{first_mark, second_mark};
 ghost use Rattle.path_marks.specs.Moved.{InMemory, moved};
@@ -55,11 +54,7 @@ fn loaded(bytes: &[bool], base: u32, op: Op, addr: u32) -> WordMarks
 fn value_marks(regs: &[WordMarks; REGISTERS], instr: &Instr) -> WordMarks
     ensures { result ≡ result_marks instr.now (first_mark (reads_of instr.now) regs.now) (second_mark (reads_of instr.now) regs.now) }
 {
-    result_marks(
-        instr,
-        first_source(regs, instr),
-        second_source(regs, instr),
-    )
+    result_marks(instr, first_source(regs, instr), second_source(regs, instr))
 }
 
 /// Moves the marks as an instruction does that accesses memory with this base at this address, and doesn't fault.

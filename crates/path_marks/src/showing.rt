@@ -9,7 +9,6 @@ use rv_types::{Instr, Kind, REGISTERS};
 use secret_marks::WordMarks;
 
 // Whether what a call is asked for is marked.
-#[tactic(auto, using(crate::proofs::Calls::call_asks))]
 fn asks_marked(regs: &[u32; REGISTERS], marks: &[WordMarks; REGISTERS]) -> bool
     ensures { result ≡ asks_marked regs.now marks.now }
 {

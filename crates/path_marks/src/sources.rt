@@ -41,9 +41,8 @@ pub(crate) fn access_at(regs: &[u32; REGISTERS], instr: &Instr) -> u32
     ensures { result ≡ access_at regs.now instr.now }
 {
     match *instr {
-        Instr::Load { rs1, imm, .. } | Instr::Store { rs1, imm, .. } => {
-            relative(regs[rs1.number as usize], imm)
-        }
+        Instr::Load { rs1, imm, .. } => relative(regs[rs1.number as usize], imm),
+        Instr::Store { rs1, imm, .. } => relative(regs[rs1.number as usize], imm),
         _ => 0,
     }
 }

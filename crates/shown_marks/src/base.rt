@@ -1,7 +1,7 @@
 //! Whether the first operand of an entry tells an address or the time of a division (`docs/theorems.md`, "Secrets that
 //! are loaded"), and whether it is marked.
 use crate::seen::Seen;
-use entry_marks::any_byte;
+use mark_words::any_byte;
 use issue::Candidate;
 use rob_ring::{Sources, sources_at};
 use rv_types::Kind;

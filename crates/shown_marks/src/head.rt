@@ -5,7 +5,8 @@ ghost use Rattle.secret_marks.specs.Shown.{head_shown};
 ghost use Rattle.entry_marks.specs.Walk.{marks_of};
 
 use core_parts::Parts;
-use entry_marks::{Marks, call_shows, shown_by};
+use entry_marks::{Marks, shown_by};
+use mark_words::call_shows;
 use rename_taint::RenameTaint;
 use rv_types::Kind;
 use secret_marks::Shown;

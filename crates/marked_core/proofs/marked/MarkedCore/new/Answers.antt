@@ -6,7 +6,7 @@ use Rattle.core_cycle.proofs.Opening.{opening_kept}
 use Rattle.secret_marks.specs.Marks.{Marks}
 use Rattle.secret_marks.specs.Ranges.{secret_in}
 use Rattle.marked_core.specs.InStep.{Between}
-use Rattle.marked_core.proofs.Secrets.{marks_length}
+use Rattle.mark_words.proofs.Secrets.{marks_length}
 use Rattle.marked_core.proofs.Unexposed.{none_in_flight}
 use Rattle.marked_core.proofs.marked.MarkedCore.new.Goals as goal
 
