@@ -1,5 +1,5 @@
 -- A run until something shows, step by step.
-use Rattle.std.proofs.Common.{◌≡◌, ℕ, suc, ◌+◌, ◌-◌, ◌*◌, ◌<◌, ◌≤◌, Bool, true, false, List, [], ◌++◌, length, Option, Some, None, refl, ap, ap₂, sym, ◌∙◌, subst, arith}
+use Rattle.std.proofs.Common.{◌≡◌, ℕ, suc, ◌+◌, ◌-◌, ◌*◌, ◌<◌, ◌≤◌, Bool, true, false, List, [], length, Option, Some, None, refl, ap, ap₂, sym, ◌∙◌, subst, arith}
 use Rattle.std.specs.Prelude.{if◌then◌else◌}
 use Rattle.std.proofs.lemmas.List.{length-append}
 use Rattle.rv_types.specs.Isa.{Hart, Step, Goes, Exits, Traps, isa, isa_step, reg}
@@ -10,7 +10,7 @@ use Rattle.rv_types.specs.declared.Kind.{Kind}
 use Rattle.elf_loader.specs.inner.Code.{CodeText, word_at}
 use Rattle.isa_step.specs.Outcome.{outcome}
 use Rattle.isa_step.specs.declared.stepped.Stepped.TheVariants.{Next, Exit, Trap}
-use Rattle.isa_step.proofs.Runs.{RanAs, Rest, at_end, at_exit, at_next, at_start, at_trap, exits, goes, traps}
+use Rattle.isa_step.proofs.Runs.{Rest, at_end, at_exit, at_next, at_start, at_trap, exits, goes, traps}
 use Rattle.window_model.specs.Fetch.{instr_at, kind_at}
 use Rattle.secret_marks.specs.declared.PublicStreams.{PublicStreams}
 use Rattle.secret_marks.specs.Published.{Public, published, published_in, then_published}

@@ -1,10 +1,10 @@
 -- The word at an address, by the instruction that is read there, and what shows of it.
-use Rattle.std.proofs.Common.{◌≡◌, ℕ, Bool, true, false, List, Option, None, Some, refl, ap, ap₂, sym, ◌∙◌}
+use Rattle.std.proofs.Common.{◌≡◌, ℕ, Bool, List, Option, None, Some, refl, ap, ap₂, ◌∙◌}
 use Rattle.std.specs.Prelude.{if◌then◌else◌}
 use Rattle.std.specs.Option.{option_map}
 use Rattle.rv_types.specs.Decode.{decode}
 use Rattle.rv_types.specs.Causes.{outside_code}
-use Rattle.rv_types.specs.Isa.{Hart, Step, Goes, Traps, isa_step, step_of}
+use Rattle.rv_types.specs.Isa.{Hart, Goes, Traps, isa_step, step_of}
 use Rattle.rv_types.specs.Kind.{kind_of}
 use Rattle.rv_types.specs.Memory.{Code}
 use Rattle.rv_types.specs.declared.Instr.{Instr}

@@ -1,5 +1,5 @@
 use Rattle.std.proofs.Common.{◌∙◌, arith, refl}
-use Rattle.path_marks.proofs.Looking.{count_is, left_exits, left_first, left_next, left_over, left_shows, left_traps}
+use Rattle.path_marks.proofs.Looking.{count_is, left_exits, left_next, left_shows, left_traps}
 use Rattle.path_marks.proofs.walking.first_shown.Goals as goal
 
 pub returns-in-Some : goal.returns-in-Some
@@ -14,7 +14,7 @@ returns-in-Trap c = left_traps _ _ _ _ _ c.loop-done.invariant.left c.loop-done-
 pub loop-done-preserved : goal.loop-done-preserved
 loop-done-preserved c = record {
   left = left_next _ _ _ _ _ c.loop-done.invariant.left c.loop-done-test.true c.in_default.ensures c.step.new.self _ c.in-Next.ensures.stepped (c.in-Next.ensures.marks refl) c.in-Next.ensures.code c.in-Next.ensures.public
-      c.count_published.result
-      (count_is _ _ c.loop-done.path.hart _ _ _ _ c.count_published.ensures.value (c.public.ensures ∙ c.in-Next.ensures.public) c.stream-stream.ensures c.as_slice.ensures.value)
-      (omega (arith, c.count_published.ensures.most, c.as_slice.ensures.few)) _ refl;
+      c.count_published-published.result
+      (count_is _ _ c.loop-done.path.hart _ _ _ _ c.count_published-published.ensures.value (c.public.ensures ∙ c.in-Next.ensures.public) c.stream-stream.ensures c.as_slice.ensures.value)
+      (omega (arith, c.count_published-published.ensures.most, c.as_slice.ensures.few)) _ refl;
 }

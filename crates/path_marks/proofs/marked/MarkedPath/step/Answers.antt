@@ -1,8 +1,7 @@
-use Rattle.std.proofs.Common.{◌≡◌, ap, sym, ◌∙◌}
+use Rattle.std.proofs.Common.{ap, sym, ◌∙◌}
 use Rattle.elf_loader.specs.inner.Code.{word_at}
-use Rattle.rv_types.specs.Isa.{Goes, isa_step, reg, step_of}
+use Rattle.rv_types.specs.Isa.{reg}
 use Rattle.rv_types.specs.Memory.{Ram}
-use Rattle.isa_step.proofs.Shape.{SameShape}
 use Rattle.window_model.specs.Fetch.{instr_at}
 use Rattle.secret_marks.specs.Streams.{public_in}
 use Rattle.constant_time.specs.PathMarks.{PathMarks, after_step}
