@@ -26,10 +26,7 @@ pub fn gives(entry: &Entry, defence: Defence, point: &VisPoint) -> bool
     if !entry.is_done() {
         return false;
     }
-    match defence {
-        Defence::Stt | Defence::Delay => true,
-        Defence::Hold => !entry.is_load() || point.visible(entry.serial),
-    }
+    defence != Defence::Hold || !entry.is_load() || point.visible(entry.serial)
 }
 
 /// The visibility point moves over the window, and the stations are told which loads give their values from then on,
