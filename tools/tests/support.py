@@ -12,7 +12,7 @@ from evaluate import model
 from generate.generated import image
 from wadrelwy.verdict.loaded import load
 from wadrelwy.view import stats
-from wadrelwy.view.description import OPTIONAL, read_description
+from wadrelwy.view.description import DEFENCES, OPTIONAL, STT, read_description
 from wadrelwy.view.disassembly import KINDS, Disassembler
 from wadrelwy.view.image import Image
 from wadrelwy.view.replay import Replay
@@ -77,6 +77,11 @@ def descriptions(version=1, models=("spectre", "futuristic"), **more):
     changes = {"example": {}, "smallest": SMALLEST, "largest": LARGEST if version == 1 else LARGEST | LARGER}
     return [description("_".join([name, *more]), model, version, **changes[name] | more)
             for name in changes for model in models]
+
+
+def defended(**keys):
+    """These keys of a description, and for each defence but STT's own these with it."""
+    return [keys] + [keys | {"defence": f'"{name}"'} for name in DEFENCES if name != STT]
 
 
 def worked_trace(heading):

@@ -99,7 +99,7 @@ def of_programs():
     draw = random.Random(11)
     for place, words in enumerate(PROGRAMS.values()):
         image = support.image_of_words(f"small{place}", words)
-        for keys in ({"depend": 2}, {"depend": 2, "defence": '"hold"'}):
+        for keys in support.defended(depend=2):
             for described in support.descriptions(2, ("spectre", "futuristic"), **keys)[:2]:
                 yield support.modelled(described, image, 400), image, described
     for number in range(12):

@@ -1,4 +1,4 @@
-"""Loads that pass stores of unknown address, the model `off` and the defence `hold`: worked runs, random ones, and what is told of them."""
+"""Loads that pass stores of unknown address, the model `off`, and the defences `hold` and `delay`: worked runs, random ones, and what is told of them."""
 import random
 import unittest
 from collections import deque
@@ -12,7 +12,7 @@ from wadrelwy.verdict.telling import Telling
 from wadrelwy.view import Fault
 from wadrelwy.view.description import read_description
 from wadrelwy.view.listing import notes
-from wadrelwy.view.reasons import HELD, HELD_BACK
+from wadrelwy.view.reasons import DELAYED, DELAYED_OUTCOME, DEFENCE, HELD, HELD_BACK
 from wadrelwy.view.stats import lines_of
 from wadrelwy.view.trace import Trace
 from wadrelwy.view.why import cycles
@@ -158,6 +158,40 @@ class Held(unittest.TestCase):
         self.assertEqual([(key, held.cycles) for key, held in found.held.items()], [((0x00010018, "access"), 4)])
 
 
+class Delayed(unittest.TestCase):
+    """The bounds check: not even the load of the secret goes, and so nothing behind it does."""
+
+    def setUp(self):
+        self.files = support.example("bounds_check.elf"), support.description("delayed", "spectre", 2, defence='"delay"')
+        self.lines = support.worked_trace("Bounds check bypass")
+        self.lines[3] = self.lines[3].replace("ld:3:0001fff0:j ", "")
+        self.lines[12:15] = ["13 fill:0001fff0 done:0 ret:0 mul:1\n", "14\n", "15\n"]
+
+    def test_worked(self):
+        self.assertEqual(support.modelled(self.files[1], self.files[0], 100), self.lines)
+        run, entries, _ = support.replay(self.lines, *self.files)
+        self.assertEqual(run.reasons.unexplained, [])
+        self.assertEqual(waits(entries[3]), [("4..16", DELAYED, 2)])
+        self.assertEqual(waits(entries[4]), [("5..16", "operand", 3)])
+        run, disassembler = support.fresh(self.lines, *self.files)
+        self.assertIn(f"{'delayed':26}1 instructions, 13 cycles; 1 never went on", list(lines_of(support.taken(run, disassembler))))
+        stt = support.description("not_delayed", "spectre", 2)
+        self.assertEqual(support.replay(self.lines, self.files[0], stt)[0].reasons.unexplained[0], "cycle 4: entry 3 waits, and nothing tells why")
+
+    def test_what_it_tells_of_the_secret(self):
+        """What would show the secret begins with its load."""
+        machine = read_description(self.files[1])
+        found = Telling(Trace(iter(self.lines)), load(self.files[0], machine), machine, [0x0001fff8])
+        self.assertEqual([(key, held.cycles) for key, held in found.held.items()], [((0x0001000c, "load of these bytes"), 13)])
+
+    def test_what_goes_too_early_or_waits_for_nothing(self):
+        """A trace under `stt` isn't one under `delay`: told is each thing that goes before it is visible, and what waits for another reason."""
+        for name, under, told in (("delayed_under_spectre", "stt", "waits, and nothing tells why"), ("off_delays_nothing", "delay", "has to wait: not visible")):
+            lines, image, _ = support.stored(name)
+            described = support.description(f"as_{under}", "spectre", 2, defence=f'"{under}"')
+            self.assertIn(told, "\n".join(support.replay(lines, image, described)[0].reasons.unexplained))
+
+
 class Random(unittest.TestCase):
     def test_nothing_is_unexplained(self):
         """Over what the model of tools/evaluate writes, from the text alone and with values; and each key has its effect."""
@@ -172,16 +206,16 @@ class Random(unittest.TestCase):
                 self.assertEqual((run.reasons.unexplained, told), ([], []))
             reasons = {wait.reason for item in items for wait in item.waits}
             if machine.model == "off":
-                self.assertEqual(reasons & {*HELD, HELD_BACK}, set())
-            if machine.defence == "stt":
-                self.assertNotIn(HELD_BACK, reasons)
+                self.assertEqual(reasons & DEFENCE, set())
+            theirs = {"stt": set(HELD), "hold": {*HELD, HELD_BACK}, "delay": {DELAYED, DELAYED_OUTCOME}}
+            self.assertLessEqual(reasons & DEFENCE, theirs[machine.defence])
             met |= reasons | {"violated" for item in items if item.violated}
-        self.assertLessEqual({"violated", HELD_BACK, *HELD}, met)
+        self.assertLessEqual({"violated", *DEFENCE}, met)
 
     def test_small_programs(self):
         for name, words in PROGRAMS.items():
             image = support.image_of_words(name, words)
-            for keys in ({"depend": 2}, {"depend": 2, "defence": '"hold"'}):
+            for keys in support.defended(depend=2):
                 for described in support.descriptions(2, ("spectre", "futuristic", "off"), **keys):
                     with self.subTest(name=name, description=described):
                         self.assertEqual(support.replay(support.modelled(described, image, 3000), image, described)[0].reasons.unexplained, [])
@@ -199,7 +233,7 @@ class OverTheProgram(unittest.TestCase):
     def test_nothing_is_unexplained_over_the_examples(self):
         for name in support.EXAMPLES:
             image = support.example(name + ".elf")
-            for keys in ({"depend": 16}, {"depend": 16, "defence": '"hold"'}):
+            for keys in support.defended(depend=16):
                 for described in support.descriptions(2, ("spectre", "futuristic", "off"), **keys):
                     with self.subTest(name=name, description=described):
                         self.assertEqual(support.replay(support.trace_of(described, image, 3000), image, described)[0].reasons.unexplained, [])

@@ -46,7 +46,7 @@ class Quiet(unittest.TestCase):
         repeated = 0
         for name, words in PROGRAMS.items():
             image = support.image_of_words("quiet", words)
-            for keys in ({"depend": 2}, {"depend": 2, "defence": '"hold"'}):
+            for keys in support.defended(depend=2):
                 for described in support.descriptions(2, ("spectre", "futuristic"), **keys):
                     with self.subTest(name=name, description=described):
                         repeated += self.same(support.modelled(described, image, 1000), image, described)

@@ -7,7 +7,7 @@ under settings.
     wadrelwy certify FOLDER
 
 Each program is asked under each description with each combination of the values that are set, as by wadrelwy sweep: --set
-stt.model=off,spectre; --defences is each model and defence: off, spectre, futuristic, and hold under both. A secret is named as for
+stt.model=off,spectre; --defences is each model and defence: off, spectre, futuristic, and hold and delay under both. A secret is named as for
 wadrelwy verdict; of several each image takes those whose symbols it has, and it has to have one. SOURCES is a folder whose Makefile
 builds each NAME.c of it, as that of examples/crypto does, into FOLDER/build/COMPILER-OLEVEL; a compiler that isn't there is left out, with a
 word on standard error. NAME is a part of a program's name.

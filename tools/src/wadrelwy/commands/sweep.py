@@ -5,7 +5,7 @@
     wadrelwy sweep FOLDER [--gather [--from FOLDER..]] [--copies]
 
 Each program is run under each description with each combination of the values that are set: --set core.rob=16,32,64 --set
-stt.model=off,spectre makes six runs of each. --defences is each model and defence: off, spectre, futuristic, and hold under both. Before the
+stt.model=off,spectre makes six runs of each. --defences is each model and defence: off, spectre, futuristic, and hold and delay under both. Before the
 first run each description and image is shown to the simulator: what it refuses is a row `refused K6`, and the others are run. FOLDER gets
 copies of the simulator, the images and the descriptions, whose names have their digests; a file for each run that is over; and at the end
 results.csv, results.json and the plots: bars.svg, the slowdown of each program under each defence, and curve-KEY.svg, the mean of the

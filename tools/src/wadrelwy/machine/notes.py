@@ -2,6 +2,8 @@
 import re
 from typing import Callable, Mapping, Optional, Union
 
+from wadrelwy.view.description import DEFENCES
+
 # the range of each number of a description, as the tables of docs/formats.md, "Keys", have it
 RANGES = {
     "core.fetch_width": "1 to 4", "core.retire_width": "1 to 4", "core.rob": "4 to 64; in version 2 4 to 192",
@@ -21,7 +23,7 @@ SHAPES = {
     "predictor.depend": "zero or a power of two", "cache.second_sets": "zero or a power of two",
     "cache.second_latency": "above cache.hit_latency and below cache.miss_latency, where there is a second level",
 }
-NAMES = {"stt.model": '"spectre" or "futuristic"; in version 2 also "off"', "stt.defence": '"stt" or "hold"'}
+NAMES = {"stt.model": '"spectre" or "futuristic"; in version 2 also "off"', "stt.defence": " or ".join(f'"{name}"' for name in DEFENCES)}
 VERSION_2 = ("ram.misaligned", "predictor.depend", "predictor.history", "predictor.returns", "cache.second_sets", "cache.second_ways",
              "cache.second_latency", "cache.prefetch", "stt.defence")
 FORMATS = "docs/formats.md"

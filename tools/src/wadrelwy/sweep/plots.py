@@ -7,10 +7,10 @@ from wadrelwy.view.description import OFF
 
 from . import results, settings
 
-ORDER = [OFF, "spectre", "futuristic", "spectre+hold", "futuristic+hold"]
-COLOURS = ["#555555", "#2e86c1", "#c0392b", "#7fb3d5", "#e6a49c"]
+ORDER = [settings.told(setting) for setting in settings.DEFENCES]
+COLOURS = ["#555555", "#2e86c1", "#c0392b", "#7fb3d5", "#e6a49c", "#1b4f72", "#7b241c"]
 # where curves lie on one another, each is seen in the gaps of the next
-DASHES = ["", "", "9 6", "3 4", "9 4 2 4"]
+DASHES = ["", "", "9 6", "3 4", "9 4 2 4", "14 5", "1 3"]
 HEIGHT, LEFT, TOP, BOTTOM, RIGHT = 190, 58, 46, 44, 16
 BAR, BETWEEN, CURVE = 9, 14, 420
 # of names below bars: how they are turned, in degrees, how far below the axis they end, and how wide a character is at most

@@ -3,14 +3,13 @@ import re
 import tomllib
 
 from wadrelwy.view import Fault
-from wadrelwy.view.description import FUTURISTIC, HOLD, OFF, SPECTRE, STT
+from wadrelwy.view.description import DEFENCES as NAMES, FUTURISTIC, OFF, SPECTRE, STT
 
 MODEL, DEFENCE = "stt.model", "stt.defence"
 # a number of 32 bits has ten digits at most
 VALUE = re.compile(r"[0-9]{1,10}|[A-Za-z_][A-Za-z0-9_]*")
 # nothing protected; then each defence under each model
-DEFENCES = [{MODEL: OFF, DEFENCE: STT}, {MODEL: SPECTRE, DEFENCE: STT}, {MODEL: FUTURISTIC, DEFENCE: STT}, {MODEL: SPECTRE, DEFENCE: HOLD},
-            {MODEL: FUTURISTIC, DEFENCE: HOLD}]
+DEFENCES = [{MODEL: OFF, DEFENCE: STT}] + [{MODEL: model, DEFENCE: defence} for defence in NAMES for model in (SPECTRE, FUTURISTIC)]
 # why a protected run may be the shorter one
 FASTER = ("A branch on a wrong path that is resolved teaches the predictor, and a load there brings lines and takes ports; a defence holds "
           "some of them until they are dropped, so that the right path may find truer counters and freer ports. "
@@ -19,10 +18,10 @@ FASTER = ("A branch on a wrong path that is resolved teaches the predictor, and 
 
 def told(values):
     """A model and a defence as a table tells them: `off`, `spectre`, `spectre+hold`."""
-    held = values.get(DEFENCE, STT) == HOLD and values.get(MODEL) != OFF
     if MODEL not in values:
         raise Fault(f"a description without {MODEL}")
-    return values[MODEL] + (f"+{HOLD}" if held else "")
+    defence = values.get(DEFENCE, STT)
+    return values[MODEL] + ("" if defence == STT or values[MODEL] == OFF else f"+{defence}")
 
 
 def parsed(text, name):

@@ -6,11 +6,11 @@ whether a load gets its bytes from a store. Where the operand is tainted the ins
 address goes to the cache whether the store covers it or not, or waits as long as the store has no data; and a store that loads passed
 isn't cleared (docs/machine.md). An equal pair of traces is telling where something was held on an operand made of the differing bytes,
 or a load of these bytes was, and by taint alone; else it is vacuous. Under the defence `hold` the same is asked of what waits for nothing
-but results of loads that are held back."""
+but results of loads that are held back; under `delay` of what waits for nothing but to be visible, whatever its operands are."""
 from collections import Counter, namedtuple
 
 from wadrelwy.riscv.kinds import BRANCH, CALL, DIVISION, JALR, LOAD, STORE
-from wadrelwy.view.description import HOLD
+from wadrelwy.view.description import DELAY, HOLD
 from wadrelwy.view.reasons import STORE_TAINT, Reasons
 from wadrelwy.view.replay import Replay
 
@@ -91,7 +91,10 @@ class Telling(Replay):
                 self.wrong_values += item.done is not None
 
     def hidden(self, item):
-        """Whether a source is made of the differing bytes, and tainted."""
+        """Whether a source is made of the differing bytes, and tainted; under `delay` made of them, and the entry isn't visible."""
+        if self.rules.delays:
+            value = item.value
+            return value.is_marked() and self.pipeline.is_hidden(item)
         if item.youngest_root is None or not self.pipeline.is_hidden(item.youngest_root):
             return False
         value = item.value
@@ -169,7 +172,7 @@ class Telling(Replay):
         keep anyway; and each load that waits for a store of hidden address, with that store."""
         pipeline = self.pipeline
         ready = self.ready()
-        hidden = [item for item in ready if self.hidden(item)]
+        hidden = [item for item in ready if self.hidden(item)] if not self.rules.delays else []
         reaching = [item for item in ready if self.reaches(item) and item not in hidden]
         held = [item for item in hidden + reaching if (item.is_load or item.kind == DIVISION) and not self.uses_what_is_held_back(item)
                 and not self.is_kept(item)]
@@ -205,7 +208,7 @@ class Telling(Replay):
         for item in held:
             if item.issued is None:
                 self.holds(item, SHOWS[item.kind] if item in hidden else LOAD_OF_THEM)
-        if self.pipeline.description.defence == HOLD:
+        if self.pipeline.description.defence in (HOLD, DELAY):
             self.hold_back()
         for store in {store.serial: store for load, store in behind if load.issued is None}.values():
             self.holds(store, BEFORE_A_LOAD)
@@ -215,7 +218,7 @@ class Telling(Replay):
         return item.is_load and self.rules.behind_stores(item, False) is not None
 
     def hold_back(self):
-        """Counts what would show the bytes, and waits for results that are held back, and for nothing else."""
+        """Counts what would show the bytes, and waits for results that are held back, or to be visible, and for nothing else."""
         for item in self.pipeline.window:
             if item.waiting and item.kind in SHOWS and self.is_held_back(item) and not self.is_kept(item):
                 what = self.would_show(item, [self.valued.prospect(source) for source in item.value.sources])
@@ -235,12 +238,15 @@ class Telling(Replay):
         return LOAD_OF_THEM if reads else None
 
     def is_held_back(self, item):
-        """Whether nothing but results that are held back keeps it waiting, its own sources' or those of what it waits for."""
+        """Whether nothing but the defence keeps it waiting, itself or what it waits for."""
         awaited = [writer for writer in item.sources if writer is not None and writer.done is None]
         return item.issued is None and (self.waits_for_a_load(item) or bool(awaited) and all(map(self.is_held_back, awaited)))
 
     def waits_for_a_load(self, item):
-        """Whether what it waits for itself is a result that is held back: of a store of version 2 the first part that didn't go."""
+        """Whether what it waits for itself is a result that is held back: of a store of version 2 the first part that didn't go; under `delay`
+        that it is visible."""
+        if self.rules.delays:
+            return self.rules.is_delayed(item)
         if not item.is_store or self.pipeline.description.version == 1:
             return not item.awaits and self.uses_what_is_held_back(item)
         for at, writer in ((item.address_at, item.one), (item.data_at, item.two)):

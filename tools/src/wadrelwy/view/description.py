@@ -9,7 +9,9 @@ from . import Fault
 
 SPECTRE, FUTURISTIC, OFF = "spectre", "futuristic", "off"
 STT, HOLD, DELAY = "stt", "hold", "delay"
-MODELS, DEFENCES = (SPECTRE, FUTURISTIC, OFF), (STT, HOLD, DELAY)
+MODELS = (SPECTRE, FUTURISTIC, OFF)
+# each defence, and what it does to an instruction that it lets wait, in words
+DEFENCES = {STT: "held by taint", HOLD: "held back", DELAY: "delayed"}
 # the most bytes of a description (docs/formats.md, "Words")
 DESCRIPTION_MAX = 65536
 
@@ -58,6 +60,11 @@ class Description(NamedTuple):
     second_latency: int
     prefetch: int
     defence: str
+
+
+def defence_beside(model: str, defence: str) -> str:
+    """What is told behind a model's name: the defence, where it isn't STT's own, and where the model protects."""
+    return "" if defence == STT or model == OFF else f", defence {defence}"
 
 
 def read_description(name: str) -> "Description":

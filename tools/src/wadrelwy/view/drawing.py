@@ -7,7 +7,7 @@ from itertools import islice
 
 from .listing import IN_FLIGHT, tip
 from .reasons import (
-    ADDRESS_PORT, BASE, DATA, DATA_PORT, DIVIDER, HELD_BACK, MISS_REGISTER, OLDER_STORE, OPERAND, PORT, STORE_ADDRESS, STORE_DATA,
+    ADDRESS_PORT, BASE, DATA, DATA_PORT, DELAYED, DELAYED_OUTCOME, DIVIDER, HELD_BACK, MISS_REGISTER, OLDER_STORE, OPERAND, PORT, STORE_ADDRESS, STORE_DATA,
     STORE_TAINT, TAINT, TAINTED_CLEARING, TAINTED_OUTCOME, TWO_REGISTERS)
 from .spans import DONE, QUEUE, RENAMED, RETIRED, SQUASHED, TRAPPED, spans_of
 
@@ -25,6 +25,7 @@ STATES = {
     OPERAND: ("o", "#fdf3c4", "#765", "waits for an operand"),
     TAINT: ("t", "#d7301f", "#fff", "held by taint"),
     HELD_BACK: ("k", "#d7301f", "#fff", "a load's result is held back"),
+    DELAYED: ("y", "#d7301f", "#fff", "delayed until it is visible"),
     OLDER_STORE: ("s", "#d9c29b", "#432", "waits for an older store"),
     STORE_ADDRESS: ("a", "#d9c29b", "#432", "waits for an older store's address"),
     STORE_DATA: ("s", "#d9c29b", "#432", "waits for an older store's data"),
@@ -50,6 +51,7 @@ STATES = {
     DONE: ("d", "#d5e8d4", "#465", "done"),
     TAINTED_OUTCOME: ("t", "#f0907f", "#300", "done, outcome held by taint"),
     TAINTED_CLEARING: ("c", "#f0907f", "#300", "store: clearing held by taint"),
+    DELAYED_OUTCOME: ("y", "#f0907f", "#300", "done, outcome delayed"),
     RETIRED: ("R", "#222222", "#fff", "retires"),
     TRAPPED: ("!", "#d4b106", "#000", "traps"),
     SQUASHED: ("x", "none", "#c00", "is squashed"),

@@ -1,9 +1,9 @@
 """`konata`: the log that the viewer Konata opens, Kanata 0004.
 
 Each instruction has one `I` and one `R`, and each `S` of a stage its `E`. The stages: F in the queue, Rn renamed; one for each
-reason of waiting (Wo operand, Wt taint, Wh a load's result held back, Ws older store, Wp port, Wm miss register, Wd divider; in version 2
+reason of waiting (Wo operand, Wt taint, Wh a load's result held back, Wv that it is visible, Ws older store, Wp port, Wm miss register, Wd divider; in version 2
 Wo and Wp also of a part of a store, Ws of an older store's address or data, Wt of its tainted address); one for each unit (X, Mul,
-Div, St, and Lh, Lm, Lj, L2, Lf, Lx for loads); Cm done; Ct done, and its outcome or its clearing held by taint. `W` lines are the
+Div, St, and Lh, Lm, Lj, L2, Lf, Lx for loads); Cm done; Ct done, and its outcome or its clearing held by the defence. `W` lines are the
 dependences.
 What is in flight at the end is told as flushed.
 """
@@ -11,7 +11,7 @@ from typing import Iterator, Optional, TYPE_CHECKING
 
 from .listing import tip
 from .reasons import (
-    ADDRESS_PORT, BASE, DATA, DATA_PORT, DIVIDER, HELD_BACK, MISS_REGISTER, OLDER_STORE, OPERAND, PORT, STORE_ADDRESS, STORE_DATA,
+    ADDRESS_PORT, BASE, DATA, DATA_PORT, DELAYED, DELAYED_OUTCOME, DIVIDER, HELD_BACK, MISS_REGISTER, OLDER_STORE, OPERAND, PORT, STORE_ADDRESS, STORE_DATA,
     STORE_TAINT, TAINT, TAINTED_CLEARING, TAINTED_OUTCOME, TWO_REGISTERS)
 from .spans import DONE, QUEUE, RENAMED, RETIRED, spans_of
 
@@ -22,11 +22,11 @@ if TYPE_CHECKING:
 
 STAGES = {
     QUEUE: "F", RENAMED: "Rn", OPERAND: "Wo", TAINT: "Wt", OLDER_STORE: "Ws", PORT: "Wp", MISS_REGISTER: "Wm", DIVIDER: "Wd",
-    TWO_REGISTERS: "Wm", HELD_BACK: "Wh",
+    TWO_REGISTERS: "Wm", HELD_BACK: "Wh", DELAYED: "Wv",
     BASE: "Wo", DATA: "Wo", ADDRESS_PORT: "Wp", DATA_PORT: "Wp", STORE_ADDRESS: "Ws", STORE_DATA: "Ws", STORE_TAINT: "Wt",
     "alu": "X", "mul": "Mul", "div": "Div", "agu": "St",
     "hit": "Lh", "miss": "Lm", "join": "Lj", "second": "L2", "forward": "Lf", "fault": "Lx",
-    DONE: "Cm", TAINTED_OUTCOME: "Ct", TAINTED_CLEARING: "Ct", RETIRED: "Cm",
+    DONE: "Cm", TAINTED_OUTCOME: "Ct", TAINTED_CLEARING: "Ct", DELAYED_OUTCOME: "Ct", RETIRED: "Cm",
 }
 IS_RETIRED, IS_FLUSHED = 0, 1
 

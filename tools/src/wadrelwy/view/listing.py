@@ -5,7 +5,7 @@ from . import Fault
 from .items import NEVER
 from .pipeline import LOAD_UNITS
 from .places import function_of, nothing_of
-from .reasons import HELD, HELD_BACK
+from .reasons import DELAYED, DELAYED_OUTCOME, HELD, HELD_BACK
 from .why import cycles, held_by
 
 if TYPE_CHECKING:
@@ -61,6 +61,7 @@ def notes(item: "Item", still: str = IN_FLIGHT) -> Iterator[str]:
         yield {"T": "taken", "N": "not taken", "J": "jump"}[item.outcome] + (", mispredicted" if item.mispredicted else "")
     yield from (f"held by taint {cycles(wait)} of {held_by(wait)} {wait.serial}" for wait in item.waits if wait.reason in HELD)
     yield from (f"held back {cycles(wait)} of load {wait.serial}" for wait in item.waits if wait.reason == HELD_BACK)
+    yield from (f"delayed {cycles(wait)} by {wait.serial}" for wait in item.waits if wait.reason in (DELAYED, DELAYED_OUTCOME))
     if item.squashed is not None:
         yield f"squashed {item.squashed}" + ", violated" * item.violated
     elif item.trapped is not None:

@@ -14,13 +14,15 @@ cdef class Reasons:
     cdef public Item head, cause
     cdef public dict idle
     cdef public bytearray ports, free_ports
-    cdef public bint futuristic, results_held, misaligned
+    cdef public bint futuristic, results_held, delays, misaligned
     cdef public long long version, width, mshrs
     cpdef wait(self, Item item, reason, Item cause)
     @cython.locals(item=Item, root=Item)
     cpdef resolve(self, resolved, bint squashes)
     @cython.locals(root=Item)
     cpdef Item tainted_root(self, Item item)
+    cpdef Item hider(self, Item item)
+    cpdef bint is_delayed(self, Item item) except? -1
     @cython.locals(store=Item, root=Item, hidden=cython.bint)
     cpdef clear(self, cleared)
     @cython.locals(pipeline=Pipeline, cycle=cython.longlong, awake=list, kept=cython.Py_ssize_t, item=Item, stays=cython.bint)
@@ -37,6 +39,7 @@ cdef class Reasons:
     @cython.locals(place=cython.Py_ssize_t, reason=str)
     cpdef str to_issue_part(self, Item item, str part, Item writer, bint goes)
     cpdef bint may_be_held_back(self, Item writer, bint goes) except? -1
+    cpdef bint may_be_delayed(self, Item store, bint goes) except? -1
     cpdef keep(self, Item item, bint goes, str reason, Item cause)
     @cython.locals(reason=str)
     cpdef str to_issue(self, Item item, bint goes)

@@ -6,7 +6,7 @@ made from its text, the image and the description alone.
 """
 from wadrelwy.riscv.kinds import CALL
 
-from .description import FUTURISTIC, HOLD
+from .description import DEFENCES, DELAY, FUTURISTIC, HOLD
 from .items import ADDRESS_PART, ARITHMETIC_PORTS, DATA_PART, PARTS, PORTS
 from .pipeline import enter
 
@@ -20,11 +20,13 @@ BASE, DATA, ADDRESS_PORT, DATA_PORT = "base", "data", "address port", "data port
 STORE_ADDRESS, STORE_DATA, STORE_TAINT = "older store's address", "older store's data", "older store's tainted address"
 # to issue under the defence `hold`
 HELD_BACK = "load held back"
+# to issue under the defence `delay`, and to be resolved
+DELAYED, DELAYED_OUTCOME = "not visible", "not visible, to be resolved"
 # to be resolved; a store that loads may have passed: to be cleared
 TAINTED_OUTCOME, ONE_A_CYCLE = "taint, to be resolved", "one resolved a cycle"
 TAINTED_CLEARING, ONE_CLEARED = "taint, to be cleared", "one cleared a cycle"
 HELD = (TAINT, STORE_TAINT, TAINTED_OUTCOME, TAINTED_CLEARING)
-DEFENCE = frozenset((*HELD, HELD_BACK))
+DEFENCE = frozenset((*HELD, HELD_BACK, DELAYED, DELAYED_OUTCOME))
 
 # what each part of a store waits for: its operand, and its port
 PART_REASONS = dict(zip(PARTS, ((BASE, ADDRESS_PORT), (DATA, DATA_PORT))))
@@ -42,6 +44,7 @@ class Reasons:
         self.unexplained, self.idle, self.last_idle = [], {}, None
         self.presumed, self.head, self.issued, self.cause = set(), None, [], None
         self.futuristic, self.results_held = self.description.model == FUTURISTIC, self.description.defence == HOLD
+        self.delays = self.description.defence == DELAY
         self.version, self.width = self.description.version, self.description.retire_width
         self.mshrs, self.misaligned = self.description.mshrs, self.description.misaligned
         self.free_ports = bytearray([1] * (len(PORTS) + 1))
@@ -51,7 +54,7 @@ class Reasons:
     @property
     def holds(self):
         """What the description's defence does, in words."""
-        return "held back" if self.description.defence == HOLD else "held by taint"
+        return DEFENCES[self.description.defence]
 
     def tell(self, text):
         self.unexplained.append(f"cycle {self.pipeline.cycle}: {text}")
@@ -65,16 +68,16 @@ class Reasons:
     # ---- Resolve
 
     def resolve(self, resolved, squashes):
-        """The oldest branch or JALR that is Done, with no tainted operand, is resolved: at most one a cycle."""
+        """The oldest branch or JALR that is Done, with no tainted operand, is resolved: at most one a cycle. Under `delay` it has to be visible."""
         first = None
         for item in self.pipeline.outcomes[:]:
             if squashes and item.serial > resolved:
                 continue
-            root = self.tainted_root(item)
-            if root is None and first is None and item.serial != resolved and self.presume_fault(item.youngest_root):
-                root = item.youngest_root
+            root = self.hider(item) if self.delays else self.tainted_root(item)
+            if root is None and first is None and item.serial != resolved and self.presume_fault(item if self.delays else item.youngest_root):
+                root = self.hider(item) if self.delays else item.youngest_root
             if root is not None:
-                self.wait(item, TAINTED_OUTCOME, root)
+                self.wait(item, DELAYED_OUTCOME if self.delays else TAINTED_OUTCOME, root)
             elif first is None:
                 first = item.serial
             else:
@@ -86,6 +89,20 @@ class Reasons:
         """The youngest load from which an operand flows, if it isn't visible."""
         root = item.youngest_root
         return root if self.pipeline.is_hidden(root) else None
+
+    # ---- under `delay`
+
+    def hider(self, item):
+        """The oldest entry that keeps this one from being visible, or none."""
+        return self.pipeline.shadows[0] if self.pipeline.is_hidden(item) else None
+
+    def is_delayed(self, item):
+        """Whether it waits to be visible, and for no writer: a load, a division, or a store that lacks its address."""
+        if not self.delays or not self.pipeline.is_hidden(item):
+            return False
+        if item.is_store:
+            return item.address_at < 0 and (item.one is None or item.one.done is not None)
+        return (item.is_load or item.divides) and item.waiting and not item.awaits
 
     # ---- Clear
 
@@ -158,6 +175,8 @@ class Reasons:
 
     def roots_of_wait(self, item):
         """The loads that have to be visible for this entry to issue: a load also asks for those of the addresses of stores without data."""
+        if self.delays and (item.is_load or item.divides):
+            yield item
         if self.description.defence == HOLD or item.is_load or item.divides:
             yield item.youngest_root
         if item.is_load and self.description.version != 1:
@@ -183,7 +202,7 @@ class Reasons:
         if item.data_at < 0:
             data = self.to_issue_part(item, DATA_PART, item.two, item.data_goes)
         if address is not None:
-            self.wait(item, address, None if address == ADDRESS_PORT else item.one)
+            self.wait(item, address, None if address == ADDRESS_PORT else self.hider(item) if address == DELAYED else item.one)
         elif data is not None:
             self.wait(item, data, None if data == DATA_PORT else item.two)
         lacks_address = item.address_at < 0 and not item.address_goes
@@ -202,6 +221,8 @@ class Reasons:
             reason = PART_REASONS[part][0]
         elif self.results_held and (self.is_held_back(writer) or self.may_be_held_back(writer, goes or not self.ports[place])):
             reason = HELD_BACK
+        elif self.delays and part == ADDRESS_PART and self.may_be_delayed(item, goes or not self.ports[place]):
+            reason = DELAYED
         elif not self.ports[place]:
             reason = PART_REASONS[part][1]
         elif goes:
@@ -216,6 +237,10 @@ class Reasons:
         """Whether a fault that the trace doesn't tell holds this load back, where nothing else explains a wait for it."""
         read = self.results_held and writer is not None and writer.is_load
         return read and not goes and self.presume_fault(writer)
+
+    def may_be_delayed(self, store, goes):
+        """Whether this store isn't visible, also by a fault that the trace doesn't tell, where nothing else explains a wait for that."""
+        return self.pipeline.is_hidden(store) or not goes and self.presume_fault(store)
 
     def keep(self, item, goes, reason, cause):
         """Takes the port of an entry that is tried, and keeps the reason of one that waits."""
@@ -238,6 +263,10 @@ class Reasons:
             self.cause = self.held_back(item)
             if self.cause is not None:
                 return HELD_BACK
+        if self.delays and (item.is_load or item.divides):
+            self.cause = self.hider(item)
+            if self.cause is not None:
+                return DELAYED
         if item.is_load or item.divides:
             self.cause = item.youngest_root
             if self.cause is not None and self.pipeline.is_hidden(self.cause):

@@ -8,7 +8,7 @@ Done by then. No more cycles are told so than the defence took. So is what a hel
 from wadrelwy.riscv.kinds import CALL, DIVISION, MULTIPLICATION, STORE
 
 from .reasons import (
-    ADDRESS_PORT, DATA_PORT, DIVIDER, HELD_BACK, MISS_REGISTER, ONE_A_CYCLE, ONE_CLEARED, PORT, STORE_TAINT, TAINT, TAINTED_CLEARING,
+    ADDRESS_PORT, DATA_PORT, DELAYED, DELAYED_OUTCOME, DIVIDER, HELD_BACK, MISS_REGISTER, ONE_A_CYCLE, ONE_CLEARED, PORT, STORE_TAINT, TAINT, TAINTED_CLEARING,
     TAINTED_OUTCOME, TWO_REGISTERS)
 
 BASE, FRONT_END, MISPREDICTION, VIOLATION, ROOM, SYSTEM_CALL, END, UNEXPLAINED = (
@@ -22,7 +22,9 @@ HIT, FORWARDED, SECOND_LEVEL, MEMORY, JOINED, FAULTING = (
 LOAD_REASONS = {"hit": HIT, "forward": FORWARDED, "second": SECOND_LEVEL, "miss": MEMORY, "join": JOINED, "fault": FAULTING}
 KIND_REASONS = {MULTIPLICATION: MULTIPLIER, DIVISION: DIVIDER_BUSY, STORE: STORES}
 TAINTS = {TAINT: "taint: before it issues", STORE_TAINT: "taint: address of an older store", TAINTED_OUTCOME: "taint: outcome of a branch",
-          TAINTED_CLEARING: "taint: clearing of a store", HELD_BACK: "held back"}
+          TAINTED_CLEARING: "taint: clearing of a store", HELD_BACK: "held back", DELAYED: "delayed: before it issues",
+          DELAYED_OUTCOME: "delayed: outcome of a branch"}
+OUTCOMES = TAINTED_OUTCOME, DELAYED_OUTCOME
 WAIT_REASONS = {PORT: PORTS, ADDRESS_PORT: PORTS, DATA_PORT: PORTS, MISS_REGISTER: REGISTERS, TWO_REGISTERS: REGISTERS, DIVIDER: DIVIDER_BUSY,
                 ONE_A_CYCLE: PORTS, ONE_CLEARED: CLEARING, **TAINTS}
 # the order of the stack
@@ -68,7 +70,7 @@ class Slots:
     def squash(self, item):
         """What is younger than a branch or JALR is dropped, or from a violated load on: the next item comes late for that."""
         self.fill = VIOLATION if item.violated else MISPREDICTION, item.pc
-        if item.since is not None and TAINTED_OUTCOME in [wait.reason for wait in item.waits]:
+        if item.since is not None and any([wait.reason in OUTCOMES for wait in item.waits]):
             self.issue(item)
         late = item.late
         left = late.left(self.pipeline.charged) if late is not None else 0
@@ -153,7 +155,7 @@ class Slots:
             return self.late(head) or self.executes(head)
         if head.is_control and head.resolved is None or head.is_store and not self.pipeline.is_cleared(head):
             reasons = [wait.reason for wait in head.waits if wait.last >= self.pipeline.cycle - 1]
-            held = [wait.reason for wait in head.waits if wait.reason in (TAINTED_OUTCOME, TAINTED_CLEARING)]
+            held = [wait.reason for wait in head.waits if wait.reason in (*OUTCOMES, TAINTED_CLEARING)]
             return self.charge(held[0] if held else reasons[-1] if reasons else None)
         if head.is_store and STORE in [item.kind for item in retired]:
             return PORTS

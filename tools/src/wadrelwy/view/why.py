@@ -5,7 +5,7 @@ from typing import Any, Iterator, Optional, TYPE_CHECKING
 from . import Fault
 from .items import NEVER
 from .places import function_of, nothing_of
-from .reasons import HELD, HELD_BACK, STORE_TAINT
+from .reasons import DEFENCE, DELAYED, DELAYED_OUTCOME, STORE_TAINT
 
 if TYPE_CHECKING:
     from wadrelwy.view.disassembly import Disassembler
@@ -27,7 +27,7 @@ def lines_of(replay: "Replay", disassembler: "Disassembler", first: int, last: O
         found = True
         for wait in item.waits:
             waits[wait.reason] += wait.last - wait.first + 1
-            if wait.reason in (*HELD, HELD_BACK):
+            if wait.reason in DEFENCE:
                 held[item.pc, held_by(wait), wait.pc] += wait.last - wait.first + 1
             if not summary and wait.first <= last and wait.last >= first:
                 yield wait_line(item, wait, disassembler)
@@ -47,8 +47,9 @@ def cycles(span: Any) -> str:
 
 
 def held_by(wait: "Wait") -> str:
-    """What it is that holds it: a load that isn't visible, or a store whose address flows from one."""
-    return "store" if wait.reason == STORE_TAINT else "load"
+    """What it is that holds it: a load that isn't visible, or a store whose address flows from one; under `delay` any entry that keeps it from
+    being visible."""
+    return "store" if wait.reason == STORE_TAINT else "entry" if wait.reason in (DELAYED, DELAYED_OUTCOME) else "load"
 
 
 def wait_line(item: "Item", wait: "Wait", disassembler: "Disassembler") -> str:
