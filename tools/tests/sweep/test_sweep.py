@@ -32,8 +32,8 @@ loads = 4
 [stt]
 model = "spectre"
 """
-# 1000 cycles without protection, 1100 under spectre, 1250 under futuristic, 100 more under hold; 8 fewer for each entry of the window; each
-# run leaves a mark. What is killed, or retires otherwise, a word of the environment says
+# 1000 cycles without protection, 1100 under spectre, 1250 under futuristic, 100 more under hold and 400 under delay; 8 fewer for each entry of the
+# window; each run leaves a mark. What is killed, or retires otherwise, a word of the environment says
 STAND_IN = """#!/bin/sh
 [ "$1" = isa ] && { grep -q trap $2 && echo "end trap 5 00010010 retired 3" && exit 1; echo "end exit 0 retired ${ISA:-500}"; exit 0; }
 [ "$1 $4" = "run --cycles" ] || exit 2
@@ -48,6 +48,7 @@ cycles=1000
 grep -q '^model = "spectre"' $2 && cycles=1100
 grep -q '^model = "futuristic"' $2 && cycles=1250
 grep -q '^defence = "hold"' $2 && ! grep -q '^model = "off"' $2 && cycles=$((cycles + 100))
+grep -q '^defence = "delay"' $2 && ! grep -q '^model = "off"' $2 && cycles=$((cycles + 400))
 rob=$(sed -n 's/^rob = \\([0-9]*\\).*/\\1/p' $2)
 echo "out 00"
 echo "end exit 0 retired ${RETIRED:-500} cycles $((cycles - 8 * rob))"
@@ -148,14 +149,15 @@ class Sweeps(Folder):
     def test_every_combination(self):
         told = self.sweep(*self.words("--set", "core.rob=25,50", "--defences"))
         self.assertEqual((told.returncode, told.stderr), (0, ""))
-        self.assertEqual(self.runs(), 2 * 2 * 5)
+        self.assertEqual(self.runs(), 2 * 2 * 7)
         found = {(row["program"], row["core.rob"], row["defence"]): (int(row["cycles"]), row["slowdown"]) for row in self.rows()}
-        self.assertEqual(len(found), 20)
+        self.assertEqual(len(found), 28)
         for program in ("one", "two"):
             self.assertEqual(found[program, "25", "off"], (800, "0.0"))
             self.assertEqual(found[program, "25", "spectre"], (900, "0.125"))
             self.assertEqual(found[program, "50", "futuristic"], (850, str(round(250 / 600, 6))))
             self.assertEqual(found[program, "50", "spectre+hold"], (800, str(round(200 / 600, 6))))
+            self.assertEqual(found[program, "50", "futuristic+delay"], (1250, str(round(650 / 600, 6))))
         self.assertIn("core, core.rob 25: mean slowdown +12.5 % under spectre", told.stdout)
         with open(os.path.join(self.out, "results.json"), encoding="utf-8") as file:
             self.assertEqual(json.load(file)[0]["instructions_per_cycle"], 0.625)
@@ -350,12 +352,12 @@ class Sweeps(Folder):
         self.write("two.elf", "trap")
         told = self.sweep(*self.words("--set", "core.rob=25", "--defences"))
         self.assertEqual(told.returncode, 12)
-        self.assertIn("5 of 10 runs end by a trap, and have no slowdown: two core core.rob=25", told.stdout)
+        self.assertIn("7 of 14 runs end by a trap, and have no slowdown: two core core.rob=25", told.stdout)
         self.assertIn("+12.5 % under spectre (n 1, ", told.stdout)
         self.assertEqual({row["slowdown"] for row in self.rows() if row["program"] == "two"}, {""})
         told = self.sweep(*self.words("--set", "core.rob=25", "--defences", "--cycles", "700"))
         self.assertEqual(told.returncode, 3)
-        self.assertIn("5 of 10 runs were ended by the budget", told.stdout)
+        self.assertIn("7 of 14 runs were ended by the budget", told.stdout)
         self.assertNotIn("mean slowdown", told.stdout)
         self.assertEqual({row["slowdown"] for row in self.rows()}, {""})
 
@@ -415,15 +417,15 @@ class Plots(Folder):
         self.assertEqual(self.sweep(*self.words("--set", "core.rob=25,50", "--defences")).returncode, 0)
         tips = [tip.text for tip in self.drawn("bars.svg").iter("{http://www.w3.org/2000/svg}title")]
         bars = [tip for tip in tips if "," in tip]
-        self.assertEqual(len(bars), 2 * 3 * 4)  # two sizes, two programs and the mean, four defences
+        self.assertEqual(len(bars), 2 * 3 * 6)  # two sizes, two programs and the mean, six defences
         self.assertIn("one, spectre: +12.5 %", bars)
         self.assertIn("mean, futuristic: +41.7 % (n 2, median +41.7 %, +41.7 % to +41.7 %)", bars)
         tips = [tip.text for tip in self.drawn("curve-core.rob.svg").iter("{http://www.w3.org/2000/svg}title") if "core.rob" in tip.text]
-        self.assertEqual(len(tips), 2 * (5 + 4))
+        self.assertEqual(len(tips), 2 * (7 + 6))
         self.assertIn("off, core.rob 50: 0.83", tips)
         self.assertIn("spectre, core.rob 25: +12.5 %", tips)
         lines = {line.get("stroke-dasharray") for line in self.drawn("curve-core.rob.svg").iter("{http://www.w3.org/2000/svg}polyline")}
-        self.assertEqual(len(lines), 4, "off and spectre are whole, each other has dashes of its own")
+        self.assertEqual(len(lines), 6, "off and spectre are whole, each other has dashes of its own")
 
     def test_a_bar_below_zero(self):
         row = results.Row("p", "d", {}, "spectre", "exit 0", 10, 90, -0.1)
@@ -457,7 +459,7 @@ class WithProgram(Folder):
         told = self.sweep(self.out, "--programs", gadget, "--descriptions", os.path.join(ROOT, "examples", "core_passing.toml"), "--defences",
                           "--program", PROGRAM)
         self.assertEqual((told.returncode, told.stderr), (0, ""))
-        self.assertEqual([(row["end"], row["cycles"]) for row in self.rows()], [("exit 0", "21")] * 5)
+        self.assertEqual([(row["end"], row["cycles"]) for row in self.rows()], [("exit 0", "21")] * 7)
 
 
 GCC = "riscv64-unknown-elf-gcc"

@@ -18,11 +18,13 @@ assert sys.argv[1] == "pair" and sys.argv[5:] == ["--cycles", "500"], sys.argv
 assert ("own" in sys.argv[3]) == ("rob = 24" in text), "the value that is set is for images of one's own"
 said = {("off", "stt"): "premise yes\\nunequal 15\\nretired 5 cycles 20\\n", ("spectre", "stt"): "{spectre}",
         ("futuristic", "stt"): "premise no\\nunequal end\\nretired 5 cycles 30\\n",
-        ("spectre", "hold"): "premise yes\\nequal\\nretired 5 cycles 19\\n", ("futuristic", "hold"): "premise no\\nequal\\nretired 5 cycles 20\\n"}
+        ("spectre", "hold"): "premise yes\\nequal\\nretired 5 cycles 19\\n", ("futuristic", "hold"): "premise no\\nequal\\nretired 5 cycles 20\\n",
+        ("spectre", "delay"): "premise yes\\nequal\\nretired 5 cycles 33\\n", ("futuristic", "delay"): "premise no\\nequal\\nretired 5 cycles 40\\n"}
 print(said[key], end="")
 sys.exit(0 if "\\nequal" in said[key] else 1)
 """
-HEADING = ["| Victim | Promised | `off` | `spectre` | `futuristic` | `spectre`, `hold` | `futuristic`, `hold` |", "|---|---|---|---|---|---|---|"]
+HEADING = ["| Victim | Promised | `off` | `spectre` | `futuristic` | `spectre`, `hold` | `futuristic`, `hold` | `spectre`, `delay` | `futuristic`, `delay` |",
+           "|---|---|---|---|---|---|---|---|---|"]
 
 
 def stand_in(spectre, end="exit 0"):
@@ -44,14 +46,14 @@ class Table(unittest.TestCase):
     def test_text(self):
         told = self.table("premise yes\nequal\nretired 5 cycles 20\n")
         row = ("| `tainted_divisor.s` | `spectre` | **unequal**, 20 | equal, 20 (+0) | **unequal**, 30 (+10) | equal, 19 (-1) | "
-               "equal, 20 (+0) |")
+               "equal, 20 (+0) | equal, 33 (+13) | equal, 40 (+20) |")
         self.assertEqual((told.returncode, told.stdout.splitlines()[:3], told.stderr), (0, [*HEADING, row], ""))
 
     def test_other_ends(self):
         """A run that its budget or a trap ended is told as such, and never as one that costs nothing."""
         told = self.table("premise yes\nequal\nretired 4 cycles 500\n")
         row = ("| `tainted_divisor.s` | `spectre` | **unequal**, 20 | equal, cut at 500 | **unequal**, 30 (+10) | equal, 19 (-1) | "
-               "equal, 20 (+0) |")
+               "equal, 20 (+0) | equal, 33 (+13) | equal, 40 (+20) |")
         self.assertEqual((told.returncode, told.stdout.splitlines()[2], told.stderr), (3, row, ""))
         self.assertIn("\n`cut at N`: the budget ended the run in cycle N.", told.stdout)
         told = self.table("premise yes\nequal\nretired 5 cycles 20\n", "trap 3 00010010")

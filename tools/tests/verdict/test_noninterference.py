@@ -42,7 +42,7 @@ def random_program(draw):
 class Noninterference(unittest.TestCase):
     def test_random_programs(self):
         draw, loads, held = random.Random(1), 0, 0
-        descriptions = support.descriptions() + support.descriptions(2, depend=16) + support.descriptions(2, depend=16, defence='"hold"')
+        descriptions = support.descriptions() + [path for keys in support.defended(depend=16) for path in support.descriptions(2, **keys)]
         for number in range(PROGRAMS):
             description = draw.choice(descriptions)
             machine, words, data = read_description(description), random_program(draw), draw.randbytes(SIZE)

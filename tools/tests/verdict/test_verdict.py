@@ -13,7 +13,7 @@ from wadrelwy import statuses
 from wadrelwy.verdict import judge, report, simulator
 from wadrelwy.view.description import read_description
 
-PASSING, UNPROTECTED, HOLD = (support.example(f"core_{name}.toml") for name in ("passing", "unprotected", "hold"))
+PASSING, UNPROTECTED, HOLD, DELAY = (support.example(f"core_{name}.toml") for name in ("passing", "unprotected", "hold", "delay"))
 HIDES = [BOUND_0 + b"\x11", BOUND_0 + b"\x22"]                      # the secret differs
 LOADS = [bytes(9), b"\1" + bytes(8)]                                # the bound does, which the path loads
 SPARE = [bytes(9), bytes(7) + b"\1\0"]                              # a byte that nothing loads
@@ -80,17 +80,22 @@ class Gadgets(unittest.TestCase):
         ("target_injection", 0x11, 0x22, CORE_FUTURISTIC, "hidden", (CODE + 0x14, "its target")),
         ("bounds_check", 0x11, 0x22, UNPROTECTED, "leaks", None),
         ("bounds_check", 0x11, 0x22, HOLD, "hidden", (CODE + 0x18, "its access")),
+        ("bounds_check", 0x11, 0x22, DELAY, "hidden", (CODE + 0x0c, "its load of these bytes")),
         ("fault_shadow", 0x11, 0x22, UNPROTECTED, "differs", None),
         ("store_bypass", 0x11, 0x22, CORE, "vacuous", None),
         ("store_bypass", 0x11, 0x22, UNPROTECTED, "leaks", None),
         ("store_bypass", 0x11, 0x22, PASSING, "hidden", (CODE + 0x14, "its load of these bytes")),
         ("store_bypass", 0x11, 0x22, HOLD, "hidden", (CODE + 0x14, "its load of these bytes")),
+        ("store_bypass", 0x11, 0x22, DELAY, "vacuous", None),
         ("tainted_store", 0, 1, UNPROTECTED, "leaks", None),
         ("tainted_store", 0, 1, HOLD, "hidden", (CODE + 0x14, "its address before a load")),
+        ("tainted_store", 0, 1, DELAY, "hidden", (CODE + 0x0c, "its load of these bytes")),
         ("tainted_divisor", 0x11, 0x22, UNPROTECTED, "leaks", None),
         ("tainted_divisor", 0x11, 0x22, HOLD, "hidden", (CODE + 0x10, "its time")),
+        ("tainted_divisor", 0x11, 0x22, DELAY, "hidden", (CODE + 0x0c, "its load of these bytes")),
         ("target_injection", 0x11, 0x22, UNPROTECTED, "leaks", None),
         ("target_injection", 0x11, 0x22, HOLD, "hidden", (CODE + 0x14, "its target")),
+        ("target_injection", 0x11, 0x22, DELAY, "hidden", (CODE + 0x0c, "its load of these bytes")),
     ]
 
     def test_gadgets(self):
