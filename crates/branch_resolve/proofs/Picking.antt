@@ -6,9 +6,11 @@ use Rattle.std.proofs.lemmas.List.{drop_more}
 use Rattle.std.proofs.lemmas.Option.{get_or_from_slice_get, slice_get_within}
 use Rattle.rv_types.specs.declared.Kind.{Kind}
 use Rattle.rv_types.specs.declared.Kind.TheVariants.{Branch, Jalr}
+use Rattle.machine_desc.specs.declared.Desc.{Desc}
 use Rattle.window_model.specs.declared.Entry.{Entry}
 use Rattle.window_model.specs.Order.{is_control, is_done}
 use Rattle.window_model.specs.Taint.{settled_as}
+use Rattle.visibility.specs.Gate.{may_show_by}
 use Rattle.visibility.specs.Point.{is_hidden}
 use Rattle.rob_ring.specs.Ring.{IsNext, is_open}
 use Rattle.rob_ring.proofs.Gaps.{to_end, to_next}
@@ -20,17 +22,17 @@ use Rattle.visibility.specs.Pick.{pick_from, can_resolve}
 drop_here : {X : Type 0} (xs : List X) (i : ℕ) (x : X) → slice_get xs i ≡ Some x → drop i xs ≡ x ∷ drop (i + 1) xs
 drop_here xs i x h = drop_more xs i x (slice_get_within xs i x h) ∙ ap (λ y. y ∷ drop (i + 1) xs) (get_or_from_slice_get xs i x x h)
 
-module _ (point i : ℕ) (es : List Entry) (roots : List (List (Option ℕ))) (e : Entry) (rs : List (Option ℕ)) (r : Option ℕ) (b : Bool)
-    (entry : slice_get es i ≡ Some e) (pair : slice_get roots i ≡ Some rs) (is : b ≡ can_resolve point e rs) (h : pick_from point i (drop i es) (drop i roots) ≡ r) where
-  at_place : (if b then Some i else pick_from point (i + 1) (drop (i + 1) es) (drop (i + 1) roots)) ≡ r
+module _ (d : Desc) (point i : ℕ) (es : List Entry) (roots : List (List (Option ℕ))) (e : Entry) (rs : List (Option ℕ)) (r : Option ℕ) (b : Bool)
+    (entry : slice_get es i ≡ Some e) (pair : slice_get roots i ≡ Some rs) (is : b ≡ can_resolve d point e rs) (h : pick_from d point i (drop i es) (drop i roots) ≡ r) where
+  at_place : (if b then Some i else pick_from d point (i + 1) (drop (i + 1) es) (drop (i + 1) roots)) ≡ r
   at_place =
-      ap (λ b. if b then Some i else pick_from point (i + 1) (drop (i + 1) es) (drop (i + 1) roots)) is
-      ∙ sym (ap₂ (pick_from point i) (drop_here es i e entry) (drop_here roots i rs pair)) ∙ h
+      ap (λ b. if b then Some i else pick_from d point (i + 1) (drop (i + 1) es) (drop (i + 1) roots)) is
+      ∙ sym (ap₂ (pick_from d point i) (drop_here es i e entry) (drop_here roots i rs pair)) ∙ h
 
   pub pick_here : b ≡ true → Some i ≡ r
   pick_here t = let a = at_place in cc
 
-  pub pick_on : b ≡ false → pick_from point (i + 1) (drop (i + 1) es) (drop (i + 1) roots) ≡ r
+  pub pick_on : b ≡ false → pick_from d point (i + 1) (drop (i + 1) es) (drop (i + 1) roots) ≡ r
   pick_on f = let a = at_place in cc
 
 -- ---- between entries that aren't settled
@@ -42,9 +44,9 @@ is_closed Jalr r c h = h
 is_closed _ r c h = refl
 
 -- an entry that is settled can't be resolved any more
-closed_stays : (point : ℕ) (e : Entry) (rs : List (Option ℕ)) → is_open e ≡ false → can_resolve point e rs ≡ false
-closed_stays point e rs h =
-    by_parts (is_control e.item.kind) (is_done e.state) (not e.resolved) (not (list_any (is_hidden point) rs)) (is_closed e.item.kind e.resolved e.cleared h)
+closed_stays : (d : Desc) (point : ℕ) (e : Entry) (rs : List (Option ℕ)) → is_open e ≡ false → can_resolve d point e rs ≡ false
+closed_stays d point e rs h =
+    by_parts (is_control e.item.kind) (is_done e.state) (not e.resolved) (not (list_any (is_hidden point) rs) && may_show_by d point e.serial) (is_closed e.item.kind e.resolved e.cleared h)
   where
     by_parts : (a b c d : Bool) → (a && c) ≡ false → (a && b && c && d) ≡ false
     by_parts false b c d h = refl
@@ -58,22 +60,22 @@ roots_there [] i lt = absurd (omega (arith, lt))
 roots_there (rs ∷ roots) zero lt = (rs, refl)
 roots_there (rs ∷ roots) (suc i) lt = roots_there roots i (omega (arith, lt))
 
-module _ (point : ℕ) (es : List Entry) (roots : List (List (Option ℕ))) (r : Option ℕ) (l : length roots ≡ length es) where
+module _ (d : Desc) (point : ℕ) (es : List Entry) (roots : List (List (Option ℕ))) (r : Option ℕ) (l : length roots ≡ length es) where
   -- what the search comes to from a position on
   abbrev pub Left : ℕ → Type 0
-  Left i = pick_from point i (drop i es) (drop i roots) ≡ r
+  Left i = pick_from d point i (drop i es) (drop i roots) ≡ r
 
   past : (i : ℕ) (e : Entry) → slice_get es i ≡ Some e → is_open e ≡ false → Left i → Left (i + 1)
   past i e at closed h =
       let within = slice_get_within es i e at in
       let rs = roots_there roots i (omega (arith, within, l)) in
-      pick_on point i es roots e rs.0 r false at rs.1 (sym (closed_stays point e rs.0 closed)) h refl
+      pick_on d point i es roots e rs.0 r false at rs.1 (sym (closed_stays d point e rs.0 closed)) h refl
 
   -- the search can go on at the next entry that isn't settled
   pub pick_over : (i j : ℕ) → IsNext is_open es i j → Left i → Left j
   pick_over i j next h = to_next is_open es Left past i j next h
 
-  nothing_left : (i : ℕ) (es : List Entry) (roots : List (List (Option ℕ))) → pick_from point i (drop (length es) es) roots ≡ None
+  nothing_left : (i : ℕ) (es : List Entry) (roots : List (List (Option ℕ))) → pick_from d point i (drop (length es) es) roots ≡ None
   nothing_left i [] roots = refl
   nothing_left i (e ∷ es) roots = nothing_left i es roots
 

@@ -11,6 +11,7 @@ use Rattle.machine_desc.specs.Questions.{stores_in_one}
 use Rattle.window_model.specs.declared.Entry.{Entry}
 use Rattle.window_model.specs.Around.{Around}
 use Rattle.window_model.specs.Along.{Fact}
+use Rattle.window_model.specs.Delay.{may_show}
 use Rattle.window_model.specs.MayIssue.{may_issue, may_issue_as}
 use Rattle.window_model.specs.Ports.{Port, AddressPort, DataPort, asking, is_granted, may_at, part_may, port_of, ports, same_port}
 use Rattle.window_model.proofs.Together.{address_part, data_part, is_whole, ready_part}
@@ -24,7 +25,7 @@ use Rattle.stations.specs.declared.wants.Part.TheVariants as part
 use Rattle.stations.specs.declared.wants.Wants.TheVariants as wants
 use Rattle.refinement.specs.Waiters.{wants_by, wants_of}
 use Rattle.refinement.specs.Telling.{has_sources, own_of}
-use Rattle.issue.specs.Ports.{has_issued, part_port}
+use Rattle.issue.specs.Ports.{has_issued, part_port, part_shows}
 use Rattle.issue.specs.declared.seen.Seen.{Seen}
 use Rattle.issue.specs.State.{IssueInvariant, StandsAt}
 
@@ -103,15 +104,15 @@ module _ (d : Desc) (now : Around) (before : List Entry) (e : Entry) where
       by_port _ = refl
 
   address_gone : has_address e ≡ true → part_may AddressPort d before e ≡ false
-  address_gone h = address_part d before e ∙ ap (λ a. not a && ready_part d (base_of (sources e)) before e) h
+  address_gone h = address_part d before e ∙ ap (λ a. not a && ready_part d (base_of (sources e)) (may_show d before) before e) h
 
   data_gone : has_data e ≡ true → part_may DataPort d before e ≡ false
-  data_gone h = data_part d before e ∙ ap (λ a. not a && ready_part d (others_of (sources e)) before e) h
+  data_gone h = data_part d before e ∙ ap (λ a. not a && ready_part d (others_of (sources e)) true before e) h
 
-  address_waits : ready_part d (base_of (sources e)) before e ≡ false → part_may AddressPort d before e ≡ false
+  address_waits : ready_part d (base_of (sources e)) (may_show d before) before e ≡ false → part_may AddressPort d before e ≡ false
   address_waits h = address_part d before e ∙ ap (λ r. not (has_address e) && r) h ∙ and-false (not (has_address e))
 
-  data_waits : ready_part d (others_of (sources e)) before e ≡ false → part_may DataPort d before e ≡ false
+  data_waits : ready_part d (others_of (sources e)) true before e ≡ false → part_may DataPort d before e ≡ false
   data_waits h = data_part d before e ∙ ap (λ r. not (has_data e) && r) h ∙ and-false (not (has_data e))
 
   -- ---- who asks for none
@@ -124,16 +125,24 @@ module _ (d : Desc) (now : Around) (before : List Entry) (e : Entry) where
       by_store false s = whole_none s (ap (λ w. w && ready d before e && may_issue_as e.item.kind d now before e) w)
       by_store true s = let p = both (has_address e) (has_data e) (t.parts s ∙ ap not w) in store_none s (address_gone p.0) (data_gone p.1)
 
-  -- in version 1 a part asks for both sources, in version 2 for its own
-  ready_in : (v : Bool) (own : List ℕ) (r : Bool) → (d.version == 1) ≡ v → (if v then ready d before e && is_whole e else all_known d before own) ≡ r → ready_part d own before e ≡ r
-  ready_in v own r q h = ap (λ v. if v then ready d before e && is_whole e else all_known d before own) q ∙ h
+  -- in version 1 a part asks for both sources and that the entry may show them, in version 2 for its own, which it may
+  -- have to show
+  ready_in : (v : Bool) (own : List ℕ) (shows r : Bool) → (d.version == 1) ≡ v →
+      (if v then ready d before e && is_whole e && may_show d before else shows && all_known d before own) ≡ r → ready_part d own shows before e ≡ r
+  ready_in v own shows r q h = ap (λ v. if v then ready d before e && is_whole e && may_show d before else shows && all_known d before own) q ∙ h
+
+  -- the address part waits for its base, the data part for its register
+  base_lacks : (d.version == 1) ≡ false → all_known d before (base_of (sources e)) ≡ false → part_may AddressPort d before e ≡ false
+  base_lacks v h = address_waits (ready_in false (base_of (sources e)) (may_show d before) false v (ap (λ k. may_show d before && k) h ∙ and-false (may_show d before)))
+
+  other_lacks : (d.version == 1) ≡ false → all_known d before (others_of (sources e)) ≡ false → part_may DataPort d before e ≡ false
+  other_lacks v h = data_waits (ready_in false (others_of (sources e)) true false v h)
 
   parts_none : (a c : Bool) → (d.version == 1) ≡ false → is_store e.item.kind ≡ true → has_address e ≡ a → has_data e ≡ c → has_sources (wants_by a c) d before e ≡ false → AsksNone d now before e
   parts_none false false v s a c h =
-      let n = neither (all_known d before (base_of (sources e))) (all_known d before (others_of (sources e))) h in
-      store_none s (address_waits (ready_in false (base_of (sources e)) false v n.0)) (data_waits (ready_in false (others_of (sources e)) false v n.1))
-  parts_none false true v s a c h = store_none s (address_waits (ready_in false (base_of (sources e)) false v h)) (data_gone c)
-  parts_none true c v s a q h = store_none s (address_gone a) (data_waits (ready_in false (others_of (sources e)) false v h))
+      let n = neither (all_known d before (base_of (sources e))) (all_known d before (others_of (sources e))) h in store_none s (base_lacks v n.0) (other_lacks v n.1)
+  parts_none false true v s a c h = store_none s (base_lacks v h) (data_gone c)
+  parts_none true c v s a q h = store_none s (address_gone a) (other_lacks v h)
 
   by_wants : (s v : Bool) → is_store e.item.kind ≡ s → (d.version == 1) ≡ v → is_waiting e.state ≡ true →
       has_sources (if s && not v then wants_by (has_address e) (has_data e) else wants.Whole) d before e ≡ false → AsksNone d now before e
@@ -141,8 +150,8 @@ module _ (d : Desc) (now : Around) (before : List Entry) (e : Entry) where
       whole_none s (ap (λ r. is_waiting e.state && r && may_issue_as e.item.kind d now before e) h
       ∙ ap (λ w. w && may_issue_as e.item.kind d now before e) (and-false (is_waiting e.state)))
   by_wants true true s q w h =
-      let none : (ready d before e && is_whole e) ≡ false = ap (λ r. r && is_whole e) h in
-      store_none s (address_waits (ready_in true (base_of (sources e)) false q none)) (data_waits (ready_in true (others_of (sources e)) false q none))
+      let none : (ready d before e && is_whole e && may_show d before) ≡ false = ap (λ r. r && is_whole e && may_show d before) h in
+      store_none s (address_waits (ready_in true (base_of (sources e)) (may_show d before) false q none)) (data_waits (ready_in true (others_of (sources e)) true false q none))
   by_wants true false s q w h = parts_none (has_address e) (has_data e) q s refl refl h
 
   -- an entry that waits and lacks what it wants asks for no port
@@ -169,23 +178,25 @@ whole_by true false w h q p = absurd (cc)
 whole_by false true w h q p = absurd (cc)
 whole_by a b false h q p = absurd (cc)
 
-pub first_ready : (d : Desc) (before : List Entry) (e : Entry) (own : List ℕ) → InStep d e → stores_in_one d ≡ true → is_store e.item.kind ≡ true → is_waiting e.state ≡ true →
-    has_sources (wants_of d.version e) d before e ≡ true → ready_part d own before e ≡ true
-first_ready d before e own t one s w h =
+-- in version 1 a part of a store that has its turn may issue where the store may show its operands
+pub first_ready : (d : Desc) (before : List Entry) (e : Entry) (own : List ℕ) (shows : Bool) → InStep d e → stores_in_one d ≡ true → is_store e.item.kind ≡ true → is_waiting e.state ≡ true →
+    has_sources (wants_of d.version e) d before e ≡ true → ready_part d own shows before e ≡ may_show d before
+first_ready d before e own shows t one s w h =
     let all : ready d before e ≡ true = sym (ap₂ (λ s v. has_sources (if s && not v then wants_by (has_address e) (has_data e) else wants.Whole) d before e) s one) ∙ h in
-    ap (λ v. if v then ready d before e && is_whole e else all_known d before own) one
-    ∙ ap₂ (λ r w. r && w) all (whole_by (has_address e) (has_data e) (is_waiting e.state) (t.parts s) (t.together (eqb-true _ _ one) s) w)
+    ap (λ v. if v then ready d before e && is_whole e && may_show d before else shows && all_known d before own) one
+    ∙ ap₂ (λ r w. r && w && may_show d before) all (whole_by (has_address e) (has_data e) (is_waiting e.state) (t.parts s) (t.together (eqb-true _ _ one) s) w)
 
--- in version 2 a part asks for its own sources alone
-pub second_ready : (d : Desc) (before : List Entry) (e : Entry) (own : List ℕ) → stores_in_one d ≡ false → ready_part d own before e ≡ all_known d before own
-second_ready d before e own apart = ap (λ v. if v then ready d before e && is_whole e else all_known d before own) apart
+-- in version 2 a part asks for its own sources alone, where it may show them
+pub second_ready : (d : Desc) (before : List Entry) (e : Entry) (own : List ℕ) (shows : Bool) → stores_in_one d ≡ false → ready_part d own shows before e ≡ (shows && all_known d before own)
+second_ready d before e own shows apart = ap (λ v. if v then ready d before e && is_whole e && may_show d before else shows && all_known d before own) apart
 
 -- a part that hasn't issued may where it is ready
-pub part_may_by : (part : Part) (d : Desc) (before : List Entry) (e : Entry) (r : Bool) → has_issued part e ≡ false → ready_part d (own_of part (sources e)) before e ≡ r → part_may (part_port part) d before e ≡ r
+pub part_may_by : (part : Part) (d : Desc) (before : List Entry) (e : Entry) (r : Bool) → has_issued part e ≡ false →
+    ready_part d (own_of part (sources e)) (part_shows part (may_show d before)) before e ≡ r → part_may (part_port part) d before e ≡ r
 part_may_by part.Address d before e r f h = address_part d before e ∙ ap₂ (λ a r. not a && r) f h
 part_may_by part.Data d before e r f h = data_part d before e ∙ ap₂ (λ a r. not a && r) f h
 
 -- a part of a store that has issued may not issue again
 pub part_gone : (part : Part) (d : Desc) (before : List Entry) (e : Entry) → has_issued part e ≡ true → part_may (part_port part) d before e ≡ false
-part_gone part.Address d before e h = address_part d before e ∙ ap (λ a. not a && ready_part d (base_of (sources e)) before e) h
-part_gone part.Data d before e h = data_part d before e ∙ ap (λ a. not a && ready_part d (others_of (sources e)) before e) h
+part_gone part.Address d before e h = address_part d before e ∙ ap (λ a. not a && ready_part d (base_of (sources e)) (may_show d before) before e) h
+part_gone part.Data d before e h = data_part d before e ∙ ap (λ a. not a && ready_part d (others_of (sources e)) true before e) h

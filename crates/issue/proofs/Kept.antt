@@ -9,6 +9,7 @@ use Rattle.rv_types.specs.declared.Kind.TheVariants.{Div, Load}
 use Rattle.machine_desc.specs.declared.Desc.{Desc}
 use Rattle.window_model.specs.declared.Entry.{Entry}
 use Rattle.window_model.specs.Around.{Around, is_free}
+use Rattle.window_model.specs.Delay.{may_show}
 use Rattle.window_model.specs.MayIssue.{address_of, goes_behind, may_issue, may_issue_as}
 use Rattle.window_model.specs.Order.{is_waiting}
 use Rattle.window_model.specs.Ready.{ready}
@@ -88,8 +89,10 @@ module _ (s : Seen) (p : Candidate) where
 -- ---- an entry that lacks what it asks for besides may not issue
 
 issue_lacks : (d : Desc) (now : Around) (before : List Entry) (e : Entry) (k : Kind) → asks_besides k d now before e ≡ false → may_issue_as k d now before e ≡ false
-issue_lacks d now before e Load h = ap (λ b. not (address_tainted d.stt_model before e) && b) h ∙ and-false (not (address_tainted d.stt_model before e))
-issue_lacks d now before e Div h = ap (λ b. not (any_tainted d.stt_model before e) && b) h ∙ and-false (not (any_tainted d.stt_model before e))
+issue_lacks d now before e Load h =
+    let clean = not (address_tainted d.stt_model before e) && may_show d before in ap (λ b. clean && b) h ∙ and-false clean
+issue_lacks d now before e Div h =
+    let clean = not (any_tainted d.stt_model before e) && may_show d before in ap (λ b. clean && b) h ∙ and-false clean
 issue_lacks d now before e _ h = h
 
 pub may_not : (s : Seen) (p : Candidate) → besides s p ≡ false → may_issue s.desc.now (around_of s) (before_of s p) p.entry.now ≡ false

@@ -11,6 +11,7 @@ use Rattle.machine_desc.specs.declared.Desc.{Desc}
 use Rattle.window_model.specs.declared.Divider.{Divider}
 use Rattle.window_model.specs.declared.Entry.{Entry}
 use Rattle.window_model.specs.Around.{Around, is_free}
+use Rattle.window_model.specs.Delay.{may_show}
 use Rattle.window_model.specs.MayIssue.{goes_behind, may_issue, may_issue_as}
 use Rattle.window_model.specs.Ports.{Port, AddressPort, AluPort, DataPort, is_granted, may_at}
 use Rattle.window_model.proofs.Booleans.{both}
@@ -20,13 +21,14 @@ use Rattle.window_model.specs.Taint.{address_tainted, any_tainted}
 use Rattle.stations.specs.Stations.{ready_part}
 use Rattle.stations.specs.declared.wants.Part.{Part}
 use Rattle.rob_ring.specs.declared.beside.Sources.{Sources}
-use Rattle.visibility.specs.Gate.{may_transmit}
+use Rattle.visibility.specs.Gate.{may_show_by, may_transmit}
 use Rattle.unit_ports.specs.Ports.{Ports, left_at, port_for, taken_at}
 use Rattle.unit_ports.specs.Laws.{LeftAfter, asked, if_asked}
 use Rattle.unit_ports.proofs.Granting.{granted_is, left_more}
-use Rattle.visibility.specs.Point.{Point}
+use Rattle.visibility.specs.Point.{HasAdvanced, Point}
+use Rattle.visibility.proofs.Showing.{shown_by_point}
 use Rattle.refinement.proofs.Ready.{tells_part}
-use Rattle.refinement.proofs.Visible.{tells_operands}
+use Rattle.refinement.proofs.Visible.{tells_operands, tells_visible}
 use Rattle.refinement.specs.InFlight.{InFlight}
 use Rattle.refinement.specs.Stations.{station_of}
 use Rattle.refinement.specs.Telling.{MovedBy, OperandsTold, own_of}
@@ -38,16 +40,22 @@ use Rattle.issue.proofs.Asking.{AsksNone, asks_own}
 
 -- ---- what the parts tell
 
-issue_by : (d : Desc) (point : Point) (before : List Entry) (e : Entry) (roots : List (Option ℕ)) (now : Around) → point.model ≡ d.stt_model → OperandsTold point before e roots → (k : Kind) →
-    may_issue_as k d now before e ≡ (may_transmit k point.serial roots && asks_besides k d now before e)
-issue_by d point before e roots now q t Load =
-    ap (λ b. not b && goes_behind d now before e) (ap (λ m. address_tainted m before e) (sym q) ∙ sym t.base)
-issue_by d point before e roots now q t Div = ap (λ b. not b && is_free now) (ap (λ m. any_tainted m before e) (sym q) ∙ sym t.any)
-issue_by d point before e roots now q t _ = refl
+issue_by : (d : Desc) (point : Point) (before : List Entry) (e : Entry) (roots : List (Option ℕ)) (now : Around) → point.model ≡ d.stt_model → OperandsTold point before e roots →
+    may_show_by d point.serial e.serial ≡ may_show d before → (k : Kind) →
+    may_issue_as k d now before e ≡ (may_transmit k d point.serial e.serial roots && asks_besides k d now before e)
+issue_by d point before e roots now q t s Load =
+    ap₂ (λ b s. (not b && s) && goes_behind d now before e) (ap (λ m. address_tainted m before e) (sym q) ∙ sym t.base) (sym s)
+issue_by d point before e roots now q t s Div = ap₂ (λ b s. (not b && s) && is_free now) (ap (λ m. any_tainted m before e) (sym q) ∙ sym t.any) (sym s)
+issue_by d point before e roots now q t s _ = refl
 
--- by an entry's roots it is told whether it may issue
+-- a point that has moved tells of an entry whether it may show its operands
+shows_at : (d : Desc) (p : InFlight) (i : ℕ) (e : Entry) → HasAdvanced p.point p.window → p.point.model ≡ d.stt_model → slice_get p.window i ≡ Some e →
+    may_show_by d p.point.serial e.serial ≡ may_show d (before_at p.window i)
+shows_at d p i e m q h = shown_by_point d p.point (before_at p.window i) e q (tells_visible p.point p.window i e m h)
+
+-- by an entry's serial and roots it is told whether it may issue
 pub tells_issue : TellsIssue
-tells_issue d p i e x now s m q h k = issue_by d p.point (before_at p.window i) e x.roots now q (tells_operands p i e x s m h k) e.item.kind
+tells_issue d p i e x now s m q h k = issue_by d p.point (before_at p.window i) e x.roots now q (tells_operands p i e x s m h k) (shows_at d p i e m q h) e.item.kind
 
 -- ---- what an entry is asked for
 
@@ -70,9 +78,13 @@ module _ (s : Seen) (i : ℕ) (e : Entry) (t : IssueInvariant s) (h : StandsAt s
       let both : Some b ≡ Some (all_known s.desc.now before (own_of part (sources e))) = sym here ∙ told in
       cc
 
+  -- the point tells whether the entry may show its operands
+  pub shows_is : may_show_by s.desc.now s.point.now.serial e.serial ≡ may_show s.desc.now before
+  shows_is = shows_at s.desc.now flight i e t.advanced t.model h
+
   -- an entry that waits and is ready may issue by its untainted operands, and by what is asked for besides
   pub issue_is : (m b : Bool) (x : Sources) → slice_get s.sources.now.items i ≡ Some x →
-      m ≡ may_transmit e.item.kind s.point.now.serial x.roots → b ≡ asks_besides e.item.kind s.desc.now (around_of s) before e →
+      m ≡ may_transmit e.item.kind s.desc.now s.point.now.serial e.serial x.roots → b ≡ asks_besides e.item.kind s.desc.now (around_of s) before e →
       is_waiting e.state ≡ true → ready s.desc.now before e ≡ true → (m && b) ≡ may_issue s.desc.now (around_of s) before e
   issue_is m b x k p q w r =
       ap₂ (λ m b. m && b) p q ∙ sym (tells_issue s.desc.now flight i e x (around_of s) t.refines t.advanced t.model h k)

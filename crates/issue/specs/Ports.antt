@@ -1,5 +1,5 @@
 -- Ports, as entries are granted them (docs/machine.md, "Issue").
-use Rattle.std.specs.Prelude.{◌≡◌, ℕ, ◌+◌, ◌*◌, Bool, ◌∷◌}
+use Rattle.std.specs.Prelude.{◌≡◌, ℕ, ◌+◌, ◌*◌, Bool, true, ◌∷◌}
 use Rattle.rv_types.specs.declared.Kind.{Kind}
 use Rattle.rv_types.specs.declared.Kind.TheVariants.{Load}
 use Rattle.window_model.specs.declared.Entry.{Entry}
@@ -16,7 +16,7 @@ use Rattle.issue.specs.Telling.{asks_besides}
 
 -- ---- of an entry in its place
 
--- the entry in its place has what it asks for besides untainted operands
+-- the entry in its place has what it asks for besides untainted operands that it may show
 abbrev pub besides : Seen → Candidate → Bool
 besides s p = asks_besides p.entry.now.item.kind s.desc.now (around_of s) (before_of s p) p.entry.now
 
@@ -28,6 +28,11 @@ may_here port s p = may_at s.desc.now (around_of s) port (before_of s p) p.entry
 abbrev pub has_issued : Part → Entry → Bool
 has_issued part.Address e = has_address e
 has_issued part.Data e = has_data e
+
+-- a part of a store may show its operand, where its entry may or not: the data part shows nothing as it issues
+abbrev pub part_shows : Part → Bool → Bool
+part_shows part.Address shows = shows
+part_shows part.Data shows = true
 
 -- the port of a part of a store
 abbrev pub part_port : Part → Port

@@ -14,6 +14,7 @@ impl<'a> Seen<'a> {
     ghost use Rattle.window_model.specs.MayIssue.{address_of, bytes_of, goes_behind};
     ghost use Rattle.window_model.specs.Order.{is_store};
     ghost use Rattle.window_model.specs.Around.{is_free};
+    ghost use Rattle.window_model.specs.Delay.{may_show};
     ghost use Rattle.window_model.specs.Retire.{byte_count};
     ghost use Rattle.rv_types.specs.Memory.{load_fault};
     ghost use Rattle.rv_types.specs.Value.{bytes_in};
@@ -189,6 +190,14 @@ impl<'a> Seen<'a> {
         }
     }
 
+    /// Whether the entry may show its operands: the defence doesn't delay it, or it is visible.
+    pub(crate) fn may_show(&self, candidate: &Candidate) -> bool
+        requires turn { HasTurn self.now candidate.now }
+        ensures { result ≡ may_show self.now.desc.now (before_of self.now candidate.now) }
+    {
+        self.point.may_show(self.desc, candidate.entry.serial)
+    }
+
     // Whether the divider is free.
     fn is_free(&self) -> bool
         ensures { result ≡ is_free (around_of self.now) }
@@ -197,7 +206,7 @@ impl<'a> Seen<'a> {
     }
 
     /// Whether an entry with this effect, which nothing keeps whatever its operands are, has what it asks for besides
-    /// untainted operands: of a load, that older stores let it go. A load that lacks a store's data is put into `kept`
+    /// untainted operands that it may show: of a load, that older stores let it go. A load that lacks a store's data is put into `kept`
     /// with the store.
     pub(crate) fn has_besides(
         &self,
@@ -216,8 +225,8 @@ impl<'a> Seen<'a> {
         }
     }
 
-    /// Whether the entry, which is no store, may ask for its port: one is left, no tainted operand holds it back, and
-    /// nothing keeps it whatever its operands are. It is served then where it has what it asks for besides.
+    /// Whether the entry, which is no store, may ask for its port: one is left, neither a tainted operand nor a defence
+    /// that delays it holds it back, and nothing keeps it whatever its operands are. It is served then where it has what it asks for besides.
     pub(crate) fn may_ask(&self, candidate: &Candidate, ports: &Ports) -> bool
         requires turn { HasTurn self.now candidate.now }
         requires whole { is_store candidate.now.entry.now.item.kind ≡ false }
@@ -229,7 +238,9 @@ impl<'a> Seen<'a> {
         if !ports.has(kind) {
             return false;
         }
-        if !may_transmit(kind, self.sources_of(candidate).roots, self.point) {
+        let serial = candidate.entry.serial;
+        let roots = self.sources_of(candidate).roots;
+        if !may_transmit(kind, serial, roots, self.point, self.desc) {
             return false;
         }
         !self.is_kept(candidate)

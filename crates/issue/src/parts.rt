@@ -77,6 +77,7 @@ impl<'a> Seen<'a> {
     ghost use Rattle.rv_types.specs.Value.{one_if};
     ghost use Rattle.rv_effect.specs.Seen.{seen};
     ghost use Rattle.window_model.specs.declared.Event.TheVariants as event;
+    ghost use Rattle.window_model.specs.Delay.{may_show};
     ghost use Rattle.window_model.specs.Ports.{AddressPort, DataPort};
     ghost use Rattle.window_model.specs.Issue.{with_address, with_data};
     ghost use Rattle.window_model.specs.Order.{is_store};
@@ -86,12 +87,23 @@ impl<'a> Seen<'a> {
     ghost use Rattle.unit_ports.specs.Laws.{if_asked};
     ghost use Rattle.unit_ports.specs.Ports.{Ports};
     ghost use Rattle.issue.specs.Decisions.{HadTurn, most_begun};
-    ghost use Rattle.issue.specs.Ports.{LeftFor, events_left, granted_at, left_in_all, may_here, part_port};
-    ghost use Rattle.issue.specs.State.{HasTurn, around_of};
+    ghost use Rattle.issue.specs.Ports.{LeftFor, events_left, granted_at, left_in_all, may_here, part_port, part_shows};
+    ghost use Rattle.issue.specs.State.{HasTurn, around_of, before_of};
     ghost use Rattle.issue.specs.Turns.{Goes, parts_by};
 
-    // Whether a part of the store may issue: it hasn't issued, and its source is there; in version 1 both sources are,
-    // since the store has its turn.
+    // Whether a part of the store may show its operand: the data part shows nothing as it issues.
+    fn part_shows(&self, candidate: &Candidate, part: Part) -> bool
+        requires turn { HasTurn self.now candidate.now }
+        ensures { result ≡ part_shows part (may_show self.now.desc.now (before_of self.now candidate.now)) }
+    {
+        match part {
+            Part::Address => self.may_show(candidate),
+            Part::Data => true,
+        }
+    }
+
+    // Whether a part of the store may issue: it hasn't issued, its source is there, and it may show that. In version 1
+    // both sources are there, since the store has its turn, and both parts go where the store may show its operands.
     fn may_part(&self, candidate: &Candidate, part: Part) -> bool
         requires turn { HasTurn self.now candidate.now }
         requires store { is_store candidate.now.entry.now.item.kind ≡ true }
@@ -101,7 +113,10 @@ impl<'a> Seen<'a> {
             return false;
         }
         if self.desc.stores_in_one() {
-            return true;
+            return self.may_show(candidate);
+        }
+        if !self.part_shows(candidate, part) {
+            return false;
         }
         self.stations.ready_part(candidate.station, part)
     }

@@ -24,7 +24,7 @@ pub fn resolve<R: RenameTaint>(parts: &mut Parts<R>, row: &mut Row)
     ensures row { row.new ≡ with_events row.old (resolve parts.old.desc parts.old.machine).events }
     ensures few { IsLonger most_resolved row.old row.new }
 {
-    let Some(position) = pick(&parts.rob, &parts.point, &parts.sources) else {
+    let Some(position) = pick(&parts.rob, &parts.point, &parts.sources, &parts.desc) else {
         return;
     };
     resolve_at(position, parts, row);

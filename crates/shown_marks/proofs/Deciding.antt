@@ -11,18 +11,21 @@ use Rattle.machine_desc.specs.Questions.{stores_in_one}
 use Rattle.machine_desc.specs.declared.SttModel.{SttModel}
 use Rattle.window_model.specs.declared.Entry.{Entry}
 use Rattle.window_model.specs.Around.{Around}
+use Rattle.window_model.specs.Delay.{may_show}
 use Rattle.window_model.specs.Ports.{AddressPort, part_may}
 use Rattle.window_model.specs.Order.{base_of, has_address, has_data, is_store, is_waiting, sources}
 use Rattle.window_model.specs.Ready.{all_known, ready}
 use Rattle.window_model.specs.Taint.{address_tainted, any_tainted}
 use Rattle.window_model.proofs.Booleans.{or_false}
+use Rattle.window_model.proofs.Together.{is_whole}
 use Rattle.stations.specs.Stations.{ready_part}
 use Rattle.stations.specs.declared.wants.Part.TheVariants as part
 use Rattle.stations.specs.declared.wants.Wants.TheVariants as wants
 use Rattle.rob_ring.specs.declared.beside.Sources.{Sources}
-use Rattle.visibility.specs.Gate.{may_transmit}
+use Rattle.visibility.specs.Gate.{may_show_by, may_transmit}
+use Rattle.visibility.proofs.Showing.{shown_by_point}
 use Rattle.refinement.proofs.Ready.{tells_part}
-use Rattle.refinement.proofs.Visible.{tells_operands}
+use Rattle.refinement.proofs.Visible.{tells_operands, tells_visible}
 use Rattle.refinement.specs.Telling.{MovedBy, OperandsTold, has_sources}
 use Rattle.refinement.specs.Waiters.{wants_by, wants_of}
 use Rattle.issue.proofs.Asking.{InStep, first_ready, not_able, not_waiting, part_asks, part_gone, part_may_by, second_ready, step_at, whole_ready}
@@ -43,8 +46,8 @@ nothing_around = record { cycle = 0; regs = []; ram = record { base = 0; bytes =
 
 module _ (d : Desc) (before : List Entry) (e : Entry) where
   silent_as : (k : Kind) → (is_store k ≡ false → (is_waiting e.state && ready d before e) ≡ false) → (is_store k ≡ true → part_may AddressPort d before e ≡ false) → decides_as k d before e ≡ false
-  silent_as Load w p = ap (λ b. b && not (address_tainted d.stt_model before e)) (w refl)
-  silent_as Div w p = ap (λ b. b && not (any_tainted d.stt_model before e)) (w refl)
+  silent_as Load w p = ap (λ b. b && (not (address_tainted d.stt_model before e) && may_show d before)) (w refl)
+  silent_as Div w p = ap (λ b. b && (not (any_tainted d.stt_model before e) && may_show d before)) (w refl)
   silent_as Store w p = p refl
   silent_as _ w p = refl
 
@@ -89,27 +92,31 @@ module _ (s : Seen) (p : Candidate) (t : HasTurn s p) where
   is_ready : is_store e.item.kind ≡ false → ready d before e ≡ true
   is_ready n = whole_ready d before e n t.candidate.able
 
-  -- a load tells its address where its base is untainted
+  -- the point tells whether the entry may show its operands
+  shows : may_show_by d s.point.now.serial e.serial ≡ may_show d before
+  shows = shown_by_point d s.point.now before e t.stands.model (tells_visible s.point.now (window_of s) p.position e t.stands.advanced t.candidate.at)
+
+  -- a load that may show its address tells it where its base is untainted
   load_decides : (x : Sources) (b : Bool) → e.item.kind ≡ Load → slice_get s.walk.sources.now.items p.position ≡ Some x →
-      b ≡ may_transmit e.item.kind s.point.now.serial x.roots → b ≡ decides_as e.item.kind d before e
+      b ≡ may_transmit e.item.kind d s.point.now.serial e.serial x.roots → b ≡ decides_as e.item.kind d before e
   load_decides x b is k q =
-      q ∙ ap (λ k. may_transmit k s.point.now.serial x.roots) is
-      ∙ ap not ((told x k).base ∙ ap (λ (model : SttModel). address_tainted model before e) t.stands.model)
-      ∙ sym (ap₂ (λ w r. w && r && not (address_tainted d.stt_model before e)) t.candidate.waits (is_ready (ap is_store is)))
+      q ∙ ap (λ k. may_transmit k d s.point.now.serial e.serial x.roots) is
+      ∙ ap₂ (λ t s. not t && s) ((told x k).base ∙ ap (λ (model : SttModel). address_tainted model before e) t.stands.model) shows
+      ∙ sym (ap₂ (λ w r. w && r && (not (address_tainted d.stt_model before e) && may_show d before)) t.candidate.waits (is_ready (ap is_store is)))
       ∙ ap (λ k. decides_as k d before e) (sym is)
 
-  -- a division tells its time where both operands are untainted
+  -- a division that may show its time tells it where both operands are untainted
   division_decides : (x : Sources) (b : Bool) → e.item.kind ≡ Div → slice_get s.walk.sources.now.items p.position ≡ Some x →
-      b ≡ may_transmit e.item.kind s.point.now.serial x.roots → b ≡ decides_as e.item.kind d before e
+      b ≡ may_transmit e.item.kind d s.point.now.serial e.serial x.roots → b ≡ decides_as e.item.kind d before e
   division_decides x b is k q =
-      q ∙ ap (λ k. may_transmit k s.point.now.serial x.roots) is
-      ∙ ap not ((told x k).any ∙ ap (λ (model : SttModel). any_tainted model before e) t.stands.model)
-      ∙ sym (ap₂ (λ w r. w && r && not (any_tainted d.stt_model before e)) t.candidate.waits (is_ready (ap is_store is)))
+      q ∙ ap (λ k. may_transmit k d s.point.now.serial e.serial x.roots) is
+      ∙ ap₂ (λ t s. not t && s) ((told x k).any ∙ ap (λ (model : SttModel). any_tainted model before e) t.stands.model) shows
+      ∙ sym (ap₂ (λ w r. w && r && (not (any_tainted d.stt_model before e) && may_show d before)) t.candidate.waits (is_ready (ap is_store is)))
       ∙ ap (λ k. decides_as k d before e) (sym is)
 
-  -- a load or division tells its address or time where what it asks of taint is so
+  -- a load or division tells its address or time where what it asks of taint and of the defence is so
   pub untainted_decides : (x : Sources) (b : Bool) → (e.item.kind ≡ Load) ⊎ (e.item.kind ≡ Div) → slice_get s.walk.sources.now.items p.position ≡ Some x →
-      b ≡ may_transmit e.item.kind s.point.now.serial x.roots → b ≡ decides_as e.item.kind d before e
+      b ≡ may_transmit e.item.kind d s.point.now.serial e.serial x.roots → b ≡ decides_as e.item.kind d before e
   untainted_decides x b (inl is) k q = load_decides x b is k q
   untainted_decides x b (inr is) k q = division_decides x b is k q
 
@@ -122,19 +129,38 @@ module _ (s : Seen) (p : Candidate) (t : HasTurn s p) where
   pub address_issued : has_address e ≡ true → false ≡ part_may AddressPort d before e
   address_issued h = sym (part_gone part.Address d before e h)
 
-  -- the address part of a store in version 1 may issue: both sources are there, and it goes with the data part
-  pub address_with_data : has_address e ≡ false → stores_in_one d ≡ true → is_store e.item.kind ≡ true → true ≡ part_may AddressPort d before e
-  address_with_data f one n = sym (part_may_by part.Address d before e true f (first_ready d before e (base_of (sources e)) in_step one n t.candidate.waits t.candidate.able))
+  -- the address part of a store that may not show its operands may not issue
+  pub address_hidden : (b : Bool) → b ≡ may_show_by d s.point.now.serial e.serial → b ≡ false → has_address e ≡ false → false ≡ part_may AddressPort d before e
+  address_hidden b q h f =
+      let hidden : may_show d before ≡ false = sym shows ∙ sym q ∙ h in
+      sym (part_may_by part.Address d before e false f
+      (ap (λ m. if d.version == 1 then ready d before e && is_whole e && m else m && all_known d before (base_of (sources e))) hidden
+      ∙ by_version (d.version == 1) (ready d before e && is_whole e)))
+    where
+      by_version : (v r : Bool) → (if v then r && false else false) ≡ false
+      by_version true r = and-false r
+      by_version false r = refl
 
-  -- the address part of a store in version 2 may issue where its base is there
-  pub address_alone : (b : Bool) → has_address e ≡ false → stores_in_one d ≡ false → option_map (ready_part part.Address) (slice_get s.stations.now.held p.station) ≡ Some b → b ≡ part_may AddressPort d before e
-  address_alone b f apart k =
-      let known = tells_part part.Address d (flight_of t.stands.rest s) p.position e t.stands.refines (moved s t.stands) t.candidate.at t.candidate.waits in
-      let here : option_map (ready_part part.Address) (slice_get s.stations.now.held p.station) ≡ Some (all_known d before (base_of (sources e))) =
-      ap (λ n. option_map (ready_part part.Address) (slice_get s.stations.now.held n)) t.candidate.station ∙ known in
-      let both : Some b ≡ Some (all_known d before (base_of (sources e))) = sym k ∙ here in
-      let same : b ≡ all_known d before (base_of (sources e)) = cc in
-      sym (part_may_by part.Address d before e b f (second_ready d before e (base_of (sources e)) apart ∙ sym same))
+  module _ (b : Bool) (q : b ≡ may_show_by d s.point.now.serial e.serial) (h : b ≡ true) (f : has_address e ≡ false) where
+    shown : may_show d before ≡ true
+    shown = sym shows ∙ sym q ∙ h
+
+    -- the address part of a store in version 1 that may show its operands may issue: both sources are there, and it goes
+    -- with the data part
+    pub address_with_data : stores_in_one d ≡ true → is_store e.item.kind ≡ true → true ≡ part_may AddressPort d before e
+    address_with_data one n =
+        sym (part_may_by part.Address d before e true f (first_ready d before e (base_of (sources e)) (may_show d before) in_step one n t.candidate.waits t.candidate.able ∙ shown))
+
+    -- the address part of a store in version 2 that may show its operands may issue where its base is there
+    pub address_alone : (r : Bool) → stores_in_one d ≡ false → option_map (ready_part part.Address) (slice_get s.stations.now.held p.station) ≡ Some r → r ≡ part_may AddressPort d before e
+    address_alone r apart k =
+        let known = tells_part part.Address d (flight_of t.stands.rest s) p.position e t.stands.refines (moved s t.stands) t.candidate.at t.candidate.waits in
+        let here : option_map (ready_part part.Address) (slice_get s.stations.now.held p.station) ≡ Some (all_known d before (base_of (sources e))) =
+        ap (λ n. option_map (ready_part part.Address) (slice_get s.stations.now.held n)) t.candidate.station ∙ known in
+        let both : Some r ≡ Some (all_known d before (base_of (sources e))) = sym k ∙ here in
+        let same : r ≡ all_known d before (base_of (sources e)) = cc in
+        sym (part_may_by part.Address d before e r f
+        (second_ready d before e (base_of (sources e)) (may_show d before) apart ∙ ap₂ (λ a b. a && b) shown (sym same)))
 
 -- ---- the marks of the first operand
 

@@ -23,8 +23,8 @@ impl<'a> Seen<'a> {
         sources_at(self.walk.sources, candidate.position)
     }
 
-    // Whether a store's address part may issue: it hasn't issued, and its source is there; in version 1 both sources
-    // are.
+    // Whether a store's address part may issue: it hasn't issued, the store may show it, and its source is there; in
+    // version 1 both sources are.
     fn address_may(&self, candidate: &Candidate) -> bool
         requires turn { HasTurn self.now candidate.now }
         requires store { is_store candidate.now.entry.now.item.kind ≡ true }
@@ -32,6 +32,9 @@ impl<'a> Seen<'a> {
             ≡ part_may AddressPort self.now.desc.now (before_of self.now candidate.now) candidate.now.entry.now }
     {
         if candidate.entry.addr_due.is_some() {
+            return false;
+        }
+        if !self.point.may_show(self.desc, candidate.entry.serial) {
             return false;
         }
         if self.desc.stores_in_one() {
@@ -49,8 +52,10 @@ impl<'a> Seen<'a> {
         match candidate.entry.item.kind {
             Kind::Load | Kind::Div => may_transmit(
                 candidate.entry.item.kind,
+                candidate.entry.serial,
                 self.sources_of(candidate).roots,
                 self.point,
+                self.desc,
             ),
             Kind::Store => self.address_may(candidate),
             _ => false,

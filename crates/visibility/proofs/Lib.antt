@@ -1,2 +1,3 @@
 mod Stopping
 pub mod Moving
+pub mod Showing

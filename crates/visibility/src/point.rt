@@ -5,6 +5,7 @@ ghost use Rattle.std.specs.Option.{option_map};
 ghost use Rattle.window_model.specs.Serials.{Rise};
 ghost use Rattle.rob_ring.specs.Ring.{Next};
 ghost use Rattle.window_model.specs.Taint.{protects};
+ghost use Rattle.visibility.specs.Gate.{may_show_by};
 ghost use Rattle.visibility.specs.Point.{
   permits,
   is_hidden,
@@ -15,7 +16,7 @@ ghost use Rattle.visibility.specs.Point.{
   HasAdvanced,
 };
 
-use machine_desc::{Desc, SttModel};
+use machine_desc::{Defence, Desc, SttModel};
 use rob_ring::RobRing;
 use std::marker::Model;
 
@@ -64,6 +65,19 @@ impl VisPoint {
         ensures { result ≡ min (self.now.serial + 1) (2 ^ 64 - 1) }
     {
         self.serial.saturating_add(1)
+    }
+
+    /// Whether the entry with this serial may show its operands in the machine of a description: under the defence
+    /// `delay` once it is visible, whatever its operands are, and under any other defence at once (`docs/machine.md`,
+    /// "Safe and visible"). The point is of the description's model.
+    #[inline(always)]
+    pub fn may_show(&self, desc: &Desc, serial: u64) -> bool
+        ensures { result ≡ may_show_by desc.now self.now.serial serial }
+    {
+        match desc.stt_defence {
+            Defence::Delay => self.visible(serial),
+            _ => true,
+        }
     }
 
     /// Whether a value with this youngest root is tainted: the root is a load that isn't visible. A value without roots

@@ -5,7 +5,7 @@ use Rattle.branch_resolve.proofs.choice.pick.Given as goal
 
 abbrev pub invariant-loop-i : goal.invariant-loop-i
 invariant-loop-i l = record {
-  left : pick_from l.point.serial l.from (drop l.from l.rob.entries) (drop l.from (each_roots l.sources.items)) ≡ pick_from l.point.serial 0 l.rob.entries (each_roots l.sources.items);
+  left : pick_from l.desc l.point.serial l.from (drop l.from l.rob.entries) (drop l.from (each_roots l.sources.items)) ≡ pick_from l.desc l.point.serial 0 l.rob.entries (each_roots l.sources.items);
   within : l.from ≤ length l.rob.entries;
 }
 
