@@ -1,4 +1,5 @@
-//! The gate over a window in which serial 0 alone is visible (`transmit_gate`; `docs/machine.md`, "Issue").
+//! The gate over a window in which serial 0 alone is visible, where the defence delays nothing (`transmit_gate`;
+//! `docs/machine.md`, "Issue").
 use crate::asserting::assert_same;
 use crate::descriptions::small;
 use rv_types::Kind;
@@ -8,7 +9,8 @@ use visibility::VisPoint;
 
 #[test]
 fn loads_and_divisions_wait_for_their_roots(rt: HostRuntime) -> Result<(), Fail> {
-    let point = VisPoint::new(&small(rt.alloc())?);
+    let desc = small(rt.alloc())?;
+    let point = VisPoint::new(&desc);
     let rows: [(Kind, [Option<u64>; 2], bool); 9] = [
         (Kind::Load, [None, None], true),
         (Kind::Load, [Some(0), Some(7)], true),
@@ -21,7 +23,7 @@ fn loads_and_divisions_wait_for_their_roots(rt: HostRuntime) -> Result<(), Fail>
         (Kind::Mul, [Some(7), Some(7)], true),
     ];
     for (kind, roots, want) in rows {
-        let may = may_transmit(kind, roots, &point);
+        let may = may_transmit(kind, 7, roots, &point, &desc);
         assert_same(&rt, &(kind, roots, may), &(kind, roots, want));
     }
     Ok(())

@@ -37,7 +37,7 @@ fn picked(
     let mut sources = HeapCircularBuffer::with_capacity(alloc, 2)?;
     let _ = sources.try_push_back(with_roots(older.1));
     let _ = sources.try_push_back(with_roots(younger.1));
-    Ok(pick(&ring, &VisPoint::new(desc), &sources))
+    Ok(pick(&ring, &VisPoint::new(desc), &sources, desc))
 }
 
 // A branch or JALR that is Done, with this serial.
