@@ -12,7 +12,7 @@ sources_at-requires c =
 
 pub returns-then-may_resolve : goal.returns-then-may_resolve
 returns-then-may_resolve c =
-    let left = pick_over _ _ _ _ _ (as_many_roots c.args.sources.now.items ∙ c.requires.each_has_sources) _ _ c.in-Some.ensures.next c.loop-i.invariant.left in
+    let left = pick_over c.args.desc.now _ _ _ _ (as_many_roots c.args.sources.now.items ∙ c.requires.each_has_sources) _ _ c.in-Some.ensures.next c.loop-i.invariant.left in
     pick_here c.args.desc.now c.args.point.now.serial c.in-Some.i c.args.rob.now.entries (each_roots c.args.sources.now.items) c.lend.result.now c.sources_at.result.now.roots _ c.may_resolve.result
     c.lend.ensures (roots_here c.args.sources.now.items c.in-Some.i c.sources_at.result.now c.sources_at.ensures) c.may_resolve.ensures left c.if-may_resolve.true
 
@@ -20,7 +20,7 @@ pub loop-i-preserved : goal.loop-i-preserved
 loop-i-preserved c =
     let next = c.in-Some.ensures.next in
     let within = next.within in
-    let left = pick_over _ _ _ _ _ (as_many_roots c.args.sources.now.items ∙ c.requires.each_has_sources) _ _ next c.loop-i.invariant.left in
+    let left = pick_over c.args.desc.now _ _ _ _ (as_many_roots c.args.sources.now.items ∙ c.requires.each_has_sources) _ _ next c.loop-i.invariant.left in
     record {
       left =
           pick_on c.args.desc.now c.args.point.now.serial c.in-Some.i c.args.rob.now.entries (each_roots c.args.sources.now.items) c.lend.result.now c.sources_at.result.now.roots _ c.may_resolve.result
@@ -29,4 +29,4 @@ loop-i-preserved c =
     }
 
 pub returns : goal.returns
-returns c = pick_end _ _ _ _ _ (as_many_roots c.args.sources.now.items ∙ c.requires.each_has_sources) _ c.loop-i.invariant.within c.in_default.ensures.next c.loop-i.invariant.left
+returns c = pick_end c.args.desc.now _ _ _ _ (as_many_roots c.args.sources.now.items ∙ c.requires.each_has_sources) _ c.loop-i.invariant.within c.in_default.ensures.next c.loop-i.invariant.left
