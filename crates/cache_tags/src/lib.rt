@@ -1,8 +1,15 @@
-//! The cache's tags: which lines it has, and in which order they were used. Their bytes are memory's, so none are kept.
+//! The cache's tags: which lines it has, set by set, and in which order they were used; as one level of a cache of any
+//! sizes.
 //!
-//! A line is named by its first address. `docs/machine.md`, "State", "Fill", "Retire" and "Loads", has the rules in
-//! words; the contracts cite them from `window_model/specs`: `Sets` of any level, `State`, `Fill` and `Retire` of the
-//! machine's.
+//! A line is named by its first address. The bytes of lines are memory's, so none are kept.
+//!
+//! Rules: `window_model/specs/Sets.antt`, of any level; `State.antt`, `Fill.antt` (`with_line`), `Retire.antt`
+//! (`has_line`, `touched`), of the machine's; `docs/machine.md`, "State", "Fill", "Retire" and "Loads".
+//!
+//! Promises: the cache's lines are those of the machine's cache: a line is found, moves to the front of its set, or
+//! enters it as the definitions say.
+//!
+//! Clauses: `Tags::new`, `holds`, `touch`, `fill`; of a level of any sizes `Level::new`, `holds`, `touch`, `enter`.
 #![tactic(auto)]
 
 mod level;

@@ -1,9 +1,15 @@
-//! Runs the cases of files (`docs/cases.md`): both programs over files and sinks in memory, and tells of each case
+//! The program that makes the runs of cases, of both programs over files and sinks in memory, and tells of each case
 //! whether its runs went as it says.
 //!
 //! Its words are the names of the files. It writes a line a case, a line for each run that differs, and last how many
 //! cases, runs and differences there were. Status: 0 nothing differs, 1 something does, 2 a file can't be read as
 //! cases, which the last line tells with the file and its line.
+//!
+//! Rules: `docs/cases.md`.
+//!
+//! Promises: none: it makes the runs that cases ask for, and the gate compares what it tells.
+//!
+//! Clauses: `main`.
 #![tactic(auto)]
 
 mod comparing;

@@ -1,8 +1,15 @@
-//! Phase Clear over the parts of a core: the oldest store that may be cleared is, and the oldest load that passed it
-//! wrongly is fetched anew.
+//! Phase Clear over the parts of a core: the oldest store with a known, untainted address is cleared, and the oldest
+//! load that passed it wrongly goes with all that is younger and is fetched anew.
 //!
-//! `docs/machine.md`, "Clear", has the rules in words; the contract of [`clear`] cites them from
-//! `window_model/specs/Clear.antt`.
+//! The bit of dependence of such a load is set.
+//!
+//! Rules: `window_model/specs/Clear.antt` and `Dependence.antt`; `specs/Clearable.antt`, `Cleared.antt`;
+//! `docs/machine.md`, "Clear".
+//!
+//! Promises: where the visibility point has moved over the window, the parts hold the machine that Clear leaves, with
+//! its events: nothing changes where there are no bits of dependence.
+//!
+//! Clauses: `clear`.
 #![tactic(auto)]
 
 ghost use Rattle.clear.specs.Clearable.{FindsClearable};

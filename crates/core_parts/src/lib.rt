@@ -1,8 +1,19 @@
-//! The parts of a core, as one value that each phase works on.
+//! The parts of a core as one value that each phase works on: which machine they hold, that they refine its window, and
+//! what the lent parts tell.
 //!
-//! `specs/Held.antt` says which machine the parts hold and when they stand for it (`docs/architecture.md`, "How the
-//! parts refine the window"): that is the model and the invariant of [`Parts`]. A phase changes the fields that it
-//! moves, and shows the invariant once, where it ends.
+//! A phase changes the fields that it moves, and shows the invariant of [`Parts`] once, where it ends.
+//!
+//! Rules: `specs/Held.antt`, which machine the parts hold and what holds of them: the model and the invariant of
+//! `Parts`; `Dropped.antt`, what is left without the youngest entries; `Lent.antt`, what the lent parts tell;
+//! `Puts.antt` and `Decided.antt`, what Issue decides before it writes; `docs/architecture.md`, "The core in one
+//! picture".
+//!
+//! Promises: the parts of a core are one value, seen as its description, code, machine and visibility point; they
+//! refine the window, and each is made for the description; what the lent parts tell of the machine. What Issue has
+//! decided: at most nine entries that issue, oldest first, and nothing as it begins.
+//!
+//! Clauses: `Parts`: `new`, `begin`, `advance`, `fetch`, `drop_from`, `rob`, `table`, `stations`, `lsq`, `point`,
+//! `yrot_at`; `gives`; `Puts`: `none`, `clear`, `push`, `as_slice`; `Decided`: `nothing`, `begin`.
 #![tactic(auto)]
 
 mod decided;

@@ -1,8 +1,10 @@
-//! Tests of the core and its phases, as a caller sees them, and of the lines that a pair of runs is told by. Whole runs
-//! are cases (`docs/cases.md`).
+//! Tests of the core over both rename tables, of its phases one by one, and of the lines that a comparison is told by,
+//! as a caller sees them.
 //!
-//! They use public items alone, so they stand above the crates that they test, and cost no more than their own proof
-//! (`docs/working.md`, "Where tests stand").
+//! Whole runs are cases (`docs/cases.md`). The tests use public items alone, so they stand above the crates that they
+//! test, and cost no more than their own proof.
+//!
+//! Rules: `docs/working.md`, "Where tests stand".
 #![tactic(auto)]
 
 #[cfg(test)]

@@ -1,7 +1,12 @@
-//! The front of the machine: where fetching goes on, and the queue of what is fetched and not yet renamed.
+//! The front of the machine: where fetching goes on, the queue of what is fetched and not yet renamed, and phase Fetch.
 //!
-//! `docs/machine.md`, "Fetch", has the rules in words; the contract of [`Fetch::fetch`] cites them from
-//! `window_model/specs/Fetch.antt`, whatever else the machine holds.
+//! Rules: `window_model/specs/Fetch.antt`; `specs/Unit.antt`, of which machines it speaks; `docs/machine.md`, "Fetch".
+//!
+//! Promises: what `fetch` leaves is what phase Fetch leaves, under each description of these sizes, and there is one,
+//! of every machine with this queue, this fetch pc, this predictor, and this history and stack; the queue gives its
+//! oldest item, and a redirection empties it.
+//!
+//! Clauses: `Fetch::new`, `fetch`, `oldest`, `front`, `take`, `drop_oldest`, `redirect`.
 #![tactic(auto)]
 
 mod item;

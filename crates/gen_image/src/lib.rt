@@ -1,7 +1,10 @@
 //! Programs that a number generates: large inputs for the simulator, the same from the same number.
 //!
-//! Which program, and the bytes of its file, is said in `specs/Generated.antt`; in words in `docs/formats.md`,
-//! "Generated images".
+//! Rules: `specs/Generated.antt`, which program and the bytes of its file; `docs/formats.md`, "Generated images".
+//!
+//! Promises: the bytes are those of the written image of the seed and the number of blocks.
+//!
+//! Clauses: `generate`.
 #![tactic(auto)]
 
 mod blocks;

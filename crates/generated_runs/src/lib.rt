@@ -1,10 +1,17 @@
-//! Runs of the written machine whose traces independent models wrote, evaluated: no code, and nothing stands on it.
+//! Runs of the written machine, in both versions, whose traces independent models wrote, evaluated.
 //!
-//! `specs/Runs.antt` lists the runs, of both versions. The models are written in other languages, from the machine's
+//! There is no code, and nothing stands on it. The models are written in other languages, from the machine's
 //! description in words; `tools/evaluate/write` makes the runs and their facts of `tools/evaluate/runs`, whose
-//! `README.md` says where they come from. `specs/Agreement.antt` says what it is to agree with one, from the
-//! description's text and the image's bytes to the trace's text. Runs that were worked out by hand stand in
-//! `worked_runs`.
+//! `README.md` says where they come from. Runs that were worked out by hand stand in `worked_runs`.
+//!
+//! Rules: `specs/Agreement.antt`, what it is to agree with a model, from the description's text and the image's bytes
+//! to the trace's text; `Runs.antt`, the list of the runs.
+//!
+//! Promises: the written machine's trace of each of its small programs is the one that an independent model wrote.
+//! There are 183 programs, 43 in version 1 and 140 in version 2. Each is under its own description, and goes from the
+//! description's text and the image's bytes to the trace's text.
+//!
+//! Clauses: `model_is_met`.
 #![tactic(auto)]
 
 ghost use Rattle.std.specs.Prelude.{All};

@@ -1,6 +1,11 @@
-//! What history and return stack are in every state: those of fetching only what is left.
+//! Laws: what history and return stack are in every state, which is those of fetching only what is left.
 //!
-//! The law stands in `specs/Left.antt`, in the terms of `docs/machine.md`, "History and return stack".
+//! Rules: `specs/Left.antt`; `docs/machine.md`, "History and return stack"; `docs/theorems.md`, "History and return
+//! stack".
+//!
+//! Promises: `docs/theorems.md`, "History and return stack".
+//!
+//! Clauses: `history_follows_what_is_left`.
 #![tactic(auto)]
 
 ghost use Rattle.history_laws.specs.Left.{FollowWhatIsLeft};

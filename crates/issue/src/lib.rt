@@ -1,9 +1,17 @@
 //! Phase Issue over the parts of a core: the oldest entries whose operands are there begin to execute, as far as there
 //! are ports.
 //!
-//! `docs/machine.md`, "Issue" and "Loads", has the rules in words; the contract of [`issue`] cites them from
-//! `window_model/specs`, `Issue` and `Access`. Every test is made on what the parts hold before the phase (`Seen`);
-//! what is decided is written then.
+//! Every test is made on what the parts hold before the phase (`Seen`); what is decided is written then.
+//!
+//! Rules: `window_model/specs/MayIssue.antt`, `Ports.antt`, `Issue.antt` and `Access.antt`; `specs/State.antt`, what
+//! the phase looks at; `specs/Puts.antt`, entries before they are in their places; `docs/machine.md`, "Issue" and
+//! "Loads".
+//!
+//! Promises: what is left is what phase Issue leaves of every machine with this window, cache, miss registers, divider,
+//! memory and registers in this cycle; the stations of the entries that begin are freed, and the parts go on to refine
+//! the window.
+//!
+//! Clauses: `issue`.
 #![tactic(auto)]
 
 ghost use Rattle.issue.specs.Telling.{TellsIssue};

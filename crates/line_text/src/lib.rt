@@ -1,8 +1,14 @@
-//! What the report and the trace share: a line of text, and the last line.
+//! What the report and the trace share: a line of text, the draft that it is written on, and the last line.
 //!
 //! A text is written line by line, one put a line. A `Draft` is a fixed room that takes no memory; a `Line` is a draft
-//! and how much of it says something. How numbers are written stands in `specs/Digits.antt`, the last line in
-//! `specs/EndLine.antt` (`docs/formats.md`, "The last line").
+//! and how much of it says something.
+//!
+//! Rules: `specs/Digits.antt`, how numbers are written; `EndLine.antt`, the last line; `docs/formats.md`, "The last
+//! line".
+//!
+//! Promises: what is written is the text, all of it, or a prefix where a put failed.
+//!
+//! Clauses: `write_end`, `write_piece`, `write_report`.
 #![tactic(auto)]
 
 mod digits;

@@ -1,7 +1,16 @@
 //! Machine descriptions: the sizes and latencies of a core, read from a TOML text.
 //!
 //! `docs/formats.md`, "Machine descriptions", has every key with its meaning, range and shape, and the order in which
-//! faults are looked for. `specs/Table.antt` is that table, and `specs/Description.antt` says what a text describes.
+//! faults are looked for.
+//!
+//! Rules: `specs/Table.antt`, the keys; `Description.antt`, what a text describes; `Ranges.antt`; `Questions.antt`,
+//! what one asks of the machine; `docs/formats.md`, "Machine descriptions".
+//!
+//! Promises: a text is refused by its first fault, and else its description holds the numbers of its keys, all in range
+//! and of their shapes.
+//!
+//! Clauses: `read_desc`, `every_desc`, `one_description`, `some_description`, `example_described`, `bound`, and the
+//! questions of `Desc` (`stores_in_one`, `loads_pass`, `takes_any_address`, `has_prefetch`).
 #![tactic(auto)]
 
 ghost use Rattle.machine_desc.specs.Allowed.{AreDesc};

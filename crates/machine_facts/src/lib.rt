@@ -1,7 +1,12 @@
-//! What every state of the machine keeps, from its opening on.
+//! Laws: what every state of the machine keeps, from its opening on.
 //!
-//! The facts stand in `specs/`; each phase keeps them, and so does every run (`docs/theorems.md`, "What every state
-//! keeps").
+//! Each phase keeps the facts, and so does every run.
+//!
+//! Rules: `specs/Sized.antt`, `Timely.antt`, `Known.antt`, `InTurn.antt`; `docs/theorems.md`, "What every state keeps".
+//!
+//! Promises: `docs/theorems.md`, "What every state keeps".
+//!
+//! Clauses: `states_keep`, `issued_is_known`, `lines_go_in_turn`.
 #![tactic(auto)]
 
 ghost use Rattle.machine_facts.specs.Laws.{

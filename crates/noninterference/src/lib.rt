@@ -1,6 +1,12 @@
-//! What a program doesn't load on its path leaves no mark in the machine's trace.
+//! Laws of noninterference: what a program doesn't load on its path leaves no mark in the machine's trace.
 //!
-//! The relation between two runs stands in `specs/`; every phase keeps it (`docs/theorems.md`, "Noninterference").
+//! The relation between two runs is one that every phase keeps.
+//!
+//! Rules: `specs/Alike.antt` and its neighbours, the relation; `Laws.antt`; `docs/theorems.md`, "Noninterference".
+//!
+//! Promises: `docs/theorems.md`, "Noninterference", phase by phase and for whole runs; the gadgets.
+//!
+//! Clauses: `traces_agree`, `phases_tell_nothing`, `secrets_stay_hidden`.
 #![tactic(auto)]
 
 ghost use Rattle.noninterference.specs.Gadgets.{BoundsCheckBypass, FaultShadow, FaultShadowSpectre, SpeculativeStoreBypass, TaintedBranch, TaintedDivisor, TaintedStoreAddress, TargetInjection};

@@ -1,8 +1,15 @@
-//! Two runs of a core side by side: whether they show the same, and whether the law that they must applies.
+//! Two images side by side: whether they agree on all that the path of the first loads, where their runs first differ,
+//! and the three lines that tell the answer.
 //!
-//! A core is run on two images with one description. `specs/Answer.antt` says what is answered: where the rows of the
-//! two runs first differ, and whether the images agree on all that the path loads (`docs/theorems.md`,
-//! "Noninterference"). The three lines that tell an answer stand in `specs/Comparison.antt`.
+//! A core is run on both with one description. What is left of a core's run, cycle by cycle, is said here, too.
+//!
+//! Rules: `specs/Answer.antt`, over `window_model/specs/Cycle.antt` and `Path.antt`; `specs/Comparison.antt`, of the
+//! lines; `docs/theorems.md`, "Two images"; `docs/formats.md`, "The comparison".
+//!
+//! Promises: `docs/theorems.md`, "Two images"; what is written are the three lines of an answer, or a prefix where a
+//! put failed.
+//!
+//! Clauses: `Pair::new`, `run`; `one_answer`; `write_comparison`.
 #![tactic(auto)]
 
 ghost use Rattle.pair_run.specs.Laws.{OneAnswer};

@@ -1,8 +1,10 @@
 //! Tests of the parts of a core, as a caller sees them.
 //!
-//! They use public items alone, so they stand above the crates that they test, and cost no more than their own proof
-//! (`docs/working.md`, "Where tests stand"). Expected values follow from `docs/machine.md`; each part is made by the
-//! small description of `descriptions.rt` and by the largest.
+//! They use public items alone, so they stand above the crates that they test, and cost no more than their own proof.
+//! Expected values follow from `docs/machine.md`; each part is made by the small description of `descriptions.rt` and
+//! by the largest.
+//!
+//! Rules: `docs/working.md`, "Where tests stand".
 #![tactic(auto)]
 
 #[cfg(test)]

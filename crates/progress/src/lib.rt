@@ -1,6 +1,10 @@
-//! Progress: within a bounded number of cycles one more instruction retires, or the run ends.
+//! Laws of progress: within a bounded number of cycles one more instruction retires, or the run ends.
 //!
-//! The measure and the laws stand in `specs/` (`docs/theorems.md`, "Progress").
+//! Rules: `specs/Measure.antt`, `Laws.antt`; `docs/theorems.md`, "Progress".
+//!
+//! Promises: `docs/theorems.md`, "Progress".
+//!
+//! Clauses: `something_retires`.
 #![tactic(auto)]
 
 ghost use Rattle.progress.specs.Laws.{MeasureFalls, MeasureIsBounded, RetiresInBudget, RetiresWithinBound};

@@ -1,8 +1,16 @@
-//! The two queues of `lsq` stand for a window's loads and stores.
+//! Laws: the two queues of `lsq` that stand for a window's loads and stores tell of it what the machine's definitions
+//! find, and so do queues that track what loads read and which stores are cleared.
 //!
-//! `specs/Window.antt` says what that is, and what they track besides where loads may pass stores of unknown address;
-//! `specs/Laws.antt` that such queues tell of a window what the machine's definitions find in it. The queues of parts
-//! that refine a window stand for it (`refinement`).
+//! The queues of parts that refine a window stand for it (`refinement`).
+//!
+//! Rules: `specs/Window.antt`, when queues stand for a window and what they track besides where loads may pass stores
+//! of unknown address; `Laws.antt`, what they then tell.
+//!
+//! Promises: queues that stand for a window's loads and stores tell of it what the definitions find; where they also
+//! track what loads read and which stores are cleared (`Tracks`), the load that they find violated is the one that the
+//! machine finds.
+//!
+//! Clauses: `queues_tell_of_window`.
 #![tactic(auto)]
 
 ghost use Rattle.queue_laws.specs.Laws.{

@@ -1,7 +1,12 @@
-//! Cycles in which nothing happens: they change nothing but the cycle's number, and they repeat until something is due.
+//! Laws: cycles in which nothing happens change nothing but the cycle's number, and they repeat until something is due.
 //!
-//! What that is, and what is due, stands in `specs/Still.antt`; the laws in `specs/Laws.antt` (`docs/machine.md`,
-//! "Cycles in which nothing happens").
+//! Rules: `specs/Still.antt`, what such a cycle is and what is due; `Laws.antt`; `docs/machine.md`, "Cycles in which
+//! nothing happens".
+//!
+//! Promises: an empty cycle changes nothing but its number, and so do those after it. That goes on until an entry
+//! becomes Done, a line comes or the divider becomes free.
+//!
+//! Clauses: `quiet_cycles_repeat`.
 #![tactic(auto)]
 
 ghost use Rattle.quiet_cycles.specs.Laws.{

@@ -1,8 +1,17 @@
-//! The parts of a core refine the window of entries in flight.
+//! Laws: what an entry leaves in the parts of a core (its footprint), when the parts refine the window of entries in
+//! flight, that each step of a cycle keeps that, and what they then tell of the window.
 //!
-//! `specs/Footprint.antt` says what an entry, with the older ones, leaves in the parts; `specs/Refines.antt` when the
-//! parts refine a window: each holds one column of the entries' footprints. `specs/Steps.antt` says that each step of a
-//! cycle keeps that, and `specs/Telling.antt` what the parts then tell.
+//! What holds results back under the defence `hold` is a part of it.
+//!
+//! Rules: `specs/Footprint.antt`, what an entry leaves with the older ones; `InFlight.antt` and `Refines.antt`, the
+//! relation: each part holds one column of the footprints; `Steps.antt`; `Telling.antt`; `Waiters.antt`,
+//! `Stations.antt`, `Roots.antt`, `Writers.antt`, `Points.antt`, what a footprint is made of; `Noted.antt`, what the
+//! queues note of an entry; `docs/architecture.md`, "How the parts refine the window".
+//!
+//! Promises: parts that refine a window tell of it what the definitions find: writers, readiness, taint, visibility,
+//! and of each store whether its address is tainted; each step of a cycle keeps that they refine it.
+//!
+//! Clauses: `parts_tell_of_window`, `steps_keep_refinement`.
 #![tactic(auto)]
 
 ghost use Rattle.refinement.specs.Steps.{

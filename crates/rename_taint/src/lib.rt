@@ -3,7 +3,15 @@
 //!
 //! A table holds the writes of the entries in flight by age (`docs/machine.md`, "Writers and roots"). Loads become
 //! visible in order of age, so of a value's roots the youngest alone tells whether it is tainted. [`ByScan`] searches
-//! the writes; [`ByTable`] answers in constant time. `specs/Writes.antt` says what each call answers and leaves.
+//! the writes; [`ByTable`], which has an undo list, answers in constant time.
+//!
+//! Rules: `specs/Writes.antt`, what each call answers and leaves; `Table.antt`, of the table.
+//!
+//! Promises: what is answered for a register is what its last write says, among the writes that neither retired nor
+//! were dropped.
+//!
+//! Clauses: `RenameTaint` (`new`, `source`, `root`, `write`, `retired`, `cut_back`), `roots_of`, `root_written`,
+//! `later`.
 #![tactic(auto)]
 
 ghost use Rattle.std.specs.Prelude.{◌≡◌, ◌++◌, ◌∷◌, ◌<◌, ℕ, List, [], length, IfOk};

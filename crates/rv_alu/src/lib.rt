@@ -1,7 +1,13 @@
 //! What the operations compute: values, branch tests, the time of a division, and what a load makes of its bytes.
 //!
-//! The rules are those of the RISC-V unprivileged manual, chapters RV32I and M; `docs/instruction-set.md` has them in
-//! one place. The time of a division is this project's own (`docs/machine.md`).
+//! The time of a division is this project's own (`docs/machine.md`, "Issue"); all else is from the RISC-V unprivileged
+//! manual, chapters RV32I and M.
+//!
+//! Rules: `rv_types/specs/Value.antt`; `docs/instruction-set.md`.
+//!
+//! Promises: values, branch tests, the time of a division and the extension of loaded bytes are the formulas.
+//!
+//! Clauses: `value`, `taken`, `div_time`, `extend`.
 #![tactic(auto)]
 
 mod arithmetic;

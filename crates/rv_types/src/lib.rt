@@ -1,8 +1,15 @@
 //! The types of the instruction set RV32IM, and in `specs/` every definition of it: words, values, decoding, kinds,
 //! memory, one step, whole runs, and what a run reads.
 //!
-//! The rules are those of the RISC-V unprivileged manual (chapters RV32I and M); `docs/instruction-set.md` has them in
-//! one place, with the system calls, which are this project's own.
+//! The rules are those of the RISC-V unprivileged manual (chapters RV32I and M); the system calls are this project's
+//! own.
+//!
+//! Rules: `specs/Word.antt`, `Value.antt`, `Causes.antt`, `Decode.antt`, `Regs.antt`, `Kind.antt`, `Memory.antt`,
+//! `Isa.antt`, `Path.antt`; `docs/instruction-set.md`.
+//!
+//! Promises: kinds, sources, destination and width of an instruction are the tables.
+//!
+//! Clauses: `kind_of`, `reads_of`, `writes_of`, `unless_zero`, `width_of`, `Width::bytes`.
 #![tactic(auto)]
 
 ghost use Rattle.std.specs.Prelude.{◌<◌};

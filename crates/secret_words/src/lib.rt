@@ -1,8 +1,13 @@
-//! The words of `stt_secrets D IMAGE --secret ADDRESS:BYTES .. [--public-stream N ..] --cycles N`, read by clap.
+//! The words of `stt_secrets`, read by clap: a run that watches secret bytes, the ranges of those bytes, and the public
+//! streams.
 //!
-//! What words ask for is said in `specs/Words.antt`, over clap's own written definition of what it takes; what a range
-//! is in `specs/Ranges.antt`, and which streams may be public in `specs/Streams.antt`. `docs/formats.md`, "Words of
-//! stt_secrets", has all three in plain words.
+//! Rules: `specs/Words.antt`, what words ask for, over clap's own written definition of what it takes; `Ranges.antt`,
+//! what a range is; `Streams.antt`, which streams may be public; `docs/formats.md`, "Words of stt_secrets".
+//!
+//! Promises: the words of `stt_secrets` are read as clap's written definition says, and each range of secret bytes, and
+//! each public stream, is the one that its text writes.
+//!
+//! Clauses: `read_wanted`.
 #![tactic(auto)]
 
 ghost use Rattle.std.specs.Prelude.{◌≡◌, ◌≢◌, IfOk, IfErr, map, None, Some, [], false};

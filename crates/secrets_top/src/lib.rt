@@ -1,9 +1,16 @@
-//! The top call of `stt_secrets`: all that the program does, over files and sinks that it is handed.
+//! The top call of `stt_secrets`: from words to what is told of a run with marks beside it, a status and a note, over
+//! files and sinks that it is handed.
 //!
 //! `main` of `stt_secrets` hands `secrets_program` its words as they were read, the host's files and its streams;
-//! `secrets_top` does what the words ask for. What both promise stands in `specs/Top.antt` and `Promises.antt`, what is
-//! told of a run in `Verdict.antt`, which ranges are refused in `Ranges.antt`, each status and note in `Refused.antt`,
-//! and in plain words in `docs/theorems.md`; what is read, and how it is refused, in `run_inputs`.
+//! `secrets_top` does what the words ask for. What is read, and how it is refused, stands in `run_inputs`.
+//!
+//! Rules: `specs/Top.antt` and `Promises.antt`, what both promise; `Verdict.antt`, what is told of a run;
+//! `Ranges.antt`, which ranges are refused; `Refused.antt`, each status and note; `docs/theorems.md`, "The program
+//! stt_secrets".
+//!
+//! Promises: `docs/theorems.md`, "The program stt_secrets", "Secrets that are loaded" and "Secrets that are published".
+//!
+//! Clauses: `secrets_top`: `ends`, `statuses`, `promises`, `stays`.
 #![tactic(auto)]
 
 mod performing;

@@ -1,9 +1,15 @@
-//! What shows of marked values in a cycle, as the parts of a core tell it (`docs/theorems.md`, "Secrets that are
-//! loaded"): the call at the head, and the oldest operand that tells an address or the time of a division.
+//! What shows of marked values in a cycle, as the parts of a core tell it: the call at the head, and the oldest operand
+//! that tells an address or the time of a division.
 //!
-//! The rules stand in `secret_marks/specs`, `Shows` and `Shown`, and each function here answers what its definition
-//! there says. The operands are asked on the state that Issue finds, and of the entries alone of which something may
-//! issue.
+//! The operands are asked on the state that Issue finds, and of the entries alone of which something may issue.
+//!
+//! Rules: `secret_marks/specs/Shows.antt` and `Shown.antt`; `specs/State.antt`, what is looked at; `docs/theorems.md`,
+//! "Secrets that are loaded".
+//!
+//! Promises: what `secret_marks` says that shows in a cycle of a marked operand as Issue finds it, and of a call at the
+//! head, computed over the parts of a core: the oldest instruction alone.
+//!
+//! Clauses: `operands_shown`, `head_shown`.
 #![tactic(auto)]
 
 mod base;

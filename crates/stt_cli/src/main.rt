@@ -1,6 +1,12 @@
 //! Wadrelwy's program: a simulator of an out-of-order RV32IM core under Speculative Taint Tracking.
 //!
-//! `main` hands its words, the host's files and the standard streams to `stt_program`, which does all the rest.
+//! Rules: none, since `main` hands its words, the host's files and the standard streams to `stt_program`, which does
+//! all the rest.
+//!
+//! Promises: nothing of its own: `main` hands `stt_program` its words as they were read, the host's files and the
+//! standard streams.
+//!
+//! Clauses: `main`.
 #![tactic(auto)]
 
 use std::process::ExitCode;

@@ -1,7 +1,13 @@
 //! The program that judges by one run whether a secret shows: for every value of the secret bytes, or where first it
 //! does.
 //!
-//! `main` hands its words, the host's files and the standard streams to `secrets_program`, which does all the rest.
+//! Rules: none, since `main` hands its words, the host's files and the standard streams to `secrets_program`, which
+//! does all the rest.
+//!
+//! Promises: nothing of its own: `main` hands `secrets_program` its words as they were read, the host's files and the
+//! standard streams.
+//!
+//! Clauses: `main`.
 #![tactic(auto)]
 
 use secrets_top::secrets_program;

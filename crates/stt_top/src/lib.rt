@@ -1,8 +1,14 @@
-//! The top call: all that the program does, over files and sinks that it is handed.
+//! The top call: each command from words to bytes, a status and a note, over files and sinks that it is handed.
 //!
 //! `main` of `stt_cli` hands `stt_program` its words as they were read, the host's files and its streams; `stt_top`
-//! does what the words ask for. What both promise stands in `specs/Top.antt`, each status in `Outcome.antt`, and in
-//! plain words in `docs/theorems.md`; what is read, and how it is refused, in `run_inputs`.
+//! does what the words ask for. What is read, and how it is refused, stands in `run_inputs`.
+//!
+//! Rules: `specs/Top.antt` and `Promises.antt`, what both promise; `Outcome.antt`, each status; `Work.antt`,
+//! `Running.antt`; `docs/theorems.md`, "The program".
+//!
+//! Promises: `docs/theorems.md`, "The program".
+//!
+//! Clauses: `stt_top`: `ends`, `statuses`, `promises`, `stays`; `traces_agree`, `one_work`.
 #![tactic(auto)]
 
 mod building;

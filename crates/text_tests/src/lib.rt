@@ -1,7 +1,8 @@
 //! Tests of texts and of the streams that take them, as a caller sees them: lines, reports, traces, files, sinks.
 //!
-//! They use public items alone, so they stand above the crates that they test, and cost no more than their own proof
-//! (`docs/working.md`, "Where tests stand").
+//! They use public items alone, so they stand above the crates that they test, and cost no more than their own proof.
+//!
+//! Rules: `docs/working.md`, "Where tests stand".
 #![tactic(auto)]
 
 #[cfg(test)]

@@ -4,7 +4,15 @@
 //! bytes under each name, or that these aren't told; what was written, or that it isn't told; and how often a call has
 //! failed. What the program promises is said in these words (`docs/theorems.md`), and holds over any implementation:
 //! those in memory, which tell all, and those over the host, which tell nothing but their counts and are the trusted
-//! edge. What a call may answer stands in `specs/Outside.antt`.
+//! edge.
+//!
+//! Rules: `specs/Outside.antt`, what a call may answer; `MemoryFiles.antt`, `MemorySink.antt`, `Streams.antt`; laws of
+//! texts that are written in turn in `proofs/Writing.antt`.
+//!
+//! Promises: what a read and a put may answer and leave; in memory, exactly what they do; of a stream of the host, what
+//! a put appends.
+//!
+//! Clauses: `Files`, `Sink`, `MemFiles`, `MemSink`, `NeverFails`, `RealSink`.
 #![tactic(auto)]
 
 ghost use Rattle.std.specs.Prelude.{◌≡◌, List, ℕ};

@@ -1,7 +1,12 @@
 //! The words of the command line, read by clap.
 //!
-//! Which words are a command is said in `specs/Words.antt`, over clap's own written definition of what it takes:
-//! `docs/formats.md`, "Words", has it in plain words.
+//! Rules: `specs/Words.antt`, which words are a command, over clap's own written definition of what it takes;
+//! `docs/formats.md`, "Words".
+//!
+//! Promises: the words are read as clap's written definition says; what clap finds in words by another parser of a
+//! simple command.
+//!
+//! Clauses: `read_words`, `find_by`.
 #![tactic(auto)]
 
 ghost use Rattle.std.specs.Prelude.{◌≡◌, IfOk, map, IfErr, ◌≢◌, None, Some, [], option_map, false};

@@ -1,9 +1,15 @@
 //! Laws of two runs that don't see all of each other's windows: what follows alike in both, whichever outcomes are
 //! hidden.
 //!
-//! `specs/Seen.antt` says what two runs see alike. A crate of laws on two runs (`noninterference` on memories that
-//! agree, `secret_marks` on marks) shows that its own relation implies this, and cites the lemmas
-//! (`docs/architecture.md`, "Laws of two runs").
+//! A crate of laws on two runs (`noninterference` on memories that agree, `secret_marks` on marks) shows that its own
+//! relation implies what two runs see alike, and cites the lemmas.
+//!
+//! Rules: `specs/Seen.antt`, what two runs see alike; `Laws.antt`; `docs/architecture.md`, "Laws of two runs".
+//!
+//! Promises: what two runs see alike of their windows decides what is visible, tainted and known, and who may be
+//! resolved, cleared and issue, in both alike.
+//!
+//! Clauses: `older_entries_are_seen_alike`, `who_goes_is_seen_alike`.
 #![tactic(auto)]
 
 ghost use Rattle.two_runs.specs.Laws.{

@@ -1,7 +1,21 @@
 //! The out-of-order machine: the types of what is in flight and of what happens in a cycle, and in `specs/` every
 //! definition of the machine: its state, writers, taint and visibility, the seven phases, one cycle and whole runs.
 //!
-//! `docs/machine.md` has the rules in one place. The code that runs the machine isn't part of this crate.
+//! The code that runs the machine isn't part of this crate. Here stand what any such code has to be (`Clocked`), what
+//! an entry is and comes to, where one with a serial stands, and general lemmas.
+//!
+//! Rules: `specs/Sets.antt`, `State.antt`, `Order.antt`, `Serials.antt`, `Taint.antt`, `Ready.antt`,
+//! `SecondLevel.antt`, `History.antt`, `Fill.antt`, `Resolve.antt`, `Dependence.antt`, `Clear.antt`, `Retire.antt`,
+//! `Around.antt`, `Access.antt`, `MayIssue.antt`, `Ports.antt`, `Issue.antt`, `Rename.antt`, `Fetch.antt`, `Row.antt`,
+//! `Cycle.antt`, `Path.antt`; `docs/machine.md`.
+//!
+//! Promises: a row is a list of at most 256 events; what an entry is and comes to is what the definitions say of it;
+//! the position of a serial is the number of entries below it. The machine itself is a definition. What a core is that
+//! is this machine: one call leaves the whole state, the row and the piece of output of one cycle, and what retires is
+//! what the instruction set does.
+//!
+//! Clauses: `Row`, `empty_row`, `Entry::is_done` and its other calls, `line_of`, `lines_of`, `position_of`, `Window`,
+//! `Clocked`.
 #![tactic(auto)]
 
 ghost use Rattle.std.specs.Prelude.{◌≡◌, ◌<◌, List, length, slice_get, Some};
