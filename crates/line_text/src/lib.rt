@@ -6,9 +6,9 @@
 //! Rules: `specs/Digits.antt`, how numbers are written; `EndLine.antt`, the last line; `docs/formats.md`, "The last
 //! line".
 //!
-//! Promises: what is written is the text, all of it, or a prefix where a put failed.
+//! Promises: what is written is the last line, all of it, or a prefix where the put failed.
 //!
-//! Clauses: `write_end`, `write_piece`, `write_report`.
+//! Clauses: `write_end`.
 #![tactic(auto)]
 
 mod digits;

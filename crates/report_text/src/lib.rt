@@ -7,7 +7,7 @@
 //!
 //! Promises: what is written is the text, all of it, or a prefix where a put failed.
 //!
-//! Clauses: `write_end`, `write_piece`, `write_report`.
+//! Clauses: `write_piece`, `write_report`.
 #![tactic(auto)]
 
 mod output;

@@ -15,13 +15,11 @@ def load():
     return module
 
 
-def table(heading, *cells):
-    rows = "".join(f"| {cell} | what it does |\n" for cell in cells)
-    return f"# A page\n\n## {heading}\n\n| Crate | What |\n|---|---|\n{rows}\n## The end\n\n| `other` | not of the table |\n"
+PAGE = "# A page\n\n## The parts\n\nA crate.\n\n## The end\n\nNothing.\n"
 
 
 class SmallTree(unittest.TestCase):
-    """A tree of the crates `low` and `high`, whose documents are right until a test changes one."""
+    """A tree whose documents are right until a test changes one."""
 
     def setUp(self):
         self.check = load()
@@ -29,10 +27,8 @@ class SmallTree(unittest.TestCase):
         self.addCleanup(folder.cleanup)
         self.check.TOP = folder.name
         os.mkdir(os.path.join(folder.name, "docs"))
-        self.write("crates.txt", "# NAME: what it stands on\nlow:\nhigh staticlib: low\n")
-        self.write("README.md", table("Crate by crate", "`low`, `high`"))
-        self.write("docs/architecture.md", table("The map", "**A layer**", "`high`", "`low`"))
-        self.write("docs/parts.md", table("The parts", "`low`", "`high`"))
+        for name in ("README.md", "docs/parts.md"):
+            self.write(name, PAGE)
 
     def write(self, name, text):
         with open(os.path.join(self.check.TOP, name), "w", encoding="utf-8") as file:
@@ -40,17 +36,6 @@ class SmallTree(unittest.TestCase):
 
     def test_a_right_tree(self):
         self.assertEqual(self.check.found(), [])
-
-    def test_rows(self):
-        cases = [
-            (("`low`",), ["docs/parts.md, \"The parts\": the crate high is left out"]),
-            (("`low`", "`high`", "`gone`"), ["docs/parts.md, \"The parts\": the crate gone isn't there any more"]),
-            (("`low`", "`high`", "`low`"), ["docs/parts.md, \"The parts\": the crate low stands twice"]),
-        ]
-        for cells, wanted in cases:
-            with self.subTest(cells=cells):
-                self.write("docs/parts.md", table("The parts", *cells))
-                self.assertEqual(self.check.found(), wanted)
 
     def test_names_of_files_and_headings(self):
         cases = [
@@ -60,16 +45,12 @@ class SmallTree(unittest.TestCase):
             ("`docs/parts.md`, \"The part\" has it",
              ["README.md: refers to docs/parts.md, \"The part\", and there is no such heading"]),
             ("## The end", ["README.md: has two headings \"The end\""]),
-            ("a line\n" * 170, ["README.md has 182 lines, more than 170"]),
+            ("a line\n" * 170, ["README.md has 180 lines, more than 170"]),
         ]
         for more, wanted in cases:
             with self.subTest(more=more[:40]):
-                self.write("README.md", table("Crate by crate", "`low`, `high`") + more + "\n")
+                self.write("README.md", PAGE + more + "\n")
                 self.assertEqual(self.check.found(), wanted)
-
-    def test_a_table_that_is_gone(self):
-        self.write("docs/architecture.md", "# A page\n")
-        self.assertEqual(self.check.found(), ["docs/architecture.md: there is no heading \"The map\""])
 
 
 class ThisRepository(unittest.TestCase):
