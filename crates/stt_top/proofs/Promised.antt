@@ -1,4 +1,5 @@
--- A machine's run keeps its promises: by the laws of committed state, progress and noninterference.
+-- A machine's run keeps its promises: by the laws of committed state, progress, noninterference and the constant-time
+-- contract.
 use Rattle.std.proofs.Common.{◌≡◌, ◌≤◌, ℕ, List, Some, None, Result, sym, ap, ◌∙◌, subst}
 use Rattle.rv_types.specs.Memory.{Code}
 use Rattle.rv_types.specs.Isa.{Run, start}
@@ -12,6 +13,7 @@ use Rattle.committed_state.proofs.Run.{run_commits}
 use Rattle.progress.specs.Laws.{Allows}
 use Rattle.progress.proofs.Run.{retires_within_bound, retires_in_budget}
 use Rattle.noninterference.proofs.Runs.{same_trace}
+use Rattle.constant_time.proofs.Delayed.{contract_under_delay}
 use Rattle.report_text.specs.Report.{report_text}
 use Rattle.trace_text.specs.TraceText as text
 use Rattle.tool_io.specs.Outside.{Told, Wrote}
@@ -67,6 +69,8 @@ moves_on d image n allows = record {
 hides : (d : Desc) (image : ImageText) (n : ℕ) (out out' : Told) → Aligned image.code → Wrote (text.trace_text (trace_of d image n)) out out' → Hides d image n out out'
 hides d image n out out' al w = record {
   agreeing = λ protected m agree. subst (λ t. Wrote (text.trace_text t) out out') (sym (same_trace d image.code image.entry image.ram m n protected al agree)) w;
+  leaking = λ protected delayed m agree leaks.
+      subst (λ t. Wrote (text.trace_text t) out out') (sym (contract_under_delay d image.code image.entry image.ram m n protected delayed al agree leaks)) w;
 }
 
 -- a file's image and any other with its entry and code, whose memories agree on what the path loads, have one trace
