@@ -49,7 +49,7 @@ use Rattle.resolve.proofs.Picked.{Taken, picked, inside, taken}
 
 -- ---- which entry is picked
 
-pub picks : (h : Held) (v : Described) (o : Option ℕ) → Whole h → described h ≡ v → HasAdvanced v.point v.machine.window → o ≡ pick_from h.point.serial 0 h.rob.entries (each_roots h.sources.items) → o ≡ resolving v.desc v.machine.window
+pub picks : (h : Held) (v : Described) (o : Option ℕ) → Whole h → described h ≡ v → HasAdvanced v.point v.machine.window → o ≡ pick_from h.desc h.point.serial 0 h.rob.entries (each_roots h.sources.items) → o ≡ resolving v.desc v.machine.window
 picks h v o w s a e =
     let here : HasAdvanced h.point h.rob.entries = subst (λ (v : Described). HasAdvanced v.point v.machine.window) (sym s) a in
     e ∙ picks_first h.desc (in_flight h) w.refines here (ap (λ (s : Sizes). s.model) w.made) ∙ ap (λ (v : Described). resolving v.desc v.machine.window) s
