@@ -1,5 +1,6 @@
 //! What is wrong with a file of cases.
-ghost use Rattle.std.specs.Prelude.{IsErr};
+ghost use Rattle.std.specs.Prelude.{◌≡◌, Err};
+ghost use Rattle.case_files.specs.declared.fault.Fault.TheVariants.{AtLine};
 
 use std::alloc::{AllocError, AllocFailed};
 use thiserror::Error;
@@ -31,8 +32,8 @@ impl<T: Drop> From<AllocFailed<T>> for Fault {
 }
 
 /// The fault of a line.
-pub fn at_line<T>(line: usize, what: &'static str) -> Result<T, Fault>
-    ensures { IsErr result }
+pub(crate) fn at_line<T>(line: usize, what: &'static str) -> Result<T, Fault>
+    ensures { result ≡ Err (AtLine line what.entry) }
 {
     Err(Fault::AtLine { line, what })
 }

@@ -7,10 +7,7 @@ const CODE: u32 = 0x0001_0000;
 /// The address of the first byte of data.
 const DATA: u32 = 0x0001_fff0;
 
-/// The flags of a part that may be read and fetched.
-pub const FETCHED: u32 = 5;
-
-/// The flags of one that may be read and written.
+/// The flags of a part that may be read and written.
 const WRITTEN: u32 = 6;
 
 // Appends words, each with the lowest byte first.
@@ -36,7 +33,7 @@ fn size_of(bytes: usize) -> u32 {
 
 /// The file of this code, whose part has these flags, and of these bytes of data, 16 bytes below the end of the
 /// example's memory, if there are any.
-pub fn file_of(
+pub(crate) fn file_of(
     alloc: Global,
     code: &[u32],
     flags: u32,

@@ -12,18 +12,18 @@
 
 mod contents;
 mod definitions;
-mod draft;
 mod fault;
+mod fields;
 mod file;
 mod image;
 mod lines;
+mod parts;
 mod report;
 mod run;
-mod table;
+mod tables;
 
 pub use contents::CaseFile;
-pub use definitions::Definitions;
 pub use fault::Fault;
 pub use file::{Cases, read_cases, runs_of};
-pub use lines::{Item, Line};
-pub use run::{Failures, Program, Run, Text, TextKind};
+pub use lines::{Item, ItemKind, Line};
+pub use run::{Failures, NOTHING, Program, Run, Text, TextKind};

@@ -1,5 +1,6 @@
 //! The lines of a file of cases, and the items that they make: programs, descriptions and cases.
 use crate::fault::{Fault, at_line};
+use crate::parts::{behind, halves, has};
 use std::alloc::Global;
 
 /// How far the lines of a block are indented.
@@ -22,44 +23,47 @@ pub enum ItemKind {
     Case,
 }
 
-/// A program, a description or a case: its line, its name, and the lines behind it.
-#[derive(Drop)]
+/// A program, a description or a case: its line, its name, and the places of the lines behind it, from the first to
+/// before the last, among those of its file.
+#[derive(Clone, Copy)]
 pub struct Item<'a> {
     pub kind: ItemKind,
     pub line: usize,
     pub name: &'a str,
-    pub lines: Vec<Line<'a>>,
+    pub first: usize,
+    pub end: usize,
 }
 
-// A line that is neither empty nor a comment.
+impl<'a> Item<'a> {
+    /// Its lines among those of its file.
+    pub(crate) fn lines<'b>(&self, lines: &'b [Line<'a>]) -> &'b [Line<'a>] {
+        lines.get(self.first..self.end).unwrap_or(&[])
+    }
+}
+
+// What a line says that is neither empty nor a comment.
 fn line_of<'a>(number: usize, text: &'a str) -> Result<Line<'a>, Fault> {
-    if text.ends_with(' ') || text.contains('\t') {
+    if text.ends_with(' ') || has(text, "\t") {
         return at_line(number, "no line has a tab, or ends with a space");
     }
-    match text.strip_prefix(INDENTATION) {
-        Some(inner) => Ok(Line {
-            number,
-            is_inner: true,
-            text: inner,
-        }),
-        None if text.starts_with(' ') => {
-            at_line(number, "a line is indented by four spaces or more, or not")
-        }
-        None => Ok(Line {
-            number,
-            is_inner: false,
-            text,
-        }),
+    let inner = behind(text, INDENTATION);
+    if inner.is_none() && behind(text, " ").is_some() {
+        return at_line(number, "a line is indented by four spaces or more, or not");
     }
+    Ok(Line {
+        number,
+        is_inner: inner.is_some(),
+        text: inner.unwrap_or(text),
+    })
 }
 
 /// The lines of a text, without those that are empty or a comment.
-pub fn lines_of<'a>(alloc: Global, text: &'a str) -> Result<Vec<Line<'a>>, Fault> {
+pub(crate) fn lines_of<'a>(alloc: Global, text: &'a str) -> Result<Vec<Line<'a>>, Fault> {
     let mut lines = Vec::new(alloc);
     let mut number = 0usize;
     for text in text.lines() {
         number = number.saturating_add(1);
-        if !text.is_empty() && !text.starts_with('#') {
+        if !text.is_empty() && behind(text, "#").is_none() {
             lines.push(line_of(number, text)?)?;
         }
     }
@@ -71,7 +75,7 @@ fn kind_of<'a>(line: Line<'a>) -> Option<(ItemKind, &'a str)> {
     if line.is_inner {
         return None;
     }
-    let (word, name) = line.text.split_once(' ')?;
+    let (word, name) = halves(line.text, " ");
     match word {
         "program" => Some((ItemKind::Program, name)),
         "description" => Some((ItemKind::Description, name)),
@@ -86,42 +90,44 @@ fn is_name(name: &str) -> bool {
         && name.bytes().all(|b| b.is_ascii_lowercase() || b.is_ascii_digit() || b == b'_')
 }
 
-// An item that begins with a line, of a name that no item before has.
-fn begun<'a>(
-    alloc: Global,
-    items: &[Item<'a>],
-    line: usize,
-    kind: ItemKind,
-    name: &'a str,
-) -> Result<Item<'a>, Fault> {
+/// The item of this kind and name, if there is one.
+pub(crate) fn named<'a>(items: &[Item<'a>], kind: ItemKind, name: &str) -> Option<Item<'a>> {
+    items
+        .iter()
+        .find(|i| i.kind == kind && i.name == name)
+        .copied()
+}
+
+// Whether the name may be that of a further item.
+fn may_be_named(items: &[Item<'_>], kind: ItemKind, name: &str, line: usize) -> Result<(), Fault> {
     if !is_name(name) {
         return at_line(line, "a name is of lowercase letters, digits and _");
     }
-    if items.iter().any(|i| i.kind == kind && i.name == name) {
+    if named(items, kind, name).is_some() {
         return at_line(line, "the name is taken");
     }
-    Ok(Item {
-        kind,
-        line,
-        name,
-        lines: Vec::new(alloc),
-    })
+    Ok(())
 }
 
 /// The items of a file's lines, in their order.
-pub fn items_of<'a>(alloc: Global, lines: &[Line<'a>]) -> Result<Vec<Item<'a>>, Fault> {
-    let mut items = Vec::new(alloc);
+pub(crate) fn items_of<'a>(alloc: Global, lines: &[Line<'a>]) -> Result<Vec<Item<'a>>, Fault> {
+    let mut items: Vec<Item<'a>> = Vec::new(alloc);
+    let mut first = 0usize;
     for line in lines {
+        first = first.saturating_add(1);
         if let Some((kind, name)) = kind_of(*line) {
-            let item = begun(alloc, items.as_slice(), line.number, kind, name)?;
-            items.push(item)?;
+            may_be_named(items.as_slice(), kind, name, line.number)?;
+            items.push(Item {
+                kind,
+                line: line.number,
+                name,
+                first,
+                end: first,
+            })?;
         } else if let Some(last) = items.last_mut() {
-            last.lines.push(*line)?;
+            last.end = first;
         } else {
-            return at_line(
-                line.number,
-                "a program, a description or a case comes first",
-            );
+            return at_line(line.number, "an item comes first, as `case NAME`");
         }
     }
     Ok(items)

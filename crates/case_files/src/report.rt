@@ -1,57 +1,52 @@
 //! Reports, of which a case leaves out the registers that are 0.
 use crate::fault::{Fault, at_line};
-use std::alloc::Global;
+use crate::parts::{behind, halves};
+use std::alloc::{AllocError, Global};
 
-// The lines of a text that begin so.
-fn add_lines(to: &mut String, text: &str, beginning: &str) -> Result<(), Fault> {
-    for line in text.lines() {
-        if line.starts_with(beginning) {
-            to.push_str(line)?;
-            to.push_str("\n")?;
-        }
+/// How many registers there are.
+const REGISTERS: u32 = 32;
+
+// Appends the lines of the registers from one on to before another, which are 0.
+fn add_zeros(alloc: Global, to: &mut String, from: u32, end: u32) -> Result<(), AllocError> {
+    for number in from..end {
+        let line = format!(in alloc; "x{number} 00000000\n")?;
+        to.push_str(line.as_str())?;
     }
     Ok(())
 }
 
-// The line of a register: that of the text, or of 0.
-fn add_register(alloc: Global, to: &mut String, text: &str, number: u32) -> Result<bool, Fault> {
-    let name = format!(in alloc; "x{number} ")?;
-    match text.lines().find(|l| l.starts_with(name.as_str())) {
-        Some(line) => {
-            to.push_str(line)?;
-            to.push_str("\n")?;
-            Ok(true)
-        }
-        None => {
-            to.push_str(name.as_str())?;
-            to.push_str("00000000\n")?;
-            Ok(false)
+// Before the line of which register, counted from 0, a line stands, and before which the next one does then: output
+// before that of the first, a register's before its own, and all others behind the last.
+fn place_of(line: &str, next: u32) -> Option<(u32, u32)> {
+    let word = halves(line, " ").0;
+    match word {
+        "out" if next == 0 => Some((0, 0)),
+        "pc" | "mem" | "end" => Some((REGISTERS, REGISTERS)),
+        _ => {
+            let number = behind(word, "x")?.parse::<u32>().ok()?;
+            if number < next || number >= REGISTERS {
+                return None;
+            }
+            Some((number, number.saturating_add(1)))
         }
     }
 }
 
-// The lines of all registers, and how many of them the text has.
-fn add_registers(alloc: Global, to: &mut String, text: &str) -> Result<usize, Fault> {
-    let mut had = 0usize;
-    for number in 0..32u32 {
-        if add_register(alloc, to, text, number)? {
-            had = had.saturating_add(1);
-        }
-    }
-    Ok(had)
-}
-
-/// The whole report: output first, then all registers, pc, the rows of memory and the end.
-pub fn whole_report(alloc: Global, text: &str, line: usize) -> Result<String, Fault> {
+/// The whole report, with the lines of all registers.
+pub(crate) fn whole_report(alloc: Global, text: &str, line: usize) -> Result<String, Fault> {
     let mut whole = String::new(alloc);
-    add_lines(&mut whole, text, "out ")?;
-    let had = add_registers(alloc, &mut whole, text)?;
-    add_lines(&mut whole, text, "pc ")?;
-    add_lines(&mut whole, text, "mem ")?;
-    add_lines(&mut whole, text, "end ")?;
-    let left_out = 32usize.saturating_sub(had);
-    if whole.as_str().lines().count() != text.lines().count().saturating_add(left_out) {
-        return at_line(line, "a report has other lines, or one of them twice");
+    let mut next = 0u32;
+    for said in text.lines() {
+        let Some((before, then)) = place_of(said, next) else {
+            return at_line(line, "a report has other lines, or in another order");
+        };
+        add_zeros(alloc, &mut whole, next, before)?;
+        next = then;
+        whole.push_str(said)?;
+        whole.push_str("\n")?;
+    }
+    if next < REGISTERS {
+        return at_line(line, "a report has a line behind its registers");
     }
     Ok(whole)
 }

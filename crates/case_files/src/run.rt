@@ -1,5 +1,6 @@
 //! A run that a case asks for, and how it has to end.
 use crate::contents::CaseFile;
+use std::alloc::Global;
 
 /// The programs.
 #[derive(Clone, Copy, Debug, PartialEq, Eq)]
@@ -23,6 +24,15 @@ pub struct Failures {
     pub noted: usize,
 }
 
+/// No read and no put fails.
+pub const NOTHING: Failures = Failures {
+    read: 0,
+    put: 0,
+    sent: 0,
+    note: 0,
+    noted: 0,
+};
+
 /// How a text is compared with what a run writes.
 #[derive(Clone, Copy, Debug, PartialEq, Eq)]
 pub enum TextKind {
@@ -32,13 +42,13 @@ pub enum TextKind {
     Cut,
     /// The text ends with it.
     Ends,
-    /// Its lines stand in the text, in their order.
+    /// The text has each of these lines, in their order.
     Lines,
     /// It is a report without the registers that are 0.
     Report,
-    /// It is words of the simulator, whose run on the same files writes the same text; or the same but for the number
-    /// of cycles.
+    /// It is words of the simulator, whose run on the same files writes the same text.
     Same,
+    /// It is such words, and the text is the same but for the number of cycles at its end.
     SameButCycles,
 }
 
@@ -53,7 +63,8 @@ pub struct Text {
 #[derive(Drop)]
 pub struct Run {
     pub program: Program,
-    pub words: Vec<String>,
+    /// The words of the command, one space apart; `""` stands for the empty one.
+    pub words: String,
     pub files: Vec<CaseFile>,
     pub failures: Failures,
     /// Whether each put of the output is to fail in turn, too.
@@ -64,4 +75,21 @@ pub struct Run {
     pub note: String,
     /// What is wanted of the text; it is empty where nothing is.
     pub texts: Vec<Text>,
+}
+
+impl Run {
+    /// A run of which nothing is known.
+    pub(crate) fn new(alloc: Global) -> Run {
+        Run {
+            program: Program::Simulator,
+            words: String::new(alloc),
+            files: Vec::new(alloc),
+            failures: NOTHING,
+            each_put: false,
+            silent: false,
+            status: 0,
+            note: String::new(alloc),
+            texts: Vec::new(alloc),
+        }
+    }
 }

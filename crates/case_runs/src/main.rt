@@ -1,15 +1,9 @@
 //! The program that makes the runs of cases, of both programs over files and sinks in memory, and tells of each case
 //! whether its runs went as it says.
 //!
-//! Its words are the names of the files. It writes a line a case, a line for each run that differs, and last how many
-//! cases, runs and differences there were. Status: 0 nothing differs, 1 something does, 2 a file can't be read as
-//! cases, which the last line tells with the file and its line.
-//!
-//! Rules: `docs/cases.md`.
-//!
-//! Promises: none: it makes the runs that cases ask for, and the gate compares what it tells.
-//!
-//! Clauses: `main`.
+//! The words of this program are the names of the files. It writes a line a case, a line for each run that differs, and
+//! last how many cases, runs and differences there were. Status: 0 nothing differs, 1 something does, 2 a file can't be
+//! read as cases, which the last line tells with the file and its line.
 #![tactic(auto)]
 
 mod comparing;
@@ -17,7 +11,7 @@ mod running;
 mod trying;
 
 use crate::trying::try_run;
-use case_files::{Cases, Fault, Item, Run, read_cases, runs_of};
+use case_files::{Fault, Run, read_cases, runs_of};
 use rv_types::NoMemory;
 use std::alloc::Global;
 use std::process::ExitCode;
@@ -94,9 +88,9 @@ fn go_cases(
     text: &str,
     counts: &mut Counts,
 ) -> Result<(), Stopped> {
-    let Cases { definitions, cases } = read_cases(alloc, text)?;
-    for case in &cases {
-        let runs = runs_of(alloc, &definitions, case)?;
+    let cases = read_cases(alloc, text)?;
+    for case in &cases.cases {
+        let runs = runs_of(alloc, &cases, case)?;
         go_case(rt, alloc, case.name, runs.as_slice(), counts)?;
     }
     Ok(())

@@ -11,10 +11,10 @@ const ROOM: usize = 65_536;
 
 /// What a run of a program left.
 #[derive(Drop)]
-pub struct Left {
-    pub status: u8,
-    pub out: MemSink,
-    pub note: MemSink,
+pub(crate) struct Left {
+    pub(crate) status: u8,
+    pub(crate) out: MemSink,
+    pub(crate) note: MemSink,
 }
 
 // The files of a case, with the number of a read that is to fail.
@@ -41,7 +41,7 @@ fn sink_of(alloc: Global, call: u64, sent: usize) -> Result<MemSink, NoMemory> {
 }
 
 /// Runs a program on these words and files, with what is to fail. The one error is want of memory to begin it.
-pub fn run(
+pub(crate) fn run(
     alloc: Global,
     program: Program,
     words: &[&str],

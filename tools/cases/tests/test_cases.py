@@ -57,6 +57,11 @@ FAULTS = [
     ("a text without a line", GOOD[GOOD.index("    x2"):], "", 7),
     ("a register twice", "    x17 0000005d", "    x2 0010fff0", 7),
     ("a line of no report", "    x17 0000005d", "    x32 0000005d", 7),
+    ("registers in another order", "    x2 0010fff0\n    x17 0000005d", "    x17 0000005d\n    x2 0010fff0", 7),
+    ("a report of registers alone", "    pc 00010008\n    end exit 0 retired 2\n", "", 7),
+    ("puts that fail of no text", GOOD[GOOD.index("report"):], "each put fails\n", 14),
+    ("puts that fail of a text's end", "report", "each put fails\nout ends", 14),
+    ("puts that fail of two texts", "report", "each put fails\nout has\n    pc 00010008\nreport", 14),
     ("a line of no block", "status 0\n", "status 0\n    0\n", 14),
     ("a field that there isn't", "status 0", "state 0", 13),
     ("a change of what isn't there", "stt_cli", "d.toml description example\nd.toml change robs => rob\nstt_cli", 13),
@@ -67,7 +72,11 @@ FAULTS = [
 ]
 # what differs, and what is told of it
 DIFFERENCES = [
-    ("x17 0000005d", "x17 0000005c", "line 18 is another"),
+    ("x17 0000005d", "x17 0000005c", "the output differs, line 18: wanted `x17 0000005c`, got `x17 0000005d`"),
+    ("    end exit", "    mem 00010000 00\n    end exit", "line 34: wanted `mem 00010000 00`, got `end exit 0 retired 2`"),
+    ("retired 2\n", "retired 2\n    end more\n", "line 35: wanted `end more`, got no line"),
+    (GOOD[GOOD.index("report"):], "out ends\n    pc 00010009\n    end exit 0 retired 2\n", "line 33: wanted `pc 00010009`, got `pc 00010008`"),
+    (GOOD[GOOD.index("report"):], "out has\n    pc 00010008\n    x2 0010fff0\n", "none of its further lines is `x2 0010fff0`"),
     ("status 0", "status 1", "the status is 0, wanted 1"),
     ("status 0", "status 0\nnote words", "the note is ``, wanted `words\n`"),
 ]
