@@ -52,9 +52,9 @@ abbrev late_address_code : List ℕ
 late_address_code = 0x020002b3 ∷ 0x002282b3 ∷ 0x0022a023 ∷ 0x00012303 ∷ 0x05d00893 ∷ 0x00000073 ∷ []
 
 -- The bounds check that is passed over by prediction: the load of the secret (3) is ready in cycle 4, but isn't visible
--- before the branch (2) is resolved in cycle 17, which drops it. So nothing behind it has an operand, and the first load
--- (0), the oldest of all, is the only access. Under the model `futuristic` the branch is the first entry, too, that
--- isn't safe once the first load and the multiplication have retired, so the rows are the same.
+-- before the branch (2) is resolved in cycle 17, which drops it. So nothing behind it has an operand, and the first
+-- load (0), the oldest of all, is the only access. Under the model `futuristic` the branch is the first entry, too,
+-- that isn't safe once the first load and the multiplication have retired, so the rows are the same.
 bypass_delayed_rows : List Row
 bypass_delayed_rows =
     row 1 (Fet 0x00010000 ∷ Fet 0x00010004 ∷ []) ∷
@@ -86,8 +86,8 @@ unfolding decode cycle retire rename fetch count_leading_zeros row quiet memory 
 bypass_delayed_futuristic = refl
 
 -- Nothing is tainted here. Behind the branch (2), which waits for a miss and a multiplication, a load (3), a division
--- (4) and a store's address (5) are ready in cycles 4, 5 and 5, and issue in 17, once it is resolved. Another branch (6)
--- is executed in 6, and resolved in 18, since one is a cycle. What shows no operand doesn't wait: the store's data
+-- (4) and a store's address (5) are ready in cycles 4, 5 and 5, and issue in 17, once it is resolved. Another branch
+-- (6) is executed in 6, and resolved in 18, since one is a cycle. What shows no operand doesn't wait: the store's data
 -- issues in 5, the multiplication (7) in 6 and the addition (8) in 7.
 each_kind_delayed_rows : List Row
 each_kind_delayed_rows =
@@ -204,8 +204,8 @@ loads_visible : trace delaying (code_of loads_alone_code) 0x10000 (memory 0 0) 1
 unfolding decode cycle retire rename fetch count_leading_zeros row quiet memory code_of loads_visible_rows
 loads_visible = refl
 
--- Under the model `futuristic` a load waits for the loads before it, too: the last one (3) issues in 24, in the cycle in
--- which the one before it (2) is Done.
+-- Under the model `futuristic` a load waits for the loads before it, too: the last one (3) issues in 24, in the cycle
+-- in which the one before it (2) is Done.
 loads_in_order_rows : List Row
 loads_in_order_rows =
     row 1 (Fet 0x00010000 ∷ Fet 0x00010004 ∷ []) ∷
@@ -229,9 +229,10 @@ loads_in_order : trace delaying_futuristic (code_of loads_alone_code) 0x10000 (m
 unfolding decode cycle retire rename fetch count_leading_zeros row quiet memory code_of loads_in_order_rows
 loads_in_order = refl
 
--- With bits of dependence a load passes no store, though its bit isn't set: until the store (2) is cleared in cycle 8 the
--- load (3) isn't visible, under either model. So the store violates none, and the load goes in 8, behind its clearing.
--- The store's data doesn't wait, and its address is known in 8: that of the multiplication (0) and the addition (1).
+-- With bits of dependence a load passes no store, though its bit isn't set: until the store (2) is cleared in cycle 8
+-- the load (3) isn't visible, under either model. So the store violates none, and the load goes in 8, behind its
+-- clearing. The store's data doesn't wait, and its address is known in 8: that of the multiplication (0) and the
+-- addition (1).
 no_load_passes_rows : List Row
 no_load_passes_rows =
     row 1 (Fet 0x00010000 ∷ Fet 0x00010004 ∷ []) ∷
