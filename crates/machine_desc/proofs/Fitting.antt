@@ -19,4 +19,4 @@ pub fits_from_test : (values : Values) (n : ℕ) → PassesAs values n → Fits 
 fits_from_test (Numbers least most shape) n h = (h.0, h.1, shape_from_test shape n h.2)
 fits_from_test (Optional least most shape) n h = (h.0, h.1, shape_from_test shape n h.2)
 fits_from_test (Models off) n h = tt
-fits_from_test (Defences hold) n h = tt
+fits_from_test (Defences every) n h = tt

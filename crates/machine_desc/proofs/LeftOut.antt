@@ -59,7 +59,7 @@ by_table : (some_key 1 keys Ram (codes "misaligned") ≡ false) × (some_key 2 k
     × (some_key 2 keys Cache (codes "misaligned") ≡ false) × (some_key 1 keys Cache (codes "sets") ≡ true)
 by_table = (refl, refl, refl, refl)
 
--- ---- nor does version 1 know the third model and the second defence
+-- ---- nor does version 1 know the third model, or a defence by name
 
 -- the fault of a text as a key's value in a version
 abbrev named : ℕ → Key → List ℕ → Option DescFault
@@ -69,11 +69,11 @@ third_model : (named 1 ModelKey (codes "off") ≡ Some (Kind (OfKey ModelKey))) 
     × (named 1 ModelKey (codes "futuristic") ≡ None) × (named 2 ModelKey (codes "none") ≡ Some (Kind (OfKey ModelKey)))
 third_model = (refl, refl, refl, refl)
 
-second_defence : (some_key 1 keys Stt (codes "defence") ≡ false) × (some_key 2 keys Stt (codes "defence") ≡ true)
-    × (named 2 DefenceKey (codes "stt") ≡ None) × (named 2 DefenceKey (codes "hold") ≡ None)
+defences : (some_key 1 keys Stt (codes "defence") ≡ false) × (some_key 2 keys Stt (codes "defence") ≡ true)
+    × (named 2 DefenceKey (codes "stt") ≡ None) × (named 2 DefenceKey (codes "hold") ≡ None) × (named 2 DefenceKey (codes "delay") ≡ None)
     × (named 2 DefenceKey (codes "off") ≡ Some (Kind (OfKey DefenceKey))) × (key_fault 2 no_members DefenceKey ≡ None)
 unfolding key_fault
-second_defence = (refl, refl, refl, refl, refl, refl)
+defences = (refl, refl, refl, refl, refl, refl, refl)
 
 -- ---- left out they have no fault, and in both versions the least of their numbers
 

@@ -9,11 +9,11 @@ use Rattle.machine_desc.specs.declared.Defence.{Defence}
 use Rattle.machine_desc.specs.declared.Defence.TheVariants.{Stt, Hold, Delay}
 use Rattle.machine_desc.specs.declared.keys.Key.TheVariants.{SttModel as ModelKey, SttDefence as DefenceKey}
 use Rattle.machine_desc.specs.declared.fault.DescFault.{DescFault}
-use Rattle.machine_desc.specs.Version.{IsKnown, knows_off, knows_hold, knows_model, knows_defence}
+use Rattle.machine_desc.specs.Version.{IsKnown, knows_off, knows_defences, knows_model, knows_defence}
 use Rattle.machine_desc.specs.Table.{is_known}
 use Rattle.machine_desc.specs.Description.{model_in, defence_in, value_at}
 use Rattle.machine_desc.specs.inner.Description.{model, defence}
-use Rattle.machine_desc.proofs.Versions.{hold_if_known}
+use Rattle.machine_desc.proofs.Versions.{defences_if_known}
 
 -- the model of a name, whichever names are known
 named : (m : SttModel) (a b c off : Bool) (e : DescFault)
@@ -35,26 +35,26 @@ pub model_known : (v : ℕ) (document : Members) (m : SttModel) → model v docu
 model_known v document m q = model_by v (value_at document ModelKey) m q
 
 -- the defence of a name
-named_defence : (t : Defence) (a b c hold : Bool) (e : DescFault)
-    → (if a then Ok Stt else if hold && b then Ok Hold else if hold && c then Ok Delay else Err e) ≡ Ok t → (v : ℕ) → knows_hold v ≡ hold → IsTrue (knows_defence v t)
-named_defence Stt a b c hold e q v k = refl
-named_defence t a b c true e q v k = every t v k
+named_defence : (t : Defence) (a b c every : Bool) (e : DescFault)
+    → (if a then Ok Stt else if every && b then Ok Hold else if every && c then Ok Delay else Err e) ≡ Ok t → (v : ℕ) → knows_defences v ≡ every → IsTrue (knows_defence v t)
+named_defence Stt a b c every e q v k = refl
+named_defence t a b c true e q v k = each t v k
   where
-    every : (t : Defence) (v : ℕ) → knows_hold v ≡ true → IsTrue (knows_defence v t)
-    every Stt v k = refl
-    every Hold v k = k
-    every Delay v k = k
+    each : (t : Defence) (v : ℕ) → knows_defences v ≡ true → IsTrue (knows_defence v t)
+    each Stt v k = refl
+    each Hold v k = k
+    each Delay v k = k
 named_defence Hold true b c false e q v k = absurd (cc)
 named_defence Hold false b c false e q v k = absurd (cc)
 named_defence Delay true b c false e q v k = absurd (cc)
 named_defence Delay false b c false e q v k = absurd (cc)
 
-defence_by : (v : ℕ) (hold : Bool) (o : Option Data) (t : Defence) → knows_hold v ≡ hold → defence_in DefenceKey hold o ≡ Ok t → IsTrue (knows_defence v t)
-defence_by v hold None Stt k q = refl
-defence_by v hold None Hold k q = absurd (cc)
-defence_by v hold None Delay k q = absurd (cc)
-defence_by v hold (Some (string text)) t k q = named_defence t (bytes_eq text (codes "stt")) (bytes_eq text (codes "hold")) (bytes_eq text (codes "delay")) hold _ q v k
-defence_by v hold (Some _) t k q = absurd (cc)
+defence_by : (v : ℕ) (every : Bool) (o : Option Data) (t : Defence) → knows_defences v ≡ every → defence_in DefenceKey every o ≡ Ok t → IsTrue (knows_defence v t)
+defence_by v every None Stt k q = refl
+defence_by v every None Hold k q = absurd (cc)
+defence_by v every None Delay k q = absurd (cc)
+defence_by v every (Some (string text)) t k q = named_defence t (bytes_eq text (codes "stt")) (bytes_eq text (codes "hold")) (bytes_eq text (codes "delay")) every _ q v k
+defence_by v every (Some _) t k q = absurd (cc)
 
 pub defence_known : (v : ℕ) → IsKnown v → (document : Members) (t : Defence) → defence v document ≡ Ok t → IsTrue (knows_defence v t)
-defence_known v known document t q = defence_by v (is_known v DefenceKey) (value_at document DefenceKey) t (hold_if_known v known) q
+defence_known v known document t q = defence_by v (is_known v DefenceKey) (value_at document DefenceKey) t (defences_if_known v known) q

@@ -62,7 +62,7 @@ by_values : (known : Bool) (values : Values) → IsTrue (has_least values) → L
 by_values known (Numbers least most shape) h = tt
 by_values known (Optional least most shape) h = by_range least most known _ _ shape refl refl h
 by_values known (Models off) h = tt
-by_values known (Defences hold) h = tt
+by_values known (Defences every) h = tt
 
 each_has_least : (version : ℕ) (key : Key) → IsTrue (has_least (row version key).values)
 each_has_least v CoreFetchWidth = refl
@@ -96,7 +96,7 @@ value_found key (Optional least most shape) v g e w =
     let f = optional_found key least most shape v g (no_fault OneNumber _ e) in
     record { value = f.value; is = f.is; set = ap (set_to OneNumber) f.is; passes = f.passes }
 value_found key (Models off) v g e w = absurd (cc)
-value_found key (Defences hold) v g e w = absurd (cc)
+value_found key (Defences every) v g e w = absurd (cc)
 
 -- the number of an answer, or none
 abbrev pub number_or_none : Result ℕ DescFault → ℕ
@@ -128,7 +128,7 @@ value_fits key (Optional least most shape) v g e =
     let f = value_found key (Optional least most shape) v g e refl in
     subst (λ (r : Result ℕ DescFault). Fits (Optional least most shape) (number_or_none r)) (sym f.is) (fits_from_test (Optional least most shape) f.value f.passes)
 value_fits key (Models off) v g e = tt
-value_fits key (Defences hold) v g e = tt
+value_fits key (Defences every) v g e = tt
 
 -- the number of a key without fault is one of the key's values
 pub may_be : (v : ℕ) (document : Members) (key : Key) → key_fault v document key ≡ None → MayBe v key (number_at v document key)

@@ -36,7 +36,7 @@ abbrev pub passes : Values → ℕ → Bool
 passes (Numbers least most shape) n = nat_le least n && nat_le n most && has_shape shape n
 passes (Optional least most shape) n = nat_le least n && nat_le n most && has_shape shape n
 passes (Models off) n = true
-passes (Defences hold) n = true
+passes (Defences every) n = true
 
 in_range : (least most n : ℕ) (shape : Shape) → IsTrue (nat_le least n && nat_le n most && has_shape shape n) → PassesAs (Numbers least most shape) n
 in_range least most n shape h =
@@ -48,7 +48,7 @@ passes_as : (values : Values) (n : ℕ) → IsTrue (passes values n) → PassesA
 passes_as (Numbers least most shape) n h = in_range least most n shape h
 passes_as (Optional least most shape) n h = in_range least most n shape h
 passes_as (Models off) n h = tt
-passes_as (Defences hold) n h = tt
+passes_as (Defences every) n h = tt
 
 -- what the rules on several keys ask, as tests
 abbrev rules : ℕ → (Key → ℕ) → SttModel → Defence → List Bool

@@ -8,7 +8,7 @@ use Rattle.machine_desc.specs.declared.keys.Key.TheVariants.{CoreRob, CoreStatio
 use Rattle.machine_desc.specs.declared.fault.DescFault.{DescFault}
 use Rattle.machine_desc.specs.declared.fault.DescFault.TheVariants.{Kind, Version, Range}
 use Rattle.machine_desc.specs.declared.fault.Subject.TheVariants.{Version as OfVersion}
-use Rattle.machine_desc.specs.Version.{newest, IsKnown, knows_hold}
+use Rattle.machine_desc.specs.Version.{newest, IsKnown, knows_defences}
 use Rattle.machine_desc.specs.Table.{values_of, version_name}
 use Rattle.machine_desc.specs.Description.{version_in, version, fault_of, setting_in}
 
@@ -41,8 +41,8 @@ in_each P v k one two = by_version (one_or_two v k)
     by_version (inl e) = subst P (sym e) one
     by_version (inr e) = subst P (sym e) two
 
-pub hold_if_known : (v : ℕ) → IsKnown v → knows_hold v ≡ nat_le 2 v
-hold_if_known v k = in_each (λ x. knows_hold x ≡ nat_le 2 x) v k refl refl
+pub defences_if_known : (v : ℕ) → IsKnown v → knows_defences v ≡ nat_le 2 v
+defences_if_known v k = in_each (λ x. knows_defences x ≡ nat_le 2 x) v k refl refl
 
 -- ---- versions: without a value it is 1; 1 and 2 are known; no other number is, and nothing else is a version
 

@@ -25,7 +25,7 @@ abbrev pub Fits : Values → ℕ → Type 0
 Fits (Numbers least most shape) n = (least ≤ n) × (n ≤ most) × HasShape shape n
 Fits (Optional least most shape) n = (least ≤ n) × (n ≤ most) × HasShape shape n
 Fits (Models off) n = Unit {0}
-Fits (Defences hold) n = Unit {0}
+Fits (Defences every) n = Unit {0}
 
 -- a number is one of those that the table of keys gives its key in a version
 abbrev pub MayBe : ℕ → Key → ℕ → Type 0

@@ -11,21 +11,21 @@ abbrev pub PassesAs : Values → ℕ → Type 0
 PassesAs (Numbers least most shape) n = (least ≤ n) × (n ≤ most) × IsTrue (has_shape shape n)
 PassesAs (Optional least most shape) n = (least ≤ n) × (n ≤ most) × IsTrue (has_shape shape n)
 PassesAs (Models off) n = Unit {0}
-PassesAs (Defences hold) n = Unit {0}
+PassesAs (Defences every) n = Unit {0}
 
 -- a key that may have these is one of numbers
 abbrev pub has_numbers : Values → Bool
 has_numbers (Numbers least most shape) = true
 has_numbers (Optional least most shape) = true
 has_numbers (Models off) = false
-has_numbers (Defences hold) = false
+has_numbers (Defences every) = false
 
 -- the least of the numbers of a key, which one that may be left out then has; a key of names has none
 abbrev pub least_of : Values → ℕ
 least_of (Numbers least most shape) = least
 least_of (Optional least most shape) = least
 least_of (Models off) = 0
-least_of (Defences hold) = 0
+least_of (Defences every) = 0
 
 -- in this version no key has a fault, and none of the tests on several numbers finds one
 pub record IsClean (version : ℕ) (document : Members) : Type 0 where

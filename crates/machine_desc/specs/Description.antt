@@ -116,19 +116,19 @@ model_in key off None = Err (Missing key)
 model_in key off (Some (string text)) = model_named key off text
 model_in key off (Some other) = Err (Kind (OfKey key))
 
--- the defence of a name; whether the second is one depends on the version
+-- the defence of a name: `stt` in every version; whether the others may be named depends on the version
 abbrev pub defence_named : Key → Bool → List ℕ → Result Defence DescFault
-defence_named key hold text =
+defence_named key every text =
     if bytes_eq text (codes "stt") then Ok SttDefence
-    else if hold && bytes_eq text (codes "hold") then Ok Hold
-    else if hold && bytes_eq text (codes "delay") then Ok Delay
+    else if every && bytes_eq text (codes "hold") then Ok Hold
+    else if every && bytes_eq text (codes "delay") then Ok Delay
     else Err (Kind (OfKey key))
 
 -- the defence of a key that may be left out: `stt` then, else a text that names one
 abbrev pub defence_in : Key → Bool → Option Data → Result Defence DescFault
-defence_in key hold None = Ok SttDefence
-defence_in key hold (Some (string text)) = defence_named key hold text
-defence_in key hold (Some other) = Err (Kind (OfKey key))
+defence_in key every None = Ok SttDefence
+defence_in key every (Some (string text)) = defence_named key every text
+defence_in key every (Some other) = Err (Kind (OfKey key))
 
 -- what a key is set to: a number, a model or a defence
 pub data Setting : Type 0 where
@@ -146,7 +146,7 @@ abbrev pub setting_in : Key → Values → Option Data → Result Setting DescFa
 setting_in key (Numbers least most shape) value = set_to OneNumber (number_in key least most shape value)
 setting_in key (Optional least most shape) value = set_to OneNumber (number_or_least key least most shape value)
 setting_in key (Models off) value = set_to OneModel (model_in key off value)
-setting_in key (Defences hold) value = set_to OneDefence (defence_in key hold value)
+setting_in key (Defences every) value = set_to OneDefence (defence_in key every value)
 
 -- what a document of a version sets a key to
 abbrev pub setting : ℕ → Members → Key → Result Setting DescFault
@@ -170,7 +170,7 @@ abbrev pub number_of : Key → Values → Option Data → Result ℕ DescFault
 number_of key (Numbers least most shape) value = number_in key least most shape value
 number_of key (Optional least most shape) value = number_or_least key least most shape value
 number_of key (Models off) value = Err (Kind (OfKey key))
-number_of key (Defences hold) value = Err (Kind (OfKey key))
+number_of key (Defences every) value = Err (Kind (OfKey key))
 
 -- the number of a key
 abbrev pub number : ℕ → Members → Key → Result ℕ DescFault

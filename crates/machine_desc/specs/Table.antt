@@ -100,7 +100,7 @@ is_known version key = nat_le (since_of key) version
 -- a key that isn't known has the value alone that it has where it is left out: its least, or the first defence
 abbrev pub where_known : Bool → Values → Values
 where_known known (Optional least most shape) = Optional least (if known then most else least) shape
-where_known known (Defences hold) = Defences (hold && known)
+where_known known (Defences every) = Defences (every && known)
 where_known known values = values
 
 -- the values that a key may have in a version

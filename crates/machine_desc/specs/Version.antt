@@ -21,9 +21,9 @@ most in_1 in_2 version = if version == 1 then in_1 else in_2
 abbrev pub knows_off : ℕ → Bool
 knows_off version = not (version == 1)
 
--- whether the defences `hold` and `delay` may be: in each but the first
-abbrev pub knows_hold : ℕ → Bool
-knows_hold version = not (version == 1)
+-- whether the defences `hold` and `delay` may be named in a version: in each but the first
+abbrev pub knows_defences : ℕ → Bool
+knows_defences version = not (version == 1)
 
 -- the version knows the model
 abbrev pub knows_model : ℕ → SttModel → Bool
@@ -32,8 +32,8 @@ knows_model version _ = true
 
 -- the version knows the defence
 abbrev pub knows_defence : ℕ → Defence → Bool
-knows_defence version Hold = knows_hold version
-knows_defence version Delay = knows_hold version
+knows_defence version Hold = knows_defences version
+knows_defence version Delay = knows_defences version
 knows_defence version _ = true
 
 -- where there is a second level, a line of it comes later than a hit and sooner than from memory

@@ -165,26 +165,26 @@ pub(crate) fn model_in(key: Key, off: bool, value: Option<&Value>) -> Result<Stt
 }
 
 // The defence of this name.
-fn defence_named(key: Key, hold: bool, text: &str) -> Result<Defence, DescFault>
-    ensures { result ≡ defence_named key hold text.now }
+fn defence_named(key: Key, every: bool, text: &str) -> Result<Defence, DescFault>
+    ensures { result ≡ defence_named key every text.now }
 {
     match text {
         "stt" => Ok(Defence::Stt),
-        "hold" if hold => Ok(Defence::Hold),
-        "delay" if hold => Ok(Defence::Delay),
+        "hold" if every => Ok(Defence::Hold),
+        "delay" if every => Ok(Defence::Delay),
         _ => Err(DescFault::Kind(Subject::Key(key))),
     }
 }
 
 // The defence that a key names, which may be left out.
-pub(crate) fn defence_in(key: Key, hold: bool, value: Option<&Value>) -> Result<Defence, DescFault>
-    ensures { result ≡ defence_in key hold (option_map (λ v. view v.now) value.entry) }
+pub(crate) fn defence_in(key: Key, every: bool, value: Option<&Value>) -> Result<Defence, DescFault>
+    ensures { result ≡ defence_in key every (option_map (λ v. view v.now) value.entry) }
 {
     match value {
         None => Ok(Defence::Stt),
         Some(value) => match value.as_str() {
             None => Err(DescFault::Kind(Subject::Key(key))),
-            Some(text) => defence_named(key, hold, text),
+            Some(text) => defence_named(key, every, text),
         },
     }
 }

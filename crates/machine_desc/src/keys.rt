@@ -74,8 +74,9 @@ pub(crate) enum Values {
     Optional { least: u32, most: u32, shape: Shape },
     /// The texts that name a model, and whether `off` is one.
     Models { off: bool },
-    /// The texts that name a defence, and whether `hold` is one; `stt` where the key is left out.
-    Defences { hold: bool },
+    /// The texts that name a defence, and whether every defence may be named, or `stt` alone; `stt` where the key is
+    /// left out.
+    Defences { every: bool },
 }
 
 /// The newest version that is known: each one from 1 on is.
@@ -185,8 +186,8 @@ fn where_known(known: bool, values: Values) -> Values
             most: if known { most } else { least },
             shape,
         },
-        Values::Defences { hold } => Values::Defences {
-            hold: hold && known,
+        Values::Defences { every } => Values::Defences {
+            every: every && known,
         },
         Values::Numbers { .. } | Values::Models { .. } => values,
     }
@@ -299,7 +300,7 @@ impl Key {
             Key::CacheSecondWays => optional(1, 8, Shape::Any),
             Key::CacheSecondLatency => optional(2, 100, Shape::Any),
             Key::CachePrefetch => optional(0, 1, Shape::Any),
-            Key::SttDefence => Values::Defences { hold: true },
+            Key::SttDefence => Values::Defences { every: true },
         }
     }
 

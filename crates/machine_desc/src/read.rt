@@ -94,8 +94,8 @@ fn check_key(version: u32, document: &Table, key: Key) -> Result<(), DescFault>
         Values::Models { off } => {
             model_in(key, off, value)?;
         }
-        Values::Defences { hold } => {
-            defence_in(key, hold, value)?;
+        Values::Defences { every } => {
+            defence_in(key, every, value)?;
         }
     }
     Ok(())

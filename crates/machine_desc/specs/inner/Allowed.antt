@@ -27,7 +27,7 @@ fits_prop : (values : Values) (n : ℕ) → IsProp (Fits values n)
 fits_prop (Numbers least most shape) n x y = λ i. (le_prop x.0 y.0 i, le_prop x.1 y.1 i, shape_prop shape n x.2 y.2 i)
 fits_prop (Optional least most shape) n x y = λ i. (le_prop x.0 y.0 i, le_prop x.1 y.1 i, shape_prop shape n x.2 y.2 i)
 fits_prop (Models off) n x y = λ i. tt
-fits_prop (Defences hold) n x y = λ i. tt
+fits_prop (Defences every) n x y = λ i. tt
 
 -- any two proofs that a number is one of its key's values are one
 may_be : (version : ℕ) (key : Key) (n : ℕ) → IsProp (MayBe version key n)
