@@ -106,8 +106,8 @@ pub fn cycles_arg<'a>(alloc: Global) -> Arg<'a>
     number_arg(alloc, "cycles", 1, STEPS_MAX)
 }
 
-// An option with a text, which may be left out.
-fn text_arg<'a>(alloc: Global, id: &'a str) -> Arg<'a>
+/// An option with a text, which may be left out.
+pub fn text_arg<'a>(alloc: Global, id: &'a str) -> Arg<'a>
     ensures rule { rule_of result ≡ text_rule id.now }
     ensures here { result.global ≡ false }
 {
