@@ -206,8 +206,8 @@ impl<'a> Seen<'a> {
     }
 
     /// Whether an entry with this effect, which nothing keeps whatever its operands are, has what it asks for besides
-    /// untainted operands that it may show: of a load, that older stores let it go. A load that lacks a store's data is put into `kept`
-    /// with the store.
+    /// untainted operands that it may show: of a load, that older stores let it go. A load that lacks a store's data is
+    /// put into `kept` with the store.
     pub(crate) fn has_besides(
         &self,
         candidate: &Candidate,
@@ -226,7 +226,8 @@ impl<'a> Seen<'a> {
     }
 
     /// Whether the entry, which is no store, may ask for its port: one is left, neither a tainted operand nor a defence
-    /// that delays it holds it back, and nothing keeps it whatever its operands are. It is served then where it has what it asks for besides.
+    /// that delays it holds it back, and nothing keeps it whatever its operands are. It is served then where it has
+    /// what it asks for besides.
     pub(crate) fn may_ask(&self, candidate: &Candidate, ports: &Ports) -> bool
         requires turn { HasTurn self.now candidate.now }
         requires whole { is_store candidate.now.entry.now.item.kind ≡ false }

@@ -145,8 +145,8 @@ module _ (s : Seen) (p : Candidate) (t : HasTurn s p) where
     shown : may_show d before ≡ true
     shown = sym shows ∙ sym q ∙ h
 
-    -- the address part of a store in version 1 that may show its operands may issue: both sources are there, and it goes
-    -- with the data part
+    -- the address part of a store in version 1 that may show its operands may issue: both sources are there, and it
+    -- goes with the data part
     pub address_with_data : stores_in_one d ≡ true → is_store e.item.kind ≡ true → true ≡ part_may AddressPort d before e
     address_with_data one n =
         sym (part_may_by part.Address d before e true f (first_ready d before e (base_of (sources e)) (may_show d before) in_step one n t.candidate.waits t.candidate.able ∙ shown))
