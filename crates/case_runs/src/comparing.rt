@@ -43,11 +43,13 @@ fn told(alloc: Global, other: Other<'_>) -> Result<String, NoMemory> {
         found,
         wanted,
     } = other;
-    let got = found.unwrap_or("no line");
     let told = match (found, wanted) {
+        (Some(got), Some(wanted)) => {
+            format!(in alloc; "line {number}: wanted `{wanted}`, got `{got}`")?
+        }
+        (Some(got), None) => format!(in alloc; "line {number}: wanted no line, got `{got}`")?,
+        (None, Some(wanted)) => format!(in alloc; "line {number}: wanted `{wanted}`, got no line")?,
         (None, None) => format!(in alloc; "its last line ends otherwise")?,
-        (_, Some(wanted)) => format!(in alloc; "line {number}: wanted `{wanted}`, got `{got}`")?,
-        (_, None) => format!(in alloc; "line {number}: wanted no line, got `{got}`")?,
     };
     Ok(told)
 }
