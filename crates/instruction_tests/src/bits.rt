@@ -3,10 +3,10 @@ use crate::asserting::assert_same;
 use word_bits::{has_bit, has_wide_bit, next_bit, next_wide_bit, with_bit, with_wide_bit};
 
 // A place from which a bit is sought, and the first one from there on of a word with bits 5, 9 and 63.
-const NEXT: [(u32, Option<u32>); 4] = [(0, Some(5)), (5, Some(5)), (6, Some(9)), (10, Some(63))];
+static NEXT: [(u32, Option<u32>); 4] = [(0, Some(5)), (5, Some(5)), (6, Some(9)), (10, Some(63))];
 
 // The first one of a wide word with bits 5, 70 and 127.
-const NEXT_WIDE: [(u32, Option<u32>); 5] = [
+static NEXT_WIDE: [(u32, Option<u32>); 5] = [
     (0, Some(5)),
     (5, Some(5)),
     (6, Some(70)),

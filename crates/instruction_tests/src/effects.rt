@@ -1,8 +1,9 @@
 //! One instruction of each form, and one call of each answer; the values are those of the manual's formulas.
 use crate::asserting::assert_same;
+use crate::words::{Form, instr_of};
 use byte_ram::Ram;
 use rv_effect::{Effect, call, effect};
-use rv_types::{Instr, Op, Piece, Reg, Width};
+use rv_types::{Op, Piece, Width};
 use std::test::Fail;
 
 const PC: u32 = 0x0001_0000;
@@ -13,90 +14,24 @@ const BASE: u32 = 0x0002_0000;
 
 const SIZE: u32 = 64;
 
-const RD: Reg = Reg { number: 7 };
+// The destination, and the sources.
+const RD: u8 = 7;
 
-const RS1: Reg = Reg { number: 5 };
+const RS1: u8 = 5;
 
-const RS2: Reg = Reg { number: 6 };
+const RS2: u8 = 6;
 
 // An instruction at PC, the values of its sources, and the value, next, address and stored value of its effect, and
 // whether it jumps to no multiple of 4.
-const EFFECTS: [(Instr, u32, u32, u32, u32, u32, u32, bool); 15] = [
+static EFFECTS: [(Form, u32, u32, u32, u32, u32, u32, bool); 15] = [
+    (Form::Lui(RD, -4096), 1, 2, 0xffff_f000, NEXT, 0, 0, false),
+    (Form::Auipc(RD, -4096), 1, 2, 0xf000, NEXT, 0, 0, false),
+    (Form::Jal(RD, -16), 1, 2, NEXT, 0xfff0, 0, 0, false),
+    (Form::Jal(RD, 2), 1, 2, NEXT, 0x0001_0002, 0, 0, true),
+    (Form::Jalr(RD, RS1, -4), 0x21, 2, NEXT, 0x1c, 0, 0, false),
+    (Form::Jalr(RD, RS1, 2), 0x21, 2, NEXT, 0x22, 0, 0, true),
     (
-        Instr::Lui { rd: RD, imm: -4096 },
-        1,
-        2,
-        0xffff_f000,
-        NEXT,
-        0,
-        0,
-        false,
-    ),
-    (
-        Instr::Auipc { rd: RD, imm: -4096 },
-        1,
-        2,
-        0xf000,
-        NEXT,
-        0,
-        0,
-        false,
-    ),
-    (
-        Instr::Jal { rd: RD, imm: -16 },
-        1,
-        2,
-        NEXT,
-        0xfff0,
-        0,
-        0,
-        false,
-    ),
-    (
-        Instr::Jal { rd: RD, imm: 2 },
-        1,
-        2,
-        NEXT,
-        0x0001_0002,
-        0,
-        0,
-        true,
-    ),
-    (
-        Instr::Jalr {
-            rd: RD,
-            rs1: RS1,
-            imm: -4,
-        },
-        0x21,
-        2,
-        NEXT,
-        0x1c,
-        0,
-        0,
-        false,
-    ),
-    (
-        Instr::Jalr {
-            rd: RD,
-            rs1: RS1,
-            imm: 2,
-        },
-        0x21,
-        2,
-        NEXT,
-        0x22,
-        0,
-        0,
-        true,
-    ),
-    (
-        Instr::Branch {
-            op: Op::Beq,
-            rs1: RS1,
-            rs2: RS2,
-            imm: 6,
-        },
+        Form::Branch(Op::Beq, RS1, RS2, 6),
         3,
         3,
         1,
@@ -106,12 +41,7 @@ const EFFECTS: [(Instr, u32, u32, u32, u32, u32, u32, bool); 15] = [
         true,
     ),
     (
-        Instr::Branch {
-            op: Op::Beq,
-            rs1: RS1,
-            rs2: RS2,
-            imm: 6,
-        },
+        Form::Branch(Op::Beq, RS1, RS2, 6),
         3,
         4,
         0,
@@ -121,12 +51,7 @@ const EFFECTS: [(Instr, u32, u32, u32, u32, u32, u32, bool); 15] = [
         false,
     ),
     (
-        Instr::Load {
-            op: Op::Lw,
-            rd: RD,
-            rs1: RS1,
-            imm: -1,
-        },
+        Form::Load(Op::Lw, RD, RS1, -1),
         0,
         2,
         0,
@@ -136,12 +61,7 @@ const EFFECTS: [(Instr, u32, u32, u32, u32, u32, u32, bool); 15] = [
         false,
     ),
     (
-        Instr::Store {
-            op: Op::Sw,
-            rs1: RS1,
-            rs2: RS2,
-            imm: 4,
-        },
+        Form::Store(Op::Sw, RS1, RS2, 4),
         0xffff_ffff,
         9,
         0,
@@ -151,12 +71,7 @@ const EFFECTS: [(Instr, u32, u32, u32, u32, u32, u32, bool); 15] = [
         false,
     ),
     (
-        Instr::OpImm {
-            op: Op::Add,
-            rd: RD,
-            rs1: RS1,
-            imm: -1,
-        },
+        Form::Immediate(Op::Add, RD, RS1, -1),
         5,
         2,
         4,
@@ -166,12 +81,7 @@ const EFFECTS: [(Instr, u32, u32, u32, u32, u32, u32, bool); 15] = [
         false,
     ),
     (
-        Instr::OpReg {
-            op: Op::Sub,
-            rd: RD,
-            rs1: RS1,
-            rs2: RS2,
-        },
+        Form::Registers(Op::Sub, RD, RS1, RS2),
         5,
         7,
         0xffff_fffe,
@@ -180,14 +90,15 @@ const EFFECTS: [(Instr, u32, u32, u32, u32, u32, u32, bool); 15] = [
         0,
         false,
     ),
-    (Instr::Fence(15), 1, 2, 0, NEXT, 0, 0, false),
-    (Instr::Ecall, 1, 2, 0, NEXT, 0, 0, false),
-    (Instr::Illegal(0), 1, 2, 0, NEXT, 0, 0, false),
+    (Form::Fence(15), 1, 2, 0, NEXT, 0, 0, false),
+    (Form::Ecall, 1, 2, 0, NEXT, 0, 0, false),
+    (Form::Illegal(0), 1, 2, 0, NEXT, 0, 0, false),
 ];
 
 #[test]
 fn effects_are_the_manuals(rt: HostRuntime) {
-    for &(instr, first, second, value, next, addr, stored, misaligned) in &EFFECTS {
+    for &(form, first, second, value, next, addr, stored, misaligned) in &EFFECTS {
+        let instr = instr_of(form);
         let wanted = Effect {
             value,
             next,
@@ -204,7 +115,7 @@ fn effects_are_the_manuals(rt: HostRuntime) {
 }
 
 // a7, a0, a1 and a2 of a call, the value with which it ends the run, its answer in a0, and how many bytes it puts out.
-const CALLS: [(u32, u32, u32, u32, Option<u32>, u32, usize); 8] = [
+static CALLS: [(u32, u32, u32, u32, Option<u32>, u32, usize); 8] = [
     (64, 1, BASE, 4, None, 4, 4),
     (64, 2, BASE, 0xffff_ffff, None, 0xffff_fff2, 0), // 1024 bytes, of which memory has 64
     (64, 2, BASE + 60, 4, None, 4, 4),

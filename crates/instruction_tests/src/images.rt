@@ -13,7 +13,7 @@ const BASE: u32 = 65536;
 const SIZE: u32 = 64;
 
 // Two instructions at address 65536: `addi x17,x0,93` and `ecall`.
-const FIRST: [u8; 92] = [
+static FIRST: [u8; 92] = [
     0x7f, 0x45, 0x4c, 0x46, 1, 1, 1, 0, 0, 0, 0, 0, 0, 0, 0, 0, 2, 0, 0xf3, 0, 1, 0, 0, 0, 0, 0, 1,
     0, 0x34, 0, 0, 0, 0, 0, 0, 0, 0, 0, 0, 0, 0x34, 0, 0x20, 0, 1, 0, 0, 0, 0, 0, 0, 0, 1, 0, 0, 0,
     0x54, 0, 0, 0, 0, 0, 1, 0, 0, 0, 1, 0, 8, 0, 0, 0, 8, 0, 0, 0, 5, 0, 0, 0, 4, 0, 0, 0, 0x93,
@@ -22,7 +22,7 @@ const FIRST: [u8; 92] = [
 
 // A file with four segments: the second lies over the first, with bytes 0 past those of the file, the third takes no
 // memory, the fourth begins at an address that is no multiple of 4.
-const FOUR: [&[u8]; 7] = [
+static FOUR: [&[u8]; 7] = [
     // the header of the first program, up to the number of program headers
     &[
         0x7f, 0x45, 0x4c, 0x46, 1, 1, 1, 0, 0, 0, 0, 0, 0, 0, 0, 0, 2, 0, 0xf3, 0, 1, 0, 0, 0, 0,
@@ -53,7 +53,7 @@ const FOUR: [&[u8]; 7] = [
 ];
 
 // How many bytes of the first program's file there are, the bytes in the place of those from a place on, and the fault.
-const FAULTS: [(usize, usize, &[u8], Option<ElfFault>); 25] = [
+static FAULTS: [(usize, usize, &[u8], Option<ElfFault>); 25] = [
     (51, 0, &[], Some(ElfFault::Short(52, 51))),
     (60, 0, &[], Some(ElfFault::TableOutside(84, 60))),
     (88, 0, &[], Some(ElfFault::FileOutside(0))),
@@ -155,7 +155,7 @@ fn refuses_by_the_first_fault(rt: HostRuntime) -> Result<(), Fail> {
 // An address and the word that may be fetched there.
 type Word = (u32, Option<u32>);
 
-const FIRST_WORDS: [Word; 6] = [
+static FIRST_WORDS: [Word; 6] = [
     (BASE, Some(0x05d0_0893)),
     (BASE + 4, Some(0x73)),
     (BASE + 8, None),
@@ -164,7 +164,7 @@ const FIRST_WORDS: [Word; 6] = [
     (BASE + SIZE, None),
 ];
 
-const FOUR_WORDS: [Word; 7] = [
+static FOUR_WORDS: [Word; 7] = [
     (BASE, Some(0x0403_0201)),
     (BASE + 4, Some(0xbbaa)),
     (BASE + 8, None),
@@ -219,7 +219,7 @@ fn segments_of_a_file(rt: HostRuntime) -> Result<(), Fail> {
 }
 
 // One block of seed 1, by the rules of `docs/formats.md`, "Generated images".
-const ONE_BLOCK: [u32; 9] = [
+static ONE_BLOCK: [u32; 9] = [
     0xc001_0413,
     0x0040_0493,
     0x1f84_2283,

@@ -15,7 +15,7 @@ const SIZE: u32 = 64;
 type Access = (u32, Width, Option<u32>, Result<u32, u8>);
 
 // Where an address has to be a multiple of the width.
-const ALIGNED: [Access; 17] = [
+static ALIGNED: [Access; 17] = [
     (BASE + 60, Width::W, Some(0x8877_6655), Ok(0)),
     (BASE, Width::H, Some(0xffff_4321), Ok(0)),
     (BASE + 3, Width::B, Some(0x1_00fe), Ok(0)),
@@ -36,7 +36,7 @@ const ALIGNED: [Access; 17] = [
 ];
 
 // Where it may be any.
-const ANY: [Access; 4] = [
+static ANY: [Access; 4] = [
     (BASE + 13, Width::W, Some(0x8877_6655), Ok(0)),
     (BASE + 15, Width::H, None, Ok(0x8877)),
     (BASE + 62, Width::W, None, Err(5)),

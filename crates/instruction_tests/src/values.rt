@@ -12,7 +12,7 @@ const MINUS_6: u32 = 0xffff_fffa;
 const MINUS_20: u32 = 0xffff_ffec;
 
 // Operation, first and second source, and the value that the manual's formulas give.
-const VALUES: [(Op, u32, u32, u32); 54] = [
+static VALUES: [(Op, u32, u32, u32); 54] = [
     (Op::Add, MINUS_1, 1, 0),
     (Op::Add, LEAST, LEAST, 0),
     (Op::Sub, 0, 1, MINUS_1),
@@ -70,7 +70,7 @@ const VALUES: [(Op, u32, u32, u32); 54] = [
 ];
 
 // Branch, first and second source, and whether it is taken.
-const BRANCHES: [(Op, u32, u32, bool); 15] = [
+static BRANCHES: [(Op, u32, u32, bool); 15] = [
     (Op::Beq, 5, 5, true),
     (Op::Beq, 5, 6, false),
     (Op::Bne, 5, 5, false),
@@ -89,7 +89,7 @@ const BRANCHES: [(Op, u32, u32, bool); 15] = [
 ];
 
 // Division, dividend, and the time in cycles: 3, and one for each binary digit of the dividend's magnitude.
-const TIMES: [(Op, u32, u8); 8] = [
+static TIMES: [(Op, u32, u8); 8] = [
     (Op::Div, 0, 3),
     (Op::Div, LEAST, 35),
     (Op::Div, MINUS_1, 4),

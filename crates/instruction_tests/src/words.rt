@@ -6,9 +6,9 @@ use Form::{
 use rv_decode::{decode, encode};
 use rv_types::{Instr, Op, Reg};
 
-// An instruction, with its registers by their numbers.
+/// An instruction, with its registers by their numbers.
 #[derive(Clone, Copy)]
-enum Form {
+pub enum Form {
     Lui(u8, i32),
     Auipc(u8, i32),
     Jal(u8, i32),
@@ -135,7 +135,8 @@ fn x(number: u8) -> Reg {
     }
 }
 
-fn instr_of(form: Form) -> Instr {
+/// The instruction of a form.
+pub fn instr_of(form: Form) -> Instr {
     match form {
         Lui(rd, imm) => Instr::Lui { rd: x(rd), imm },
         Auipc(rd, imm) => Instr::Auipc { rd: x(rd), imm },
