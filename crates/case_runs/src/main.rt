@@ -4,6 +4,13 @@
 //! The words of this program are the names of the files. It writes a line a case, a line for each run that differs, and
 //! last how many cases, runs and differences there were. Status: 0 nothing differs, 1 something does, 2 a file can't be
 //! read as cases, which the last line tells with the file and its line.
+//!
+//! Rules: `docs/cases.md`.
+//!
+//! Promises: where nothing is told to differ, status, note and whole output are those that are wanted; the gate compares
+//! what it tells.
+//!
+//! Clauses: `main`.
 #![tactic(auto)]
 
 mod comparing;
