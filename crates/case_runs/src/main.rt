@@ -7,8 +7,8 @@
 //!
 //! Rules: `docs/cases.md`.
 //!
-//! Promises: where nothing is told to differ, status, note and whole output are those that are wanted; the gate compares
-//! what it tells.
+//! Promises: where nothing is told to differ, status, note and whole output are those that are wanted; the gate
+//! compares what it tells.
 //!
 //! Clauses: `main`.
 #![tactic(auto)]
