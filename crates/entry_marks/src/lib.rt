@@ -1,19 +1,20 @@
 //! Marks of entries, as code walks them beside the parts of a core: what entries get as they issue, what they leave in
-//! registers and memory as they retire, what is left behind a squash and comes with Rename, which bytes of memory lose
-//! theirs, and what shows.
+//! registers and memory as they retire, what is left behind a squash and comes with Rename, and what shows of a branch
+//! or JALR that is resolved.
 //!
-//! Each function answers what its definition in `secret_marks` says. `marked_core` walks them beside a core.
+//! Each function answers what its definition in `secret_marks` says; marks of single words are those of `mark_words`.
+//! `marked_core` walks them beside a core.
 //!
-//! Rules: `secret_marks/specs/Marks.antt`, `Results.antt`, `Shows.antt`, `Shown.antt`, `Published.antt`;
-//! `specs/Walk.antt`, what is looked at; `Oldest.antt`, what Retire's entries leave; `Told.antt`, of which entries
-//! Issue's events tell; `docs/theorems.md`, "Secrets that are loaded".
+//! Rules: `secret_marks/specs/Marks.antt`, `Results.antt`, `Shows.antt`, `Shown.antt`; `specs/Walk.antt`, what is
+//! looked at; `Oldest.antt`, what Retire's entries leave; `Told.antt`, of which entries Issue's events tell;
+//! `docs/theorems.md`, "Secrets that are loaded".
 //!
 //! Promises: the marks that `secret_marks` defines as Issue leaves them, as Retire moves them to registers and memory,
-//! of what a squash leaves and Rename brings, what is published, and what shows of them, computed over a reorder
+//! of what a squash leaves and Rename brings, and what shows as a branch or JALR is resolved, computed over a reorder
 //! buffer.
 //!
-//! Clauses: `mark_issued`, `leaving`, `leave`, `publish`, `count_published`, `Walk::operands`, `Walk::first_source`,
-//! `Walk::second_source`, `cut`, `extend`, `resolved_shown`, `call_shows`.
+//! Clauses: `mark_issued`, `leaving`, `leave`, `Walk::operands`, `Walk::first_source`, `Walk::second_source`, `cut`,
+//! `extend`, `resolved_shown`.
 #![tactic(auto)]
 
 mod beside;

@@ -4,8 +4,8 @@ ghost use Rattle.circular_buffer.specs.Buffer.{buffer};
 ghost use Rattle.std.specs.Prelude.{◌++◌, ◌-◌, ◌<◌, ◌≤◌, replicate, take};
 ghost use Rattle.secret_marks.specs.Marks.{new_entry};
 
-use mark_words::UNMARKED;
 use circular_buffer::HeapCircularBuffer;
+use mark_words::UNMARKED;
 use rv_types::REGISTERS;
 use secret_marks::{EntryMarks, WordMarks};
 

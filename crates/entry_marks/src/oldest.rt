@@ -6,8 +6,8 @@ ghost use Rattle.rv_types.specs.declared.Kind.TheVariants as kind;
 ghost use Rattle.rv_types.specs.declared.Width.TheVariants as width;
 ghost use Rattle.secret_marks.specs.Marks.{new_entry};
 
-use mark_words::UNMARKED;
 use arrayvec::ArrayVec;
+use mark_words::UNMARKED;
 use rv_types::{Cause, Instr, Kind, Width};
 use secret_marks::EntryMarks;
 

@@ -5,8 +5,8 @@ ghost use Rattle.window_model.specs.Serials.{Rise};
 ghost use Rattle.entry_marks.specs.Beside.{mark_of, marks_by, result_or};
 
 use crate::walk::Walk;
-use mark_words::UNMARKED;
 use circular_buffer::HeapCircularBuffer;
+use mark_words::UNMARKED;
 use rob_ring::{RobRing, sources_at};
 use rv_types::{REGISTERS, Reg, reads_of};
 use secret_marks::{EntryMarks, WordMarks};

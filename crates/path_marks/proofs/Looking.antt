@@ -60,8 +60,8 @@ count_is p p2 s stream piece piece2 count h ep es eq =
 
 -- ---- a loop of n steps, behind i of them
 
--- the run stands after i of n steps, in which nothing has shown and which published so many bytes: the other steps show,
--- end and publish what is left of all n
+-- the run stands after i of n steps, in which nothing has shown and which published so many bytes: the other steps
+-- show, end and publish what is left of all n
 pub record Left (n i : ℕ) (begin now : MarkedState) (count : ℕ) : Type 0 where
   pub shown : shown_in (n - i) (i + 1) now ≡ shown_in n 1 begin
   pub rest : Rest (run_of n begin) (run_of (n - i) now) i

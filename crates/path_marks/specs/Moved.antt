@@ -24,8 +24,11 @@ InMemory base a i size = Unit {0}
 -- the marks behind an instruction that accesses memory with this base at this address, where it doesn't fault
 abbrev pub moved : ℕ → ℕ → Instr → PathMarks → PathMarks
 moved base a (instr.Load op rd rs1 imm) m =
-    record m { regs = with_marks m.regs (unless_zero rd.number) (loaded_marks op (λ b. get_or m.bytes (b - base) false) a) }
+    let w = loaded_marks op (λ b. get_or m.bytes (b - base) false) a in
+    record m { regs = with_marks m.regs (unless_zero rd.number) w }
 moved base a (instr.Store op rs1 rs2 imm) m =
     record m { bytes = with_byte_marks m.bytes (a - base) (size_of op) (get_or m.regs rs2.number unmarked) }
 moved base a instr.Ecall m = record m { regs = slice_set m.regs 10 unmarked }
-moved base a i m = record m { regs = with_marks m.regs (writes_of i) (result_marks i (first_mark (reads_of i) m.regs) (second_mark (reads_of i) m.regs)) }
+moved base a i m =
+    let w = result_marks i (first_mark (reads_of i) m.regs) (second_mark (reads_of i) m.regs) in
+    record m { regs = with_marks m.regs (writes_of i) w }

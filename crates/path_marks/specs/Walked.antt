@@ -22,9 +22,10 @@ run_of n s = isa (word_at s.code) s.hart n
 abbrev pub published_of : ℕ → MarkedState → ℕ
 published_of n s = length (published_in (public_in s.public) (word_at s.code) n s.hart)
 
--- what is told is what shows first in n steps; where nothing does, how many steps were taken, how the run ended, and how
--- many bytes were published
+-- what is told is what shows first in n steps; where nothing does, how many steps were taken, how the run ended, and
+-- how many bytes were published
 abbrev pub Tells : ℕ → MarkedState → Walked → Type 0
 Tells n s (Shown first) = shown_in n 1 s ≡ Some first
 Tells n s (Hidden ran published) =
-    (shown_in n 1 s ≡ None) × (ran.taken ≡ (run_of n s).steps) × (ran.ended ≡ (run_of n s).ended) × (published ≡ published_of n s)
+    (shown_in n 1 s ≡ None) × (ran.taken ≡ (run_of n s).steps) × (ran.ended ≡ (run_of n s).ended)
+    × (published ≡ published_of n s)

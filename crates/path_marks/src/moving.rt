@@ -52,7 +52,8 @@ fn loaded(bytes: &[bool], base: u32, op: Op, addr: u32) -> WordMarks
 
 // The marks of an instruction's value that its sources decide.
 fn value_marks(regs: &[WordMarks; REGISTERS], instr: &Instr) -> WordMarks
-    ensures { result ≡ result_marks instr.now (first_mark (reads_of instr.now) regs.now) (second_mark (reads_of instr.now) regs.now) }
+    ensures { result ≡ result_marks instr.now (first_mark (reads_of instr.now) regs.now)
+        (second_mark (reads_of instr.now) regs.now) }
 {
     result_marks(instr, first_source(regs, instr), second_source(regs, instr))
 }

@@ -1,8 +1,8 @@
 //! Whether the first operand of an entry tells an address or the time of a division (`docs/theorems.md`, "Secrets that
 //! are loaded"), and whether it is marked.
 use crate::seen::Seen;
-use mark_words::any_byte;
 use issue::Candidate;
+use mark_words::any_byte;
 use rob_ring::{Sources, sources_at};
 use rv_types::Kind;
 use stations::Part;
