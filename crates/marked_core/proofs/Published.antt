@@ -68,12 +68,11 @@ abbrev made : List WordMarks → List Bool → List EntryMarks → Marks
 made r b w = record { regs = r; bytes = b; window = w }
 
 -- marks of which the bytes of a piece are unmarked where its stream is public are those behind Retire
-pub publishes : (public : Public) (x : Machine) (m m2 : Beside) (k : Marks) (piece p : List ℕ) (stream at : ℕ) → m2.regs ≡ m.regs → m2.window ≡ m.window →
-    m2.bytes.items ≡ unmarked_at at (if public stream then p else []) m.bytes.items → stream ≡ reg x.regs 10 → at ≡ reg x.regs 11 - x.ram.base →
-    p ≡ piece → marks_of m ≡ k → marks_of m2 ≡ published_marks public x piece k
-publishes public x m m2 k piece p stream at regs window bytes es ea ep ek =
-    ap₂ (λ r w. made r m2.bytes.items w) regs (ap (λ w. w.items) window)
-    ∙ ap (λ b. made m.regs b m.window.items) bytes
+pub publishes : (public : Public) (x : Machine) (m : Beside) (bytes : List Bool) (k : Marks) (piece p : List ℕ) (stream at : ℕ) →
+    bytes ≡ unmarked_at at (if public stream then p else []) m.bytes.items → stream ≡ reg x.regs 10 → at ≡ reg x.regs 11 - x.ram.base →
+    p ≡ piece → marks_of m ≡ k → made m.regs bytes m.window.items ≡ published_marks public x piece k
+publishes public x m bytes k piece p stream at eb es ea ep ek =
+    ap (λ b. made m.regs b m.window.items) eb
     ∙ ap₂ (λ s a. made m.regs (unmarked_at a (if public s then p else []) m.bytes.items) m.window.items) es ea
     ∙ ap (λ p. published_marks public x p (marks_of m)) ep
     ∙ ap (published_marks public x piece) ek

@@ -145,7 +145,7 @@ pub(crate) fn retire_marked<R: RenameTaint>(
     retire(parts, row, piece);
     let gone = before.saturating_sub(entries(parts));
     leave(marks, &copies, base(parts), gone);
-    publish(marks, public, stream, place, piece.as_slice());
+    publish(&mut marks.bytes, public, stream, place, piece.as_slice());
     shown
 }
 

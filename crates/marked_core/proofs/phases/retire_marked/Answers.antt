@@ -40,15 +40,15 @@ returns-clause-marks g c =
     let leaves =
     c.leave.ensures.marks c.args.parts.now.machine.window copied
     ∙ ap₂ (λ base n. left base n c.args.parts.now.machine.window (marks_of c.args.marks.now) c.args.marks.now.window.items) c.base.ensures count in
-    publishes (public_in c.args.public) c.args.parts.now.machine c.leave.new.marks c.publish.new.marks _ c.retire.new.piece c.as_slice.result.now c.stream-stream.result c.place-place.result
-    c.publish.ensures.registers c.publish.ensures.window c.publish.ensures.bytes c.stream-stream.ensures c.place-place.ensures c.as_slice.ensures.value leaves
+    publishes (public_in c.args.public) c.args.parts.now.machine c.leave.new.marks c.publish.new.bytes.items _ c.retire.new.piece c.as_slice.result.now c.stream-stream.result c.place-place.result
+    c.publish.ensures.bytes c.stream-stream.ensures c.place-place.ensures c.as_slice.ensures.value leaves
 
 pub returns-clause-step : goal.returns-clause-step
 returns-clause-step g c =
     step_left c.args.parts.now c.retire.new.parts _ c.args.marks.now _ c.saturating_sub-gone.result c.retire.ensures.machine c.requires.step
     (count_left c.args.parts.now c.retire.new.parts c.retire.ensures.machine c.entries-before.ensures.sized c.saturating_sub-gone.result
     (omega (arith, c.saturating_sub-gone.ensures, c.entries-before.ensures.value, c.entries.ensures.value)))
-    (c.publish.ensures.window ∙ c.leave.ensures.window)
+    c.leave.ensures.window
 
 pub returns-clause-memory : goal.returns-clause-memory
 returns-clause-memory g c =
