@@ -36,8 +36,8 @@ class Command(unittest.TestCase):
         self.assertIn("<p>image bounds_check.elf, description core.toml, model spectre</p>", page)
         self.assertIn("<p>image bounds_check.elf, description core_hold.toml, model spectre, defence hold</p>", page)
         self.assertNotIn("the whole run", page)
-        page = view("html", self.trace, *self.files[:2], "-D", support.example("core_delay.toml")).stdout
-        self.assertIn("<p>image bounds_check.elf, description core_delay.toml, model spectre, defence delay</p>", page)
+        delayed = view("html", self.trace, *self.files[:2], "-D", support.example("core_delay.toml")).stdout
+        self.assertIn("<p>image bounds_check.elf, description core_delay.toml, model spectre, defence delay</p>", delayed)
         self.assertIn('<a class="go" href="#3">first unequal cycle: 3', page)
         packed = support.file_of("facts.gz", gzip.compress(self.text.encode()))
         for trace in (self.trace, packed):
