@@ -38,7 +38,7 @@ GROUPS = {
 MODULES = {"continue": "go_on"}
 COMMANDS = {name: text for group in GROUPS.values() for name, text in group.items()}
 # those that go over long traces, and those that go on where they stopped
-LONG = ("view", "verdict")
+LONG = ("view", "verdict", "certify", "draw")
 KEEPS = ("certify", "sweep")
 # shows where an error of the tools itself comes from
 TRACEBACK = "WADRELWY_TRACEBACK"

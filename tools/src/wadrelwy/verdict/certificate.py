@@ -11,14 +11,16 @@ from .secrecy import Answer
 from .simulator import Written
 from .telling import Telling
 from .touched import Touched
+from .values import Chain
 from .wrong_path import Fate, fate_of
 
 # in a cycle, of any description (docs/formats.md, "Keys")
 MOST_RETIRED = 4
 
 class Case(NamedTuple):
-    """An image under a description, its secret bytes as ranges, what the program says of them, and what the path does with them first; the
-    public streams, and what was published, where the program says how much."""
+    """An image under a description, its secret bytes as ranges, what the program says of them, and what the path does with them first; where all
+    is asked for, what else may show, and by which instructions what shows first was made of the bytes; the public streams, and what was
+    published, where the program says how much."""
     description: str
     machine: Description
     image: Loaded
@@ -27,6 +29,7 @@ class Case(NamedTuple):
     touched: Touched
     fate: Optional[Fate] = None
     all: Optional[dict] = None
+    chain: Optional[Chain] = None
     streams: tuple = ()
     published: Optional[bytes] = None
 
@@ -47,15 +50,18 @@ def case_of(program, asked, simulator=None):
     answer = secrecy.ask(program, (description, image), secret, cycles, streams)
     found = touched.look(loaded, secret, steps_of(answer))
     fate = fate_of(simulator, description, image, answer.shown, cycles) if simulator and answer.shown else None
-    others = all_of(simulator, description, loaded, machine, secret, cycles) if asked.all else None
-    return Case(description, machine, loaded, secret, answer, found, fate, others, streams, published.of_answer(loaded, streams, answer))
+    case = Case(description, machine, loaded, secret, answer, found, fate, streams=streams, published=published.of_answer(loaded, streams, answer))
+    if not asked.all:
+        return case
+    telling = all_of(simulator, case, cycles)
+    return case._replace(all=telling.shown, chain=telling.chain)
 
 
-def all_of(simulator, description, image, machine, secret, cycles):
-    """All instructions that take effect on a value made of these bytes, by the marks of this tool: as `Telling` has them."""
-    lines = Written(simulator, "trace", description, image.name, "--cycles", str(cycles))
-    marks = [address for each in secret for address in each.addresses]
-    return Telling(Trace(lines), image, machine, marks, thorough=False).shown
+def all_of(simulator, case, cycles):
+    """All instructions that take effect on a value made of these bytes, by the marks of this tool, and how what shows first was made of them."""
+    lines = Written(simulator, "trace", case.description, case.image.name, "--cycles", str(cycles))
+    marks, shown = [address for each in case.secret for address in each.addresses], case.answer.shown
+    return Telling(Trace(lines), case.image, case.machine, marks, thorough=False, watched=shown.serial if shown else -1)
 
 
 def steps_of(answer):
@@ -81,9 +87,21 @@ def lines(case, notation=CALLERS):
     yield report.row("shown", secrecy.place(shown, texts) if shown else "nothing that may depend on these bytes")
     if case.fate is not None:
         yield report.row("", wrong_path.sentence(case.fate, texts))
+    yield from made(case, texts)
     yield from listed(case, texts)
     goes_on = ", of a run that goes on" if case.answer.is_cut else ""
     yield report.row("verdict", f"{case.word()}{goes_on}: {answered.meaning(case.answer, case.touched)}")
+
+
+def made(case, texts):
+    """How what shows first was made of a secret byte: one instruction after the other, from the load on."""
+    chain = case.chain
+    if chain is None:
+        return
+    left = chain.count - len(chain.last)
+    yield report.row("made", f"of {case.image.named(chain.byte)}, by {report.plural(chain.count, 'instruction')}{', the last of which are' * bool(left)}")
+    for pc in chain.last:
+        yield report.row("", texts.place(pc))
 
 
 def listed(case, texts):

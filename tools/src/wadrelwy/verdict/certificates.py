@@ -199,17 +199,25 @@ def heading(setting, several):
     return ", ".join(([description] if several else []) + [f"`{defence}`"] + more)
 
 
-def as_markdown(found):
-    """A row for each program and build, a column for each setting."""
+def as_markdown(found, together=False):
+    """A row for each program and build, a column for each setting; with `together` one row for all builds of a program of which all cells are the
+    same."""
     columns = list(dict.fromkeys(row.setting for row in found))
     several = len({description for description, *_ in columns}) > 1
-    cells = {(row.program, row.build, row.secret, row.setting): cell(row) for row in found}
-    firsts = list(dict.fromkeys((row.program, row.build, row.secret) for row in found))
     titles = ["Program", "Build", "Secret"] + [heading(column, several) for column in columns]
     lines = [line(titles), "|" + "---|" * len(titles)]
-    lines += [line([f"`{program}`", build, secret, *(cells.get((program, build, secret, column), "") for column in columns)])
-              for program, build, secret in firsts]
+    lines += [line([f"`{program}`", ", ".join(builds), secret, *cells]) for (program, secret, *cells), builds in rows_of(found, columns, together)]
     return "".join(f"{each}\n" for each in lines)
+
+
+def rows_of(found, columns, together):
+    """The program, the secret and the cells of each row of the table, with the builds that it is of."""
+    cells = {(row.program, row.build, row.secret, row.setting): cell(row) for row in found}
+    rows = {}
+    for program, build, secret in dict.fromkeys((row.program, row.build, row.secret) for row in found):
+        key = program, secret, *(cells.get((program, build, secret, column), "") for column in columns)
+        rows.setdefault((key, None if together else build), []).append(build)
+    return [(key, builds) for (key, _), builds in rows.items()]
 
 
 def line(cells):

@@ -14,7 +14,8 @@ cdef class Telling(Replay):
     cdef public bint thorough, was_empty, differs
     cdef public dict held, shown, holding, showing
     cdef public object wrong_loads
-    cdef public long long wrong_values
+    cdef public long long wrong_values, watched
+    cdef public object chain
     cdef public set loads
     cdef public list held_now
     cpdef step(self, Row row)

@@ -46,16 +46,16 @@ class Telling(Replay):
     """`differs` says whether any byte does: else nothing is marked. `held` and `shown`, by an instruction's address and what of it shows;
     `wrong_loads` are the loads of differing bytes on wrong paths, by
     their addresses, and `wrong_values` how many of their values came. `holding` are the entries in flight that were held, by their serials,
-    each with what it is counted in, `showing` those that showed something, and `loads` the serials of the loads of these bytes in flight. Values are compared with
-    what the trace tells in any case; only where it is `thorough` also all that tools/src/wadrelwy/view checks of a trace, and the reason of each wait. `rules`
+    each with what it is counted in, `showing` those that showed something, and `loads` the serials of the loads of these bytes in flight. `chain`
+    is by which instructions what the entry `watched` shows was made of the bytes. Values are compared with what the trace tells in any case; only where it is `thorough` also all that tools/src/wadrelwy/view checks of a trace, and the reason of each wait. `rules`
     are the rules of docs/machine.md by which a load waits for stores."""
 
-    def __init__(self, trace, image, description, differing, thorough=True):
+    def __init__(self, trace, image, description, differing, thorough=True, watched=-1):
         self.valued, self.differs = Valued(image, description, differing), len(differing) > 0
         super().__init__(trace, image, description, self.valued, asked=thorough)
         self.rules, self.thorough = Reasons(self.pipeline), thorough
         self.held, self.shown, self.wrong_loads, self.wrong_values = {}, {}, Counter(), 0
-        self.showing = {}
+        self.showing, self.watched, self.chain = {}, watched, None
         self.holding, self.loads, self.held_now, self.was_empty, self.skips = {}, set(), [], False, False
         self.only_counts()
         for batch in self.batches():
@@ -283,3 +283,12 @@ class Telling(Replay):
             times, first, retired = self.shown.get(key, (0, self.pipeline.cycle, 0))
             self.shown[key] = Shown(times + 1, first, retired)
             self.showing.setdefault(item.serial, set()).add(key)
+            if item.serial == self.watched and self.chain is None:
+                self.chain = self.chain_of(item)
+
+    def chain_of(self, item):
+        """By which instructions an operand of an entry was made of the bytes; of a call, what it asks for."""
+        if item.kind == CALL:
+            asked = [self.valued.kept[register].chain for register in arguments(self.valued.registers[A7])]
+            return next((chain for chain in asked if chain is not None), None)
+        return item.value.marked_chain()

@@ -10,7 +10,8 @@ from wadrelwy.view.rows cimport Event
 cdef class Retired:
     cdef public long long result
     cdef public bint mark
-    cpdef set(self, long long result, bint mark)
+    cdef public object chain
+    cpdef set(self, long long result, bint mark, chain=*)
 
 
 cdef class Value(Retired):
@@ -21,11 +22,15 @@ cdef class Value(Retired):
     cdef public bint taken
     cpdef begin(self, Decoded decoded, long long pc, Retired one, Retired two)
     cpdef bint is_marked(self) except? -1
+    cpdef marked_chain(self)
     cpdef bint covers(self, long long address) except? -1
 
 
 @cython.locals(made=Retired)
-cpdef Retired retired(long long result, bint mark)
+cpdef Retired retired(long long result, bint mark, chain=*)
+
+
+cpdef behind(chain, long long pc)
 
 
 cpdef long long known(Retired value) except? -2
@@ -37,6 +42,7 @@ cdef class Valued(Pipeline):
     cdef public dict marked_bytes, decoded
     cdef public long long line
     cdef public bint found_mark
+    cdef public object found_chain
     @cython.locals(item=Item, decoded=Decoded, one=Retired, two=Retired, value=Value)
     cpdef Item rename(self, long long serial, long long pc)
     @cython.locals(value=Value, decoded=Decoded)
@@ -68,7 +74,7 @@ cdef class Valued(Pipeline):
     cpdef leave(self, Item item)
     @cython.locals(value=Value)
     cpdef retire(self, Item item)
-    cpdef keep(self, long long register, long long result, bint mark)
+    cpdef keep(self, long long register, long long result, bint mark, chain=*)
     cpdef write(self, Item item, line, answer)
 
 

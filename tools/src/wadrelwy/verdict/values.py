@@ -4,6 +4,8 @@ A trace has no values. But an entry computes its result from those of the writer
 and retired memory, as it issues (docs/machine.md, "Writers and roots", "Loads"): so each entry is executed with the event of its issue,
 each part of a store with its own. The run checks itself: the lines, faults, times of divisions and directions of branches that are
 computed have to be those that the trace tells."""
+from typing import NamedTuple
+
 from wadrelwy.riscv.kinds import CALL, DIVISION, JALR, LOAD
 from wadrelwy.riscv.operation import WORD, decoded_of, division_time, effect
 from wadrelwy.view import Fault
@@ -12,13 +14,29 @@ from wadrelwy.view.pipeline import PREFETCH, Pipeline
 from .hart import JUMP_MISALIGNED, Memory, system_call
 
 
+# so many instructions of a chain are kept, its last ones
+MOST_OF_CHAIN = 12
+
+
+class Chain(NamedTuple):
+    """How a value was made of a marked byte: the byte's address; the addresses of the load of it and of the last instructions that handed it on,
+    one by one; and how many they were in all. There may be other ways to the value than this one."""
+    byte: int
+    last: tuple = ()
+    count: int = 0
+
+    def on(self, pc):
+        """It with one instruction more."""
+        return Chain(self.byte, (*self.last[1 - MOST_OF_CHAIN:], pc), self.count + 1)
+
+
 class Retired:
-    """A register's retired value, and whether it comes from a marked byte."""
+    """A register's retired value, whether it comes from a marked byte, and by which chain."""
 
-    __slots__ = ("result", "mark")
+    __slots__ = ("result", "mark", "chain")
 
-    def set(self, result, mark):
-        self.result, self.mark = result, mark
+    def set(self, result, mark, chain=None):
+        self.result, self.mark, self.chain = result, mark, chain
 
 
 class Value(Retired):
@@ -31,7 +49,7 @@ class Value(Retired):
 
     def begin(self, decoded, pc, one, two):
         """Its entry is renamed."""
-        self.result, self.mark = -1, False
+        self.result, self.mark, self.chain = -1, False, None
         self.decoded, self.pc, self.one, self.two = decoded, pc, one, two
         self.fault, self.taken = None, False
         self.address, self.stored, self.first, self.behind = -1, 0, 0, 0
@@ -45,6 +63,12 @@ class Value(Retired):
         """Whether any source's value comes from a marked byte."""
         return self.one is not None and self.one.mark or self.two is not None and self.two.mark
 
+    def marked_chain(self):
+        """The chain of its first source that comes from a marked byte."""
+        if self.one is not None and self.one.mark:
+            return self.one.chain
+        return self.two.chain if self.two is not None and self.two.mark else None
+
     def effect(self, operands):
         """What it makes of these operands."""
         return effect(self.decoded.operation, self.pc, *operands)
@@ -54,11 +78,16 @@ class Value(Retired):
         return self.first <= address < self.behind
 
 
-def retired(result, mark):
-    """A retired value of this result and mark."""
+def retired(result, mark, chain=None):
+    """A retired value of this result, mark and chain."""
     made = Retired()
-    made.set(result, mark)
+    made.set(result, mark, chain)
     return made
+
+
+def behind(chain, pc):
+    """A chain with one instruction more, where there is one."""
+    return None if chain is None else chain.on(pc)
 
 
 def known(value):
@@ -74,17 +103,18 @@ def text(events):
 class Valued(Pipeline):
     """A pipeline whose entries have values, each its own. `marks` are the addresses of the bytes that are followed; they move with what is
     computed from them, through registers and memory. What is merely chosen by them, as by a branch, isn't marked. `registers`, `memory`
-    and their marks are the retired ones, `kept` the registers' values with theirs. A compiled class calls its base's methods by their name."""
+    and their marks are the retired ones, `kept` the registers' values with theirs; a byte of memory that a store marked has the chain of what was
+    stored, and one that was marked before the run none. A compiled class calls its base's methods by their name."""
 
     def __init__(self, image, description, marks):
         super().__init__(image, description)
         self.memory, self.registers = Memory(image.base, image.memory, image.misaligned), [0] * 32
         self.registers[2] = image.base + len(image.memory) - 16 & WORD
-        self.marked_bytes, self.marked_registers = dict.fromkeys(marks, True), [False] * 32
+        self.marked_bytes, self.marked_registers = dict.fromkeys(marks), [False] * 32
         self.kept = [retired(value, False) for value in self.registers]
         self.decoded, self.to_write, self.stores_in_flight, self.line = {}, [], [], description.line
-        # whether a byte that was found last is marked
-        self.found_mark = False
+        # whether a byte that was found last is marked, and the chain of one that is
+        self.found_mark, self.found_chain = False, None
 
     # ---- Rename
 
@@ -142,6 +172,9 @@ class Valued(Pipeline):
             value.mark = self.found_mark or value.is_marked()
         else:
             value.result, value.mark = 0, value.is_marked()
+            self.found_mark = False
+        if value.mark:
+            value.chain = behind(self.found_chain if self.found_mark else value.marked_chain(), value.pc)
 
     def compare(self, item, event):
         """What an entry's issue tells has to be what is computed."""
@@ -154,6 +187,8 @@ class Valued(Pipeline):
         decoded, a, b = value.decoded, known(value.one), known(value.two)
         # what a JALR writes is its own address plus 4, wherever it goes
         value.mark = decoded.kind != JALR and value.is_marked()
+        if value.mark:
+            value.chain = behind(value.marked_chain(), value.pc)
         if decoded.has_value:
             value.result = decoded.value(a, b)
         elif decoded.is_branch:
@@ -168,8 +203,9 @@ class Valued(Pipeline):
                 value.fault = JUMP_MISALIGNED
 
     def found(self, load, first, behind):
-        """The number that a load finds from one address up to another before Issue, and in `found_mark` whether a byte of it is marked: each
-        from the youngest older store that covers it, as far as addresses are known, else from memory."""
+        """The number that a load finds from one address up to another before Issue, in `found_mark` whether a byte of it is marked, and in
+        `found_chain` the chain of the lowest such byte: each from the youngest older store that covers it, as far as addresses are known, else
+        from memory."""
         stores, marks, number, mark = self.stores_before(load, first, behind), self.marked_bytes, 0, False
         if not stores and not marks:
             self.found_mark = False
@@ -178,10 +214,12 @@ class Valued(Pipeline):
             store = covering(stores, address)
             if store is None:
                 number = number << 8 | self.memory.number(address, 1)
-                mark = mark or address in marks
+                if address in marks:
+                    mark, self.found_chain = True, marks[address] or Chain(address)
             else:
                 number = number << 8 | store.stored >> 8 * (address - store.address) & 0xff
-                mark = mark or store.two.mark
+                if store.two.mark:
+                    mark, self.found_chain = True, behind(store.two.chain, store.pc)
         self.found_mark = mark
         return number
 
@@ -277,7 +315,7 @@ class Valued(Pipeline):
         value = item.value
         Pipeline.retire(self, item)
         if item.destination:
-            self.keep(item.destination, known(value), value.mark)
+            self.keep(item.destination, known(value), value.mark, value.chain)
         if item.kind == CALL:
             call = system_call(self.registers, self.memory)
             if call.exit is None:
@@ -286,19 +324,19 @@ class Valued(Pipeline):
         if item.is_store and value.behind:
             self.memory.put_number(value.address, value.decoded.size, value.stored)
             if value.two.mark or self.marked_bytes:
-                self.mark_bytes(range(value.first, value.behind), value.two.mark)
+                self.mark_bytes(range(value.first, value.behind), value.two.mark, behind(value.two.chain, value.pc))
         # younger values name this one: without its own sources the values of a long run aren't kept
         value.one = value.two = None
 
-    def keep(self, register, result, mark):
-        """A register is written: its retired value, and whether that comes from a marked byte."""
+    def keep(self, register, result, mark, chain=None):
+        """A register is written: its retired value, whether that comes from a marked byte, and by which chain."""
         self.registers[register], self.marked_registers[register] = result, mark
-        self.kept[register] = retired(result, mark)
+        self.kept[register] = retired(result, mark, chain)
 
-    def mark_bytes(self, addresses, mark):
-        """Bytes are written: from now on they are marked, or aren't."""
+    def mark_bytes(self, addresses, mark, chain=None):
+        """Bytes are written: from now on they are marked, with this chain, or aren't."""
         if mark:
-            self.marked_bytes.update(dict.fromkeys(addresses, True))
+            self.marked_bytes.update(dict.fromkeys(addresses, chain))
         else:
             for address in addresses:
                 self.marked_bytes.pop(address, None)
