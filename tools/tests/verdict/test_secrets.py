@@ -242,6 +242,18 @@ class Fates(unittest.TestCase):
         told = command("verdict", CORE, loading(), "--secret", WORD, "--secrets-program", secrets, "--program", "/nowhere", "--all")
         self.assertEqual((told.returncode, told.stdout), (2, ""))
 
+    def test_made(self):
+        """With --all the verdict tells by which instructions what shows was made of the secret: of the worked trace of a fault's shadow."""
+        text = support.file_of("shadow", "".join(support.worked_trace("Fault shadow")).encode())
+        traces = support.file_of("traces_of_a_shadow", f"#!/bin/sh\ncat {text}\n".encode())
+        os.chmod(traces, 0o755)
+        words = "--secret", WORD, "--secrets-program", program("shown 16 access 5 00010014\\n", 1), "--program", traces
+        told = command("verdict", CORE, support.example("fault_shadow.elf"), *words, "--all")
+        self.assertEqual((told.returncode, told.stderr), (1, ""))
+        self.assertRegex(told.stdout, r"\nmade          of 0001fff8\b.*, by 3 instructions\n {14}00010008 lbu .*\n {14}0001000c slli? .*\n {14}00010010 add .*\n"
+                                      r"list          00010014 lw .*: its access, 1 time, first in cycle 16, on wrong paths\n")
+        self.assertNotIn("\nmade ", command("verdict", CORE, support.example("fault_shadow.elf"), *words).stdout)
+
     def test_cells(self):
         place = "line {:x}".format
         self.assertEqual([wrong_path.short(wrong_path.Fate(*fate), place) for fate in [
@@ -321,6 +333,19 @@ class Table(unittest.TestCase):
 
     def words(self, *more):
         return "--programs", loading(), "--secret", WORD, "--descriptions", CORE, *more
+
+    def test_together(self):
+        """Builds of a program whose cells are the same are one row where it is asked for; another one has its own."""
+        images = [os.path.join(os.path.dirname(self.folder), build, "same.elf") for build in ("gcc-O1", "gcc-O2", "clang-O1")]
+        for image, numbers in zip(images, (LOADS, LOADS, STORES[0])):
+            os.makedirs(os.path.dirname(image))
+            shutil.copy(loading(numbers, *EXITS), image)
+        words = "--programs", *images, "--secret", WORD, "--descriptions", CORE
+        for more, rows in [((), [["gcc-O1", "certified"], ["gcc-O2", "certified"], ["clang-O1", "vacuous"]]),
+                           (("--together",), [["gcc-O1, gcc-O2", "certified"], ["clang-O1", "vacuous"]])]:
+            told = self.certify(*words, *more)
+            found = [line.split(" | ") for line in told.stdout.splitlines() if line.startswith("| `same`")]
+            self.assertEqual([[row[1], re.split("[ ;]", row[3])[0]] for row in found], rows)
 
     BUILD = os.path.basename(os.path.dirname(loading()))
     NAME = os.path.splitext(os.path.basename(loading()))[0]

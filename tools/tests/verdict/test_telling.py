@@ -5,16 +5,17 @@ import unittest
 from material import BOUND_0, CODE, CORE, DATA, RUNS, SECRET, gadget, program, support
 from wadrelwy.verdict.loaded import load
 from wadrelwy.verdict.telling import Telling
+from wadrelwy.verdict.values import MOST_OF_CHAIN, Chain
 from wadrelwy.view import Fault
 from wadrelwy.view.description import read_description
 from wadrelwy.view.trace import Trace
 
 
-def telling(name, heading, differing=(SECRET,), secret=0x11, change=("", "")):
-    """What a worked trace tells of the secret; with a change the trace is another one."""
+def telling(name, heading, differing=(SECRET,), secret=0x11, change=("", ""), watched=-1):
+    """What a worked trace tells of the secret; with a change the trace is another one. Of the entry that is watched it tells the chain."""
     image = gadget(name, BOUND_0 + bytes([secret])) if name in support.EXAMPLES else program(name)
     text = "".join(support.worked_trace(heading)).replace(*change)
-    return Telling(Trace(text.splitlines(keepends=True)), image, read_description(CORE), differing)
+    return Telling(Trace(text.splitlines(keepends=True)), image, read_description(CORE), differing, watched=watched)
 
 
 def bounds_check(**changes):
@@ -57,6 +58,20 @@ class Worked(unittest.TestCase):
         """Under `spectre` a fault casts no shadow: the load behind it shows the secret, in 16."""
         found = fault_shadow()
         self.assertEqual((held(found), found.shown), ({}, {(CODE + 0x14, "access"): (1, 16, 0)}))
+        self.assertIsNone(found.chain)
+
+    def test_chain(self):
+        """The address of the last load is made by the load of the secret, the shift and the sum, in this order; no other entry shows it."""
+        self.assertEqual(fault_shadow(watched=5).chain, (SECRET, (CODE + 8, CODE + 12, CODE + 16), 3))
+        self.assertIsNone(fault_shadow(watched=4).chain)
+
+    def test_long_chain(self):
+        """Of a long chain the last instructions are kept, and how many they were."""
+        chain = Chain(SECRET)
+        for place in range(MOST_OF_CHAIN + 3):
+            chain = chain.on(CODE + 4 * place)
+        self.assertEqual((chain.byte, chain.count, len(chain.last)), (SECRET, MOST_OF_CHAIN + 3, MOST_OF_CHAIN))
+        self.assertEqual((chain.last[0], chain.last[-1]), (CODE + 4 * 3, CODE + 4 * (MOST_OF_CHAIN + 2)))
 
     def test_other_bytes(self):
         """Where what differs isn't loaded, nothing is held on it."""

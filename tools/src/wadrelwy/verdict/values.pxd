@@ -30,7 +30,7 @@ cdef class Value(Retired):
 cpdef Retired retired(long long result, bint mark, chain=*)
 
 
-cpdef behind(chain, long long pc)
+cpdef handed_on(chain, long long pc)
 
 
 cpdef long long known(Retired value) except? -2

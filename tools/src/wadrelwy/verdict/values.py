@@ -85,7 +85,7 @@ def retired(result, mark, chain=None):
     return made
 
 
-def behind(chain, pc):
+def handed_on(chain, pc):
     """A chain with one instruction more, where there is one."""
     return None if chain is None else chain.on(pc)
 
@@ -174,7 +174,7 @@ class Valued(Pipeline):
             value.result, value.mark = 0, value.is_marked()
             self.found_mark = False
         if value.mark:
-            value.chain = behind(self.found_chain if self.found_mark else value.marked_chain(), value.pc)
+            value.chain = handed_on(self.found_chain if self.found_mark else value.marked_chain(), value.pc)
 
     def compare(self, item, event):
         """What an entry's issue tells has to be what is computed."""
@@ -188,7 +188,7 @@ class Valued(Pipeline):
         # what a JALR writes is its own address plus 4, wherever it goes
         value.mark = decoded.kind != JALR and value.is_marked()
         if value.mark:
-            value.chain = behind(value.marked_chain(), value.pc)
+            value.chain = handed_on(value.marked_chain(), value.pc)
         if decoded.has_value:
             value.result = decoded.value(a, b)
         elif decoded.is_branch:
@@ -219,7 +219,7 @@ class Valued(Pipeline):
             else:
                 number = number << 8 | store.stored >> 8 * (address - store.address) & 0xff
                 if store.two.mark:
-                    mark, self.found_chain = True, behind(store.two.chain, store.pc)
+                    mark, self.found_chain = True, handed_on(store.two.chain, store.pc)
         self.found_mark = mark
         return number
 
@@ -324,7 +324,7 @@ class Valued(Pipeline):
         if item.is_store and value.behind:
             self.memory.put_number(value.address, value.decoded.size, value.stored)
             if value.two.mark or self.marked_bytes:
-                self.mark_bytes(range(value.first, value.behind), value.two.mark, behind(value.two.chain, value.pc))
+                self.mark_bytes(range(value.first, value.behind), value.two.mark, handed_on(value.two.chain, value.pc))
         # younger values name this one: without its own sources the values of a long run aren't kept
         value.one = value.two = None
 
