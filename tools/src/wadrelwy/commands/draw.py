@@ -24,13 +24,14 @@ import os
 import sys
 import tempfile
 from concurrent.futures import ThreadPoolExecutor
+from functools import cache
 
 from wadrelwy import Fault, built_programs, statuses
 from wadrelwy.machine import words as asking
 from wadrelwy.sweep.results import Store
 from wadrelwy.verdict import certificates, certifying, drawing, published, ranges, report, secrecy, simulator
 from wadrelwy.verdict.certificate import MOST_RETIRED
-from wadrelwy.verdict.loaded import load
+from wadrelwy.verdict.loaded import Loaded, load
 from wadrelwy.verdict.patched import Patches
 from wadrelwy.verdict.secrecy import BRANCH
 from wadrelwy.view.description import read_description
@@ -52,6 +53,15 @@ def name_of(plan, run):
     build, file = run.origin.split("/")[-2:]
     several = len({other.base for other in plan.runs}) > 1
     return " ".join([file.removesuffix(".elf"), build, *[run.base] * several, *certificates.told_setting(plan, run)])
+
+
+@cache
+def of_one_output(path, memory, secret, streams, steps, values):
+    """Those values of a secret with which an image publishes what it does with its own, in so many steps: found once for all descriptions of one
+    memory."""
+    image = Loaded(path, *memory)
+    wanted = published.output(image, streams, steps)
+    return [value for value in values if published.is_published(published.with_value(image, secret, value), wanted)]
 
 
 class Drawing:
@@ -88,9 +98,9 @@ class Drawing:
         """Those values with which the program publishes what it does with the secret's own, in as many steps; all where no stream is public."""
         if not self.row.streams:
             return values
-        image, end = load(self.row.image, read_description(self.description)), self.row.answer.end
-        wanted = published.output(image, self.row.streams, end.retired if end else MOST_RETIRED * self.cycles)
-        return [value for value in values if published.is_published(published.with_value(image, self.secret, value), wanted)]
+        machine, end = read_description(self.description), self.row.answer.end
+        steps = end.retired if end else MOST_RETIRED * self.cycles
+        return of_one_output(self.row.image, (machine.base, machine.size, machine.misaligned), tuple(self.secret), self.row.streams, steps, tuple(values))
 
     def told(self, draws, seed):
         """The line of this run, and its status: whether it contradicts what is proved, or can't be tried."""
