@@ -1,6 +1,8 @@
 """Sweeps: descriptions with other values, plans, runs that go on where they stopped, lists of commands, tables and plots. The simulator is a
 stand-in whose cycles follow from what is set, so that each number here is made by hand."""
+import ast
 import csv
+import glob
 import hashlib
 import json
 import os
@@ -19,7 +21,7 @@ TOOLS = os.path.dirname(os.path.dirname(os.path.dirname(os.path.abspath(__file__
 ROOT = os.path.dirname(TOOLS)
 from wadrelwy import built_programs
 from wadrelwy.sweep import kept, lists, plots, results, settings
-from wadrelwy.view import Fault
+from wadrelwy.view import Fault, description
 
 PROGRAM = built_programs.simulator()
 DESCRIPTION = """# a core
@@ -122,6 +124,30 @@ class Settings(unittest.TestCase):
         for word in ("core.rob", "core.rob=", "=3", "core.rob=1,,2", "Core=1", "core.rob=" + "9" * 5000, "core.rob=\udcff", "core.rob=\u0661"):
             with self.subTest(word=word), self.assertRaises(Fault):
                 settings.asked(word)
+
+
+class Defences(unittest.TestCase):
+    """A defence has its name in one place of the package, and all that goes over defences follows that."""
+
+    def test_one_place_has_their_names(self):
+        for path in sorted(glob.glob(os.path.join(TOOLS, "src", "wadrelwy", "**", "*.py"), recursive=True)):
+            if not path.endswith(os.path.join("view", "description.py")):
+                with open(path, encoding="utf-8") as file:
+                    words = {node.value for node in ast.walk(ast.parse(file.read())) if isinstance(node, ast.Constant)}
+                self.assertEqual({word for word in words if isinstance(word, str) and word in description.DEFENCES} - {"stt"}, set(), path)
+
+    def test_each_under_both_models(self):
+        found = [(values["stt.model"], values["stt.defence"]) for values in settings.DEFENCES]
+        self.assertEqual(found[0], ("off", "stt"))
+        self.assertEqual(set(found[1:]), {(model, name) for model in ("spectre", "futuristic") for name in description.DEFENCES})
+        self.assertEqual(len(found), len(set(found)))
+        self.assertEqual([settings.told(values) for values in settings.DEFENCES[:5]], ["off", "spectre", "futuristic", "spectre+hold",
+                                                                                        "futuristic+hold"])
+
+    def test_each_has_a_colour_of_its_own(self):
+        looks = list(zip(plots.COLOURS, plots.DASHES))
+        self.assertLessEqual(len(plots.ORDER), len(looks))
+        self.assertEqual((len(set(plots.COLOURS)), len(looks)), (len(plots.COLOURS), len(plots.COLOURS)))
 
 
 class Files(Folder):

@@ -7,7 +7,7 @@ under settings.
     wadrelwy certify FOLDER
 
 Each program is asked under each description with each combination of the values that are set, as by wadrelwy sweep: --set
-stt.model=off,spectre; --defences is each model and defence: off, spectre, futuristic, and hold and delay under both. A secret is named as for
+stt.model=off,spectre; --defences is the model off, and each defence under both models that protect. A secret is named as for
 wadrelwy verdict; of several each image takes those whose symbols it has, and it has to have one. SOURCES is a folder whose Makefile
 builds each NAME.c of it, as that of examples/crypto does, into FOLDER/build/COMPILER-OLEVEL; a compiler that isn't there is left out, with a
 word on standard error. NAME is a part of a program's name.
@@ -35,7 +35,7 @@ import sys
 
 from wadrelwy import Fault, built_programs, statuses
 from wadrelwy.machine import words as asking
-from wadrelwy.sweep import plan, results, running
+from wadrelwy.sweep import plan, results, running, settings
 from wadrelwy.sweep.kept import write
 from wadrelwy.verdict import certificates, certifying
 
@@ -52,7 +52,7 @@ def words(parser):
     asking.public_streams(parser)
     parser.add_argument("--descriptions", nargs="+", default=[], metavar="DESCRIPTION")
     parser.add_argument("--set", action="append", default=[], metavar="KEY=VALUE,..")
-    parser.add_argument("--defences", action="store_true")
+    parser.add_argument("--defences", action="store_true", help=settings.TOLD)
     parser.add_argument("--cycles", type=int, default=4294967295, metavar="N")
     parser.add_argument("--jobs", type=int, default=len(os.sched_getaffinity(0)), metavar="N")
     parser.add_argument("--secrets-program", metavar="P")

@@ -4,9 +4,8 @@ or for each pair of images of your own.
     wadrelwy defences [--assembly D] [--large D] [--compiler gcc|clang|none] [--only NAME] [--set KEY=VALUE].. [--cycles N] [--program P]
     wadrelwy defences A B [A B].. [--large D] [--set KEY=VALUE].. [--cycles N] [--program P]
 
-Each victim is run with two secrets under seven settings: the model off; the defence stt under spectre and under futuristic; and the defences
-hold and delay under both. A cell says whether the two traces are equal, and in how many cycles the first run ends; behind it stands how many more that
-are than under off. `cut at N` says that the budget ended the run in cycle N, and `trap in N` that a trap did: what such a run costs isn't
+Each victim is run with two secrets under the model off, and under each defence with the models spectre and futuristic. A cell says whether
+the two traces are equal, and in how many cycles the first run ends; behind it stands how many more that are than under off. `cut at N` says that the budget ended the run in cycle N, and `trap in N` that a trap did: what such a run costs isn't
 known. `Promised` is where the premises of noninterference are met: yes, no, or under which models alone; off promises nothing.
 The programs in C that are no victims have rows too, of their cycles alone.
 
@@ -176,7 +175,7 @@ def ended(answer, end, cycles):
 
 
 def heading():
-    names = ["Victim", "Promised"] + [f"`{model}`" + ("" if defence == STT else f", `{defence}`") for model, defence in SETTINGS]
+    names = ["Victim", "Promised"] + [f"`{model}`" + (f", `{defence}`" if defence != STT else "") for model, defence in SETTINGS]
     return [row(names), row(["---"] * len(names)).replace(" ", "")]
 
 

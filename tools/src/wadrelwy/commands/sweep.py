@@ -5,7 +5,7 @@
     wadrelwy sweep FOLDER [--gather [--from FOLDER..]] [--copies]
 
 Each program is run under each description with each combination of the values that are set: --set core.rob=16,32,64 --set
-stt.model=off,spectre makes six runs of each. --defences is each model and defence: off, spectre, futuristic, and hold and delay under both. Before the
+stt.model=off,spectre makes six runs of each. --defences is the model off, and each defence under both models that protect. Before the
 first run each description and image is shown to the simulator: what it refuses is a row `refused K6`, and the others are run. FOLDER gets
 copies of the simulator, the images and the descriptions, whose names have their digests; a file for each run that is over; and at the end
 results.csv, results.json and the plots: bars.svg, the slowdown of each program under each defence, and curve-KEY.svg, the mean of the
@@ -31,7 +31,7 @@ import os
 import sys
 
 from wadrelwy import Fault, built_programs, statuses
-from wadrelwy.sweep import lists, plan, plots, results, running
+from wadrelwy.sweep import lists, plan, plots, results, running, settings
 from wadrelwy.sweep.kept import write
 
 MOST_NAMED = 20
@@ -42,7 +42,7 @@ def words(parser):
     parser.add_argument("--programs", nargs="+", default=[], metavar="IMAGE")
     parser.add_argument("--descriptions", nargs="+", default=[], metavar="DESCRIPTION")
     parser.add_argument("--set", action="append", default=[], metavar="KEY=VALUE,..")
-    parser.add_argument("--defences", action="store_true")
+    parser.add_argument("--defences", action="store_true", help=settings.TOLD)
     parser.add_argument("--cycles", type=int, default=4294967295, metavar="N")
     parser.add_argument("--jobs", type=int, default=len(os.sched_getaffinity(0)), metavar="N")
     parser.add_argument("--program", metavar="P")

@@ -7,10 +7,10 @@ from wadrelwy.view.description import OFF
 
 from . import results, settings
 
-ORDER = [settings.told(setting) for setting in settings.DEFENCES]
-COLOURS = ["#555555", "#2e86c1", "#c0392b", "#7fb3d5", "#e6a49c", "#1b4f72", "#7b241c"]
-# where curves lie on one another, each is seen in the gaps of the next
-DASHES = ["", "", "9 6", "3 4", "9 4 2 4", "14 5", "1 3"]
+# a colour and a dash for each defence: where curves lie on one another, each is seen in the gaps of the next
+ORDER = [settings.told(values) for values in settings.DEFENCES]
+COLOURS = ["#555555", "#2e86c1", "#c0392b", "#7fb3d5", "#e6a49c", "#1e8449", "#b9770e", "#82c9a0", "#e5c07b"]
+DASHES = ["none", "none", "9 6", "3 4", "9 4 2 4", "12 4", "2 3", "6 3 2 3 2 3", "1 5"]
 HEIGHT, LEFT, TOP, BOTTOM, RIGHT = 190, 58, 46, 44, 16
 BAR, BETWEEN, CURVE = 9, 14, 420
 # of names below bars: how they are turned, in degrees, how far below the axis they end, and how wide a character is at most
@@ -200,7 +200,7 @@ def panel(drawing, left, top, title, key, curves_of, told):
     for name, points in curves_of.items():
         dots = " ".join(f"{x(size):.1f},{scale.y(value):.1f}" for size, value in points)
         drawing.pieces.append(f'<polyline points="{dots}" fill="none" stroke="{colours[name]}" stroke-width="2" '
-                              f'stroke-dasharray="{DASHES[ORDER.index(name)] or "none"}"/>')
+                              f'stroke-dasharray="{DASHES[ORDER.index(name)]}"/>')
         for size, value in points:
             drawing.pieces.append(f'<circle cx="{x(size):.1f}" cy="{scale.y(value):.1f}" r="3" fill="{colours[name]}">'
                                   f"<title>{escape(f'{name}, {key} {size}: {told(value)}')}</title></circle>")

@@ -1,7 +1,7 @@
 """The verdict on one image and its secret bytes, as text."""
 from typing import NamedTuple, Optional
 
-from wadrelwy.view.description import Description, defence_beside, read_description
+from wadrelwy.view.description import Description, read_description
 from wadrelwy.view.disassembly import CALLERS, Disassembler
 from wadrelwy.view.trace import Trace
 
@@ -73,7 +73,7 @@ def steps_of(answer):
 def lines(case, notation=CALLERS):
     """The whole verdict, a line each."""
     shown, end = case.answer.shown, case.answer.end
-    yield report.row("description", f"{case.description}, model {case.machine.model}{defence_beside(case.machine.model, case.machine.defence)}")
+    yield report.row("description", f"{case.description}, {case.machine.told}")
     yield report.row("image", case.image.name)
     for number, each in enumerate(case.secret):
         yield report.row("" if number else "secret", told(case.image, each))
