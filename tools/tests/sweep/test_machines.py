@@ -34,6 +34,20 @@ class Parallel(Folder):
         self.assertEqual(self.parallel("--joblog", log, "--resume-failed").returncode, 0)
         self.assertEqual((self.sweep(self.out, "--gather").returncode, len(self.rows()), self.runs()), (0, 6, 9))
 
+    def test_a_file_for_each_slot(self):
+        """Results as lines of as many files as there are slots; a line that was cut is made again, and spoils none behind it."""
+        self.assertEqual(self.sweep(*self.words("--set", "core.rob=10,20,30", "--list")).returncode, 0)
+        words, log, out = "RESULTS=results/task_{%} sh -c {}", os.path.join(self.folder, "log"), os.path.join(self.out, "results")
+        self.assertEqual(self.parallel("--joblog", log, words, env={"KILL": "two"}).returncode, 3)
+        self.assertEqual((self.sweep(self.out, "--gather").returncode, len(self.rows()), self.runs()), (3, 3, 6))
+        self.assertLessEqual(set(os.listdir(out)), {"task_1", "task_2"})
+        name = os.path.join("out", "results", min(os.listdir(out)))
+        self.write(name, self.read(name)[:-20])
+        self.assertEqual(self.sweep(self.out, "--list").stdout.split()[0], "4")
+        self.assertEqual(self.parallel(words).returncode, 0)
+        self.assertEqual((self.sweep(self.out, "--gather").returncode, len(self.rows()), self.runs()), (0, 6, 10))
+        self.assertLessEqual(set(os.listdir(out)), {"task_1", "task_2"})
+
     def test_a_second_host(self):
         """Its ssh runs in another folder, where the archive was unpacked; the results come back by --from."""
         there = os.path.join(self.folder, "there")

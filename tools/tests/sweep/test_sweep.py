@@ -305,6 +305,27 @@ class Sweeps(Folder):
         self.assertIn("4 results came from", told.stdout)
         self.assertEqual(self.sweep(self.out, "--gather").returncode, 0)
 
+    def test_what_is_shown_of_many(self):
+        """Twenty lines of the summary, which stands in a file as a whole; bars of more than a hundred panels only where all is asked for."""
+        values = ",".join(map(str, range(4, 4 + plots.MOST_PANELS + 1)))
+        self.assertEqual(self.sweep(*self.words("--set", f"core.rob={values}", "--set", "stt.model=off,spectre", "--list")).returncode, 0)
+        with open(os.path.join(self.out, "plan.json"), encoding="utf-8") as file:
+            made = json.load(file)
+        for run in [dict(zip(made["columns"], run)) for run in made["runs"]]:
+            cycles = 100 if run["values"]["stt.model"] == "off" else 110
+            self.write(os.path.join("out", run["result"]), f"end exit 0 retired 500 cycles {cycles} of {os.path.basename(run['result'])}\n")
+        told = self.sweep(self.out, "--gather")
+        self.assertEqual((told.returncode, told.stdout.count("mean slowdown +10.0 %")), (0, 20))
+        self.assertIn(f"\nand {plots.MOST_PANELS - 19} more, in {self.out}/summary\n", told.stdout)
+        self.assertEqual(self.read("out/summary").count("mean slowdown +10.0 %"), plots.MOST_PANELS + 1)
+        self.assertIn("bars.svg is left out: it would have 101 panels; --plots all draws it\n", told.stdout)
+        for asked, there in (("all", {"bars.svg", "curve-core.rob.svg"}), ("some", {"curve-core.rob.svg"}), ("none", set())):
+            self.assertEqual(self.sweep(self.out, "--gather", "--plots", asked).returncode, 0)
+            self.assertEqual(self.svgs(), there, asked)
+
+    def svgs(self):
+        return {name for name in os.listdir(self.out) if name.endswith(".svg")}
+
     def test_nothing_mixed(self):
         """A folder goes on with what it was planned of, or not at all: another image, description or simulator is refused, and so is a copy
         that isn't what its name says."""

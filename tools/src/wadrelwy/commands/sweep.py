@@ -34,7 +34,8 @@ from wadrelwy import Fault, built_programs, statuses
 from wadrelwy.sweep import lists, plan, plots, results, running, settings
 from wadrelwy.sweep.kept import write
 
-MOST_NAMED = 20
+MOST_NAMED, MOST_LINES = 20, 20
+NONE, SOME, ALL = "none", "some", "all"
 
 
 def words(parser):
@@ -54,6 +55,7 @@ def words(parser):
     parser.add_argument("--tasks", type=int, metavar="N", help="of a job array")
     parser.add_argument("--minutes", type=int, metavar="N", help="that a task may take")
     parser.add_argument("--memory", type=int, metavar="MEGABYTES", help="that a task gets")
+    parser.add_argument("--plots", choices=(NONE, SOME, ALL), default=SOME, help=f"some, without it: all but bars of more than {plots.MOST_PANELS} panels")
     parser.add_argument("--from", dest="others", nargs="+", default=[], metavar="FOLDER", help="with --gather: copies of the folder")
 
 
@@ -96,30 +98,49 @@ def write_lists(made, asked):
         print(lists.pack(made, running.SWEEP, plan.PLAN, **options))
 
 
-def write_results(made):
+def write_results(made, asked):
     """Writes what is there, names what is missing, and answers the status."""
     found, missing = results.rows(made, running.SWEEP)
     files = {"results.csv": results.as_csv(found, made.keys, made.cited), "results.json": results.as_json(found, made.keys, made.cited)}
-    files |= plots.all_of(found)
+    files |= plots.all_of(found, asked.plots == ALL) if asked.plots != NONE else {}
+    lines = list(plots.summary(found))
+    files["summary"] = "".join(f"{line}\n" for line in [*lines, *results.other_ends(found), f"by {made.cited}"])
     for name, text in files.items():
         write(made.path(name), text.encode())
+    for name in {name for name in os.listdir(made.folder) if plots.FILES.fullmatch(name)} - files.keys():
+        remove(made.path(name))
     print(f"{len(found)} runs in {made.path('results.csv')}" + (f", {len(missing)} are missing" if missing else ""))
-    print(*plots.summary(found), *results.other_ends(found), f"by {made.cited}", sep="\n")
-    print(*(made.path(name) for name in files if name.endswith(".svg")), sep="\n")
+    print(*lines[:MOST_LINES], *more(lines, made.path("summary")), *results.other_ends(found), f"by {made.cited}", sep="\n")
+    print(*(made.path(name) for name in files if name.endswith(".svg")), *left_out(found, files, asked.plots), sep="\n")
     tell_missing(made, missing)
     ends = {row.end.split()[0] for row in found}
     return statuses.CUT if missing or ends & {"budget", "refused"} else statuses.TRAPPED if "trap" in ends else statuses.HOLDS
 
 
+def more(lines, file, most=MOST_LINES):
+    """That there are more lines than are shown, and where they stand."""
+    return [f"and {len(lines) - most} more, in {file}"] if len(lines) > most else []
+
+
+def left_out(found, files, asked):
+    """That bars are left out, where they are."""
+    if asked == SOME and "bars.svg" not in files and plots.panels(found) > plots.MOST_PANELS:
+        yield f"bars.svg is left out: it would have {plots.panels(found)} panels; --plots {ALL} draws it"
+
+
 def tell_missing(made, missing):
     """Names what is missing: the first on standard error, all in a file."""
-    lines = [f"{run.name}: {why} ({run.result})" for run, why in missing]
-    if lines:
-        write(made.path("missing"), "".join(f"{line}\n" for line in lines).encode())
-        more = [f"and {len(lines) - MOST_NAMED} more, in {made.path('missing')}"] if len(lines) > MOST_NAMED else []
-        print(*(f"wadrelwy sweep: missing: {line}" for line in lines[:MOST_NAMED] + more), sep="\n", file=sys.stderr)
-    elif os.path.exists(made.path("missing")):
-        os.remove(made.path("missing"))
+    lines, file = [f"{run.name}: {why} ({run.result})" for run, why in missing], made.path("missing")
+    if not lines:
+        remove(file)
+        return
+    write(file, "".join(f"{line}\n" for line in lines).encode())
+    print(*(f"wadrelwy sweep: missing: {line}" for line in lines[:MOST_NAMED] + more(lines, file, MOST_NAMED)), sep="\n", file=sys.stderr)
+
+
+def remove(path):
+    if os.path.exists(path):
+        os.remove(path)
 
 
 def main(asked):
@@ -133,7 +154,7 @@ def main(asked):
             print(f"{results.brought(made, running.SWEEP, asked.others)} results came from {', '.join(asked.others)}")
         if not asked.gather:
             running.Runner(made, asked.jobs).all()
-        return write_results(made)
+        return write_results(made, asked)
     except results.Refuted as refuted:
         print(f"wadrelwy sweep: refuted: {refuted}", file=sys.stderr)
         return statuses.REFUTED

@@ -16,7 +16,8 @@ STEPS_A_SECOND, LEAST_MINUTES, MEMORY = 50000, 5, 256
 
 RUN = """#!/bin/sh
 # Makes one run of this folder's plan: sh run NAME DESCRIPTION IMAGE, as `commands` has them. The result stands in results/NAME, or as a line of
-# the file $RESULTS, as a whole or not at all; where it is there, nothing is run. What is run is compared with the digest in its name first.
+# the file $RESULTS, which no two runs may have at one time; as a whole or not at all. Where it is there, nothing is run. What is run is
+# compared with the digest in its name first.
 # The status is that of the run: 0 it exited, 1 it trapped, 3 its budget ended it, each with a result; else there is none.
 name=$1 description=$2 image=$3 program={program}
 cd "$(dirname "$0")" || exit 2
@@ -47,6 +48,7 @@ if [ -z "$said" ]; then
   esac
   said="$said of $name"
   if [ -n "$RESULTS" ]; then
+    [ -s "$RESULTS" ] && [ -n "$(tail -c 1 "$RESULTS")" ] && printf '\\n' >> "$RESULTS"
     printf '%s\\n' "$said" >> "$RESULTS" || exit 7
   else
     part=results/$name.$$.part
@@ -71,8 +73,6 @@ ARRAY = """#!/bin/sh
 # and where it was ended it goes on, by the same command. The folder has to be there under this name, from where the job is submitted.
 RESULTS=results/{task}$SLURM_ARRAY_TASK_ID
 export RESULTS
-kept={folder}/$RESULTS
-[ -s "$kept" ] && [ -n "$(tail -c 1 "$kept")" ] && echo >> "$kept"
 failed=0
 while read -r line; do
   sh -c "$line" < /dev/null

@@ -1,6 +1,6 @@
 """Which runs there are: each program under each description under each combination of settings.
 
-A plan is a folder. `plan.json` has the runs, and a line by which they are cited; `images`, `programs` and `descriptions` have copies of all
+A plan is a folder. `plan.json` has the runs, a line each, and a line by which they are cited; `images`, `programs` and `descriptions` have copies of all
 that they are made of (module `kept`); `results` has a file for each run that is over. Its name has a digest of all that the run depends on:
 so a run isn't done twice, and none is taken for another."""
 import itertools
@@ -119,9 +119,11 @@ def make(folder, simulator, words, file=PLAN, more=lambda image: []):
 
 
 def keep(plan, file=PLAN):
-    """Writes a plan into its folder."""
-    kept = plan._replace(folder="", sources=[each._asdict() for each in plan.sources], runs=[run._asdict() for run in plan.runs])
-    write(plan.path(file), json.dumps(kept._asdict(), indent=1).encode())
+    """Writes a plan into its folder, a run a line."""
+    head = {"cycles": plan.cycles, "keys": plan.keys, "program": plan.program, "cited": plan.cited,
+            "sources": [each._asdict() for each in plan.sources], "columns": Run._fields}
+    runs = ",\n".join(json.dumps(run) for run in plan.runs)
+    write(plan.path(file), f'{json.dumps(head)[:-1]}, "runs": [\n{runs}\n]}}\n'.encode())
     return plan
 
 
@@ -129,7 +131,8 @@ def read(folder, file=PLAN):
     """The plan that a folder has in this file."""
     try:
         found = json.loads(content(os.path.join(folder, file)))
-        sources, runs = [Source(**each) for each in found["sources"]], [Run(**run) for run in found["runs"]]
+        sources, columns = [Source(**each) for each in found["sources"]], found["columns"]
+        runs = [Run(**dict(zip(columns, run, strict=True))) for run in found["runs"]]
         return Plan(folder, found["cycles"], found["keys"], found["program"], found["cited"], sources, runs)
     except (ValueError, KeyError, TypeError):
         raise Fault(f"{os.path.join(folder, file)}: no plan of these tools: give the whole command again") from None

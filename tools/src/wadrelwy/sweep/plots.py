@@ -1,5 +1,6 @@
 """Plots as SVG: the slowdown of each program under each defence, and curves over a size. Lengths are in pixels."""
 import math
+import re
 from collections import Counter
 from html import escape
 
@@ -12,6 +13,8 @@ ORDER = [settings.told(values) for values in settings.DEFENCES]
 COLOURS = ["#555555", "#2e86c1", "#c0392b", "#7fb3d5", "#e6a49c", "#1e8449", "#b9770e", "#82c9a0", "#e5c07b"]
 DASHES = ["none", "none", "9 6", "3 4", "9 4 2 4", "12 4", "2 3", "6 3 2 3 2 3", "1 5"]
 HEIGHT, LEFT, TOP, BOTTOM, RIGHT = 190, 58, 46, 44, 16
+MOST_PANELS = 100
+FILES = re.compile(r"bars\.svg|curve-.*\.svg")
 BAR, BETWEEN, CURVE = 9, 14, 420
 # of names below bars: how they are turned, in degrees, how far below the axis they end, and how wide a character is at most
 TURNED, BELOW, CHARACTER = 28, 14, 6.8
@@ -208,10 +211,16 @@ def panel(drawing, left, top, title, key, curves_of, told):
     return right
 
 
-def all_of(found):
-    """The plots that these rows allow, by the names of their files."""
+def panels(found):
+    """How many panels the bars of these rows have: descriptions, and what is set besides model and defence."""
+    return len(results.groups([row for row in found if row.slowdown is not None]))
+
+
+def all_of(found, whole=False):
+    """The plots that these rows allow, by the names of their files. Bars of more panels than one looks at are left out, unless the whole is
+    asked for."""
     files = {}
-    if any(row.slowdown is not None and row.defence != OFF for row in found):
+    if any(row.slowdown is not None and row.defence != OFF for row in found) and (whole or panels(found) <= MOST_PANELS):
         files["bars.svg"] = bars(found)
     for key in found[0].rest if found else ():
         sizes = {row.values[key] for row in found if row.exits}

@@ -167,7 +167,8 @@ def as_csv(found, keys, cited):
 
 
 def as_json(found, keys, cited):
-    return json.dumps(list(records(found, keys, cited)), indent=1) + "\n"
+    """A list with a record a line."""
+    return "[" + ",".join(f"\n{json.dumps(record)}" for record in records(found, keys, cited)) + "\n]\n"
 
 
 def mean(slowdowns):

@@ -53,8 +53,8 @@ class Checked:
     refused, and an image that its memory doesn't hold, are told, and make no runs. Of what is run it is asked, on the instruction set, what
     it costs and how it ends, where `steps` is such a command."""
 
-    def __init__(self, plan, jobs, asks=SWEEP, steps=True):
-        self.plan, self.asks, self.rams, self.notes = plan, asks, {}, {}
+    def __init__(self, plan, jobs, asks=SWEEP, steps=True, screen=sys.stderr):
+        self.plan, self.asks, self.rams, self.notes, self.screen = plan, asks, {}, {}, screen
         self.rams = {name: ram_of(plan, name) for name in {run.description for run in plan.runs}}
         with ThreadPoolExecutor(jobs) as pool:
             self.look(pool, {run.description: run for run in reversed(plan.runs)}, DESCRIPTION)
@@ -70,9 +70,13 @@ class Checked:
 
     def look(self, pool, runs, refusing):
         """Shows these runs to the program; the notes of those that are refused stand under their keys."""
-        for key, note in zip(runs, pool.map(lambda run: self.refused(run, refusing), runs.values())):
+        what, begun = {DESCRIPTION: "descriptions", IMAGE: "images"}[refusing], time.monotonic()
+        notes = pool.map(lambda run: self.refused(run, refusing), runs.values())
+        for done, (key, note) in enumerate(zip(runs, notes), 1):
             if note is not None:
                 self.notes[key] = note
+            tell(self.screen, f"{what} looked at", done, len(runs), time.monotonic() - begun)
+        clear(self.screen)
 
     def refused(self, run, refusing):
         words = [self.plan.path(self.plan.program), *self.asks.words(self.plan, run), "--cycles", "1"]
@@ -106,6 +110,19 @@ class Checked:
         return self.plan._replace(runs=list(self.runs()))
 
 
+def tell(screen, what, done, of, seconds):
+    """How far it is, where that is a terminal."""
+    if screen.isatty():
+        screen.write(f"\r{done} of {of} {what}, about {seconds / done * (of - done):.0f} s left   ")
+        screen.flush()
+
+
+def clear(screen):
+    if screen.isatty():
+        screen.write(f"\r{'':60}\r")
+        screen.flush()
+
+
 class Runner:
     """Runs what has no result yet. `screen` is where progress is told, if it is a terminal."""
 
@@ -125,12 +142,12 @@ class Runner:
             try:
                 for done, ended in enumerate(as_completed(waiting), 1):
                     ended.result()
-                    self.tell(done, len(left), time.monotonic() - begun)
+                    tell(self.screen, "runs", done, len(left), time.monotonic() - begun)
             except BaseException:
                 self.stop(waiting)
                 raise
             finally:
-                self.clear()
+                clear(self.screen)
         return len(left)
 
     def one(self, run):
@@ -158,13 +175,3 @@ class Runner:
             job.cancel()
         for child in list(self.children):
             child.terminate()
-
-    def tell(self, done, of, seconds):
-        if self.screen.isatty():
-            self.screen.write(f"\r{done} of {of} runs, about {seconds / done * (of - done):.0f} s left   ")
-            self.screen.flush()
-
-    def clear(self):
-        if self.screen.isatty():
-            self.screen.write(f"\r{'':50}\r")
-            self.screen.flush()
