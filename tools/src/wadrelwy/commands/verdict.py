@@ -1,8 +1,8 @@
 """May the traces of two images differ, and do they? Or of one image: is its trace one for every value of some bytes?
 
-    wadrelwy verdict DESCRIPTION A B [--cycles N] [--program P] [--secrets-program P2] [--notation abi|manual]
-    wadrelwy verdict DESCRIPTION A --secret SYMBOL[+OFFSET][:BYTES].. [--public-stream N].. [--all] [--cycles N] [--program P]
-                     [--secrets-program P2]
+    wadrelwy verdict DESCRIPTION A B [--set NAME=VALUE].. [--json] [--cycles N] [--program P] [--secrets-program P2] [--notation abi|manual]
+    wadrelwy verdict DESCRIPTION A --secret SYMBOL[+OFFSET][:BYTES].. [--public-stream N].. [--all] [..]
+    wadrelwy verdict DESCRIPTION A --secret SYMBOL[+OFFSET][:BYTES].. --value HEX [..]
 
 Says of two images under a machine description: do their codes and memories differ, and in which bytes; does the path load such a byte;
 are the premises of noninterference met (docs/theorems.md); are the traces equal, and if not, in which event they part; which
@@ -37,13 +37,25 @@ by marks of its own, without a claim.
 --public-stream 1 or 2 (both where it stands twice) says that what the program writes there is public from then on (docs/secrets.md, "Make
 something public"). The line `published` has how many bytes that was in this run, and which, by a run of the instruction set: the first 64.
 
+--value HEX makes B of A: the same image, in which the bytes of --secret, one range behind the other, have this value; then the verdict is that
+on the two. HEX is two digits for each byte, in the order of memory.
+
+--set gives a key of the description another value, as --set core.rob=64 --set stt.model=off; or bytes of the images, as --set
+key=00ff10 --set nonce+4:8=.. --set 0x10080=..: as many as the symbol has, as are asked for, or, at an address, as HEX has. It may stand
+several times. Where a symbol is called as a key of descriptions is, its address names it. The files stay as they are; what is told says what is set.
+
+--json writes one object in place of the lines, with all that they say: the verdict, the status, digests of files and programs, ends, places.
+
 N is 1000000 without --cycles. P is the simulator: without --program the variable STT_CLI, else crates/stt_cli/out/stt_cli. P2 is the program
 that looks for secrets: without --secrets-program the variable STT_SECRETS, else crates/stt_secrets/out/stt_secrets; where there is none, two
 images are judged without it. The notation is that of instructions: as compilers write them, or with numbers of registers and no aliases.
 docs/using.md, "Does my routine leak?", goes through an example."""
+import json
+import tempfile
+
 from wadrelwy import Fault, built_programs
 from wadrelwy.machine import words as asking
-from wadrelwy.verdict import certificate, judge, report
+from wadrelwy.verdict import certificate, given, judge, record, report
 from wadrelwy.view.disassembly import CALLERS, MANUAL
 
 
@@ -54,13 +66,16 @@ def words(parser):
     parser.add_argument("--secret", action="append", default=[], metavar="SYMBOL[+OFFSET][:BYTES]")
     asking.public_streams(parser)
     parser.add_argument("--all", action="store_true", help="of one image: list all that may show, without a claim")
-    parser.add_argument("--cycles", type=int, default=1000000)
+    parser.add_argument("--value", metavar="HEX", help="a second value of the secret: A and its copy with this value are compared")
+    parser.add_argument("--set", action="append", default=[], metavar="NAME=VALUE", help="a key of the description, or bytes of the images")
+    parser.add_argument("--json", action="store_true", help="one object in place of the lines")
+    asking.budget(parser, default=1000000)
     parser.add_argument("--program")
     parser.add_argument("--secrets-program")
     parser.add_argument("--notation", choices=(CALLERS, MANUAL), default=CALLERS)
 
 
-def of_one(asked):
+def of_one(asked, files):
     """The verdict on one image and its secrets."""
     program = built_programs.secrets(asked.secrets_program)
     if program is None:
@@ -68,26 +83,40 @@ def of_one(asked):
     simulator = built_programs.simulator(asked.program)
     if simulator is None and (asked.all or asked.program):
         raise Fault("no simulator: build it (docs/using.md, \"Before you start\"), or name it with --program")
+    asked.description, asked.one = (file.copy for file in files.files)
     case = certificate.case_of(program, asked, simulator)
-    print("\n".join(certificate.lines(case, asked.notation)))
+    tell(asked, files, case, certificate.lines(case, asked.notation), record.of_one, (program, simulator))
     return case.status()
 
 
-def of_two(asked):
+def of_two(asked, files):
     """The verdict on two images."""
     program = built_programs.simulator(asked.program)
     if program is None:
         raise Fault("no simulator: build it (docs/using.md, \"Before you start\"), or name it with --program")
     secrets = built_programs.secrets(asked.secrets_program)
-    case = judge.case_of(program, asked.description, asked.one, asked.two, asked.cycles, secrets)
-    print("\n".join(report.lines(case, asked.notation)))
+    case = judge.case_of(program, *(file.copy for file in files.files), asked.cycles, secrets)
+    tell(asked, files, case, report.lines(case, asked.notation), record.of_two, (program, secrets))
     return case.status()
+
+
+def tell(asked, files, case, lines, as_record, programs):
+    """Writes the verdict, as lines or as an object."""
+    lines = [files.told(line) for line in lines]
+    if asked.json:
+        lines = [json.dumps(as_record(case, files, asked.cycles, programs, lines), indent=1)]
+    print("\n".join(lines))
 
 
 def main(asked):
     if (asked.two is None) != bool(asked.secret):
         raise Fault("two images are asked for, or one with --secret")
     for name, value in (("--all", asked.all), ("--public-stream", asked.public_stream)):
-        if value and asked.two:
+        if value and (asked.two or asked.value is not None):
             raise Fault(f"{name} is of one image and its secret")
-    return of_two(asked) if asked.two else of_one(asked)
+    if asked.two and asked.value is not None:
+        raise Fault("--value is of one image and its secret: the second image is made of the first")
+    images = [asked.one, asked.two] if asked.two else [asked.one]
+    with tempfile.TemporaryDirectory() as folder:
+        files = given.of_words(asked.description, images, asked.set, asked.secret, asked.value, folder)
+        return given.asked(files, lambda: (of_two if len(files.images) == 2 else of_one)(asked, files))

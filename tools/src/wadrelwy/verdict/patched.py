@@ -27,12 +27,25 @@ class Patches:
         """The bytes of these ranges, one behind the other."""
         return bytes(self.content[self.place(address)] for each in ranges for address in each.addresses)
 
-    def write(self, path: str, ranges: list, value: bytes) -> str:
-        """Writes a copy with this value of the ranges' bytes."""
+    def put(self, ranges: list, value: bytes) -> None:
+        """Gives the ranges' bytes this value, in the copies that are written from then on."""
         content = bytearray(self.content)
         addresses = [address for each in ranges for address in each.addresses]
         for address, byte in zip(addresses, value, strict=True):
             content[self.place(address)] = byte
+        self.content = bytes(content)
+
+    def write(self, path: str, ranges: list, value: bytes) -> str:
+        """Writes a copy with this value of the ranges' bytes."""
+        own = self.content
+        self.put(ranges, value)
+        try:
+            return self.write_as(path)
+        finally:
+            self.content = own
+
+    def write_as(self, path: str) -> str:
+        """Writes a copy."""
         with open(path, "wb") as file:
-            file.write(content)
+            file.write(self.content)
         return path

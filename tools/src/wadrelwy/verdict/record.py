@@ -1,0 +1,106 @@
+"""A verdict as one object (`--json`): all that its lines say, with digests of what it is of, numbers as numbers, and places with their parts.
+Addresses are eight hexadecimal digits, as in the lines; `text` has the lines themselves."""
+from typing import Any, Optional, Sequence
+
+from wadrelwy.sweep.kept import digest
+from wadrelwy.view.disassembly import Disassembler
+from wadrelwy.view.trace import End
+
+from . import answered, certificate, report, secrecy, wrong_path
+from .given import File, Given
+from .wrong_path import Fate
+
+
+def of_file(file: File) -> dict:
+    """A file that was asked of: its sha256; where something is set in it what, and the sha256 of the copy that was asked of."""
+    found = {"file": file.named, "sha256": digest(file.named)}
+    return found | ({"set": file.values, "asked_sha256": digest(file.copy)} if file.values else {})
+
+
+def programs(paths: Sequence[Optional[str]]) -> list:
+    return [{"file": path, "sha256": digest(path)} for path in paths if path is not None]
+
+
+def place(pc: int, texts: Disassembler) -> dict:
+    """An instruction: where it stands, and what it is."""
+    image = texts.image
+    return {"address": f"{pc:08x}", "instruction": texts.text(pc), "symbol": image.symbol(pc) or None, "line": image.sources.told(pc) or None}
+
+
+def of_end(end: Optional[End]) -> Optional[dict]:
+    return {"end": end.how, "retired": end.retired, "cycles": end.cycles} if end else None
+
+
+def of_shown(shown: Optional[secrecy.Shown], texts: Disassembler) -> Optional[dict]:
+    """What shows first: which of an instruction, in which cycle, of which entry."""
+    if shown is None:
+        return None
+    return {"kind": shown.what, "what": secrecy.WHAT[shown.what], "cycle": shown.cycle, "entry": shown.serial} | place(shown.pc, texts)
+
+
+def of_fate(fate: Optional[Fate], texts: Disassembler) -> Optional[dict]:
+    """Whether it is on the path, or on a wrong one, and from where."""
+    if fate is None:
+        return None
+    behind = {name: place(pc, texts) for name, pc in (("behind", fate.pc), ("other", fate.other)) if pc is not None}
+    return {"kind": fate.kind, "told": wrong_path.sentence(fate, texts)} | behind
+
+
+def of_ranges(image: Any, addresses: Sequence[int]) -> list:
+    """Sorted addresses as ranges, each by its first and its last byte."""
+    found: list = []
+    for address in addresses:
+        if found and found[-1][1] + 1 == address:
+            found[-1][1] = address
+        else:
+            found.append([address, address])
+    return [{"first": f"{first:08x}", "last": f"{last:08x}", "bytes": last - first + 1, "symbol": image.symbol(first) or None}
+            for first, last in found]
+
+
+def described(case: Any, given: Given) -> dict:
+    return of_file(given.description) | {"model": case.machine.model, "defence": case.machine.defence}
+
+
+def of_one(case: "certificate.Case", given: Given, cycles: int, asked: Sequence[Optional[str]], lines: list) -> dict:
+    """The verdict on one image and its secret."""
+    texts, shown = Disassembler(case.image), case.answer.shown
+    return {
+        "verdict": case.word(), "status": case.status(), "goes_on": case.answer.is_cut, "meaning": answered.meaning(case.answer, case.touched),
+        "cycles": cycles, "description": described(case, given), "image": of_file(given.images[0]),
+        "secret": [range_ for each in case.secret for range_ in of_ranges(case.image, each.addresses)],
+        "public_streams": list(case.streams), "path": case.touched._asdict(), "run": of_end(case.answer.end),
+        "published": None if case.published is None else case.published.hex(),
+        "shown": of_shown(shown, texts), "fate": of_fate(case.fate, texts),
+        "all": None if case.all is None else [place(pc, texts) | {"what": what, "times": each.times, "cycle": each.cycle, "on_path": each.retired}
+                                              for (pc, what), each in case.all.items()],
+        "programs": programs(asked), "text": lines}
+
+
+def of_two(case: "report.Case", given: Given, cycles: int, asked: Sequence[Optional[str]], lines: list) -> dict:
+    """The verdict on two images."""
+    texts, premises = Disassembler(case.one), case.premises
+    images = [of_file(file) | (of_end(end) or {}) for file, end in zip(given.images, case.pair.ends)]
+    ended = None if premises.path.end is None else " ".join(str(part) for part in premises.path.end[:2])
+    return {
+        "verdict": case.word(), "status": case.status(), "goes_on": case.pair.is_cut, "meaning": report.MEANING[case.word()],
+        "cycles": cycles, "description": described(case, given), "A": images[0], "B": images[1],
+        "memory": of_ranges(case.one, premises.memory),
+        "code": {"one_entry": premises.one_entry, "differ": [f"{address:08x}" for address in premises.code]},
+        "path": {"steps": premises.path.steps, "end": ended, "loaded": len(premises.path.loads),
+                 "differ": [{"byte": f"{address:08x}", "first_by": place(pc, texts)} for address, pc in premises.shown.items()]},
+        "premises": {"met": case.met, "promised": case.promised}, "first_unequal_cycle": case.pair.unequal,
+        "one_run": of_asked(case.asked, texts),
+        "held": [place(pc, texts) | {"what": what, "times": held.times, "cycles": held.cycles, "dropped": held.dropped, "let_go_on": held.retired}
+                 for (pc, what), held in case.telling.held.items()],
+        "wrong_paths": {"loads": sum(case.telling.wrong_loads.values()), "values": case.telling.wrong_values},
+        "shown": [place(pc, texts) | {"what": what, "times": each.times, "cycle": each.cycle} for (pc, what), each in case.telling.shown.items()],
+        "programs": programs(asked), "text": lines}
+
+
+def of_asked(asked: secrecy.Asked, texts: Disassembler) -> dict:
+    """Whether the first one's run certifies the bytes that differ."""
+    answer = asked.answer
+    if answer is None:
+        return {"asked": False, "why": asked.why}
+    return {"asked": True, "shown": of_shown(answer.shown, texts), "run": of_end(answer.end)}
