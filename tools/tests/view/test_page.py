@@ -13,9 +13,10 @@ import zlib
 import support
 from programs import EXIT
 from test_pictures import panels
-from wadrelwy.riscv.encoding import addi, lw
-from wadrelwy.view import difference, drawing, page
+from wadrelwy.riscv.encoding import addi, blt, lw
+from wadrelwy.view import difference, drawing, page, whole
 from wadrelwy.view.drawing import STATES
+from wadrelwy.view.items import NEVER
 from wadrelwy.view.trace import Trace
 
 CHROMIUM = shutil.which("chromium") or shutil.which("chromium-browser")
@@ -69,6 +70,41 @@ def far_panels():
     runs = [support.fresh(support.modelled(described, image, 100), image, described) for image in images]
     marks = difference.first_unequal([Trace(iter(support.modelled(described, image, 100))) for image in images])
     return [drawing.Panel(title, run, disassembler, (1, 60), mark) for title, (run, disassembler), mark in zip("AB", runs, marks)]
+
+
+# a page of two whole runs: what it opens at, that few rows are drawn wherever it stands, how long a step takes, what is found and pinned
+WHOLE = """<script>addEventListener('load',()=>{const found={};const box=one=>{const it=one.getBoundingClientRect();return [it.left,it.top,it.right,it.bottom]};
+const rows=()=>wholes.map(whole=>[...whole.cells.querySelectorAll('g[data-row]')].map(row=>+row.dataset.row));
+const pause=()=>new Promise(done=>setTimeout(done,60));
+const settled=async()=>{await pause();for(const whole of wholes)await whole.draw();await pause()};
+const seen=whole=>{const all=box(whole.chart),head=whole.head();return rows()[wholes.indexOf(whole)].filter(row=>{const one=box(whole.rowOf(row,1).querySelector('.row'));
+return one[1]>=all[1]+head&&one[3]<=all[3]})};
+(async()=>{await ready;await settled();found.rows=wholes.map(whole=>whole.rows);found.opened=wholes.map(seen);found.sought=wholes.map(whole=>whole.sought);found.drawn=rows().map(all=>all.length);
+found.marked=wholes.map(whole=>{const row=[...document.querySelectorAll('.found')].find(one=>whole.cells.contains(one));return row?row.dataset.s:null});
+const one=wholes[0];leader=null;one.chart.scrollTop=one.chart.scrollHeight;one.chart.dispatchEvent(new Event('scroll'));await settled();
+found.last=Math.max(...rows()[0]);found.drawnThere=rows().map(all=>all.length);found.followed=one.chart.scrollLeft>1000;
+found.together=wholes.map(whole=>whole.from[whole.top]);
+await go('7');await settled();found.column=wholes.map(whole=>!whole.column.hidden&&box(whole.column)[0]>=box(whole.chart)[0]);found.atSeven=wholes.map(whole=>seen(whole).includes(whole.rowAt(7)));
+await go('#'+one.serial[one.rows-3]);await settled();found.serial=[...document.querySelectorAll('.found')].map(row=>row.dataset.s);
+await go('0x10004');const first=one.sought;await go('10004');found.next=[first,one.sought];found.places=[first,one.sought].map(row=>one.places[one.place[row]][0]);
+await go('nowhere');found.told=told.textContent;
+one.rowOf(one.sought,0).dispatchEvent(new MouseEvent('click',{bubbles:true}));found.pinned=pins.textContent;
+await go('#'+one.serial[one.rows-3]);await settled();await go('#5');await settled();found.kept=one.pinned.size;
+const key=async name=>{one.labels.dispatchEvent(new KeyboardEvent('keydown',{key:name,bubbles:true,cancelable:true}));await settled()};
+await key('ArrowDown');await key('Enter');found.keyed=pins.textContent.includes('A: a \u2014 6 ');await key('Escape');found.escaped=pins.textContent;
+found.numbers=[...one.numbers.querySelectorAll('span')].length;found.wide=document.documentElement.scrollWidth<=innerWidth;
+document.body.dataset.found=JSON.stringify(found);if(parent!==window)parent.postMessage(JSON.stringify(found),'*')})()})</script>"""
+
+
+def whole_panels():
+    """Two runs of some hundred instructions, a loop and then a load that finds another line, as pages of the whole."""
+    words = [[addi(6, 0, 20), addi(6, 6, -1), blt(0, 6, -4), *[addi(5, 0, 1)] * 220, lw(6, offset, 2), *[addi(5, 0, 1)] * 60, *EXIT] for offset in (0, -64)]
+    images = [support.image_of_words(f"whole_{side}", each) for side, each in enumerate(words)]
+    described = support.example("core.toml")
+    lines = [support.modelled(described, image, 1000) for image in images]
+    marks = difference.first_unequal([Trace(iter(each)) for each in lines])
+    return [whole.Whole(title, *support.fresh(each, image, described), (1, NEVER), mark)
+            for title, each, image, mark in zip("ab", lines, images, marks)]
 
 
 def browse(folder, path, width, option):
@@ -160,6 +196,28 @@ class Browser(unittest.TestCase):
                 self.assertEqual((found["away"]["rows"], found["away"]["top"]), ([False] * 2, 0))
                 self.assertGreater(found["linked"].pop("top"), 800)
                 self.assertEqual(found["linked"], seen)
+
+    def test_the_whole_of_a_run(self):
+        """Of 323 and more rows those in sight are drawn, wherever the page stands; what is gone to and pinned is there."""
+        both = whole_panels()
+        self.write(whole.page(both), WHOLE)
+        found = self.measured(1600)
+        self.assertTrue(all(rows >= 323 for rows in found["rows"]), found["rows"])
+        self.assertEqual(found["marked"], [str(panel.mark.serial) for panel in both])
+        for opened, sought, drawn in zip(found["opened"], found["sought"], found["drawn"]):
+            self.assertIn(sought, opened)
+            self.assertLessEqual(drawn, 300)
+        self.assertEqual(found["last"], found["rows"][0] - 1)
+        self.assertTrue(all(drawn <= 300 for drawn in found["drawnThere"]), found["drawnThere"])
+        self.assertTrue(found["followed"])
+        self.assertLess(abs(found["together"][0] - found["together"][1]), 4)
+        self.assertEqual((found["column"], found["atSeven"], found["serial"]), ([True] * 2, [True] * 2, [found["serial"][0]] * 2))
+        self.assertLess(found["next"][0], found["next"][1])
+        self.assertEqual(found["places"], ["00010004"] * 2)
+        self.assertRegex(found["told"], r"^nowhere isn’t on this page \(cycles 1 to \d+\)$")
+        self.assertRegex(found["pinned"], r"^A: a — \d+ 0001[0-9a-f]{4} ")
+        self.assertEqual((found["kept"], found["keyed"], found["escaped"], found["wide"]), (1, True, "", True))
+        self.assertGreater(found["numbers"], 5)
 
     def test_what_is_seen(self):
         """Of each width the colours of what the first rows do."""

@@ -4,7 +4,7 @@ under settings.
     wadrelwy certify FOLDER --programs IMAGE.. --secret SYMBOL.. --descriptions DESCRIPTION.. [--set KEY=VALUE,..].. [--defences]
                      [--public-stream N]..
     wadrelwy certify FOLDER --build SOURCES [--compilers gcc clang] [--levels 1 2] [--only NAME] --secret .. --descriptions .. [..]
-    wadrelwy certify FOLDER
+    wadrelwy certify FOLDER [--json]
 
 Each program is asked under each description with each combination of the values that are set, as by wadrelwy sweep: --set
 stt.model=off,spectre; --defences is the model off, and each defence under both models that protect. A secret is named as for
@@ -23,7 +23,8 @@ path loads none of the secret's bytes as they were before the run, as where it d
 address, a time, where a branch or jump goes, or what a call is asked for; the source's line, or function and offset; the cycle; and, where
 the simulator is there (--program, STT_CLI), whether the instruction is on the path, or on a wrong one and behind which branch, return or
 load that passed a store. A description that is refused is a cell `refused K6`. The table is written to standard output and to FOLDER/table.md; FOLDER/table.csv has a
-row for each run. With --together all builds of a program that have the same cells are one row of the table. Where it was stopped, the command that began it, or `wadrelwy certify FOLDER` alone, goes on: only what is missing is
+row for each run, and so has FOLDER/table.json, with the status of each and the sha256 of its image and description; --json writes that to
+standard output in place of the table. Where it was stopped, the command that began it, or `wadrelwy certify FOLDER` alone, goes on: only what is missing is
 asked. FOLDER has copies of all that was asked of. FOLDER alone is refused where an image, a description or the program isn't what it was;
 --copies goes on with those that the folder has. --build builds all images anew.
 
@@ -57,7 +58,7 @@ def words(parser):
     parser.add_argument("--jobs", type=int, default=len(os.sched_getaffinity(0)), metavar="N")
     parser.add_argument("--secrets-program", metavar="P")
     parser.add_argument("--program", metavar="P")
-    parser.add_argument("--together", action="store_true", help="one row for all builds of a program that have the same cells")
+    parser.add_argument("--json", action="store_true", help="one object in place of the table")
     parser.add_argument("--copies", action="store_true", help="go on with the folder's copies, whatever became of the files")
 
 
@@ -100,8 +101,9 @@ def main(asked):
     except results.Refuted as refuted:
         print(f"wadrelwy certify: refuted: {refuted}", file=sys.stderr)
         return statuses.REFUTED
-    table = f"{certificates.as_markdown(found, asked.together)}\nBy {made.cited}.\n"
-    for path, text in zip(certificates.files(asked.folder), (table, certificates.as_csv(found, made.keys, made.cited))):
+    table = f"{certificates.as_markdown(found)}\nBy {made.cited}.\n"
+    as_object = certificates.as_json(made, found)
+    for path, text in zip(certificates.files(asked.folder), (table, certificates.as_csv(found, made.keys, made.cited), as_object)):
         write(path, text.encode())
-    print(f"{table}\n{certificates.summary(found)}")
+    print(as_object if asked.json else f"{table}\n{certificates.summary(found)}\n", end="")
     return certificates.status(found)

@@ -7,10 +7,11 @@ from itertools import islice
 from typing import IO, Any, Generator, Iterator
 
 from wadrelwy import Fault, Unwritten
-from wadrelwy.view import annotate, compare, difference, drawing, index, konata, listing, numbers, o3, page, stack, stats, why
+from wadrelwy.view import annotate, compare, difference, drawing, index, konata, listing, numbers, o3, page, stack, stats, whole as whole_run, why
 from wadrelwy.view.description import read_description
 from wadrelwy.view.disassembly import CALLERS, KINDS, MANUAL, Disassembler
 from wadrelwy.view.image import Image
+from wadrelwy.view.items import NEVER
 from wadrelwy.view.replay import Replay
 from wadrelwy.view.trace import Progress, Trace, end_of, open_trace
 
@@ -61,6 +62,8 @@ def words(parser: argparse.ArgumentParser) -> None:
             sub.add_argument("--instructions", action="store_true", help="instructions, also where the image tells source lines")
         if name == "stack":
             sub.add_argument("--svg", action="store_true", help="bars as SVG in place of a table")
+        if name == "html":
+            sub.add_argument("--whole", action="store_true", help="all cycles in one page, which draws what is in sight")
         if name in ("svg", "html", "stack"):
             sub.add_argument("--title", action="append", metavar="TEXT", help="a title for each trace; its name if left out")
 
@@ -184,19 +187,20 @@ def lines_of_diff(inputs: Inputs) -> Generator[str, None, int]:
 
 def lines_of_picture(words: argparse.Namespace, inputs: Inputs) -> Iterator[str]:
     """A panel for each trace, over one span of cycles: by default some before the first unequal cycle, or the first ones."""
-    sides = range(len(inputs.names))
+    sides, whole = range(len(inputs.names)), words.what == "html" and words.whole
     marks = difference.first_unequal([inputs.trace(side) for side in sides]) if len(inputs.names) == 2 else None
-    first = words.first or (max(1, marks[0].cycle - drawing.BEFORE) if marks else 1)
-    last = words.last or first + drawing.SPAN - 1
-    panels = []
+    first = words.first or (max(1, marks[0].cycle - drawing.BEFORE) if marks and not whole else 1)
+    last = words.last or (NEVER if whole else first + drawing.SPAN - 1)
+    panels: list = []
     for side in sides:
         mark = marks[side] if marks else None
         replay = inputs.replay(side, first)
-        panels.append(drawing.Panel(inputs.title(side), replay, inputs.disassembler(side), (first, last), mark))
+        panel = whole_run.Whole if whole else drawing.Panel
+        panels.append(panel(inputs.title(side), replay, inputs.disassembler(side), (first, last), mark))
         panels[-1].facts = facts_of(inputs, side, replay, panels[-1].last)
         if replay.pipeline.cycle < first:
             raise Fault(f"--from {first} is behind the last cycle of the trace, {replay.pipeline.cycle}")
-    yield (page.page if words.what == "html" else drawing.picture)(panels)
+    yield (whole_run.page if whole else page.page if words.what == "html" else drawing.picture)(panels)
 
 
 def facts_of(inputs: Inputs, side: int, replay: Replay, last: int) -> list:

@@ -181,6 +181,15 @@ def as_csv(found, keys, cited):
     return out.getvalue()
 
 
+def as_json(plan, found):
+    """The table as one object: what it was made by and how far runs went, its status, and a record a row."""
+    digests = {run.id: {"image_sha256": digest(plan.path(run.image)), "description_sha256": digest(plan.path(run.description))} for run in plan.runs}
+    given = [record(row, plan.keys, plan.cited) | {"status": row.status()} | digests[row.id] for row in found]
+    head = {"made_by": plan.cited, "program_sha256": digest(plan.path(plan.program)), "cycles": plan.cycles, "status": status(found),
+            "summary": summary(found)}
+    return json.dumps(head)[:-1] + ', "rows": [' + ",".join(f"\n{json.dumps(each)}" for each in given) + "\n]}\n"
+
+
 def cell(row):
     """The verdict, with how many of the bytes are written over before they are loaded, and how many are published; or what shows:
     ``address, `table.c:9`, cycle 106``."""
@@ -245,4 +254,4 @@ def status(found):
 
 def files(folder):
     """The files of the table."""
-    return os.path.join(folder, "table.md"), os.path.join(folder, "table.csv")
+    return tuple(os.path.join(folder, f"table.{ending}") for ending in ("md", "csv", "json"))

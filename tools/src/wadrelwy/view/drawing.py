@@ -91,6 +91,13 @@ class Panel:
             self.chart_width = max(self.chart_width, len(self.mark_told()) * CHARACTER + MARGIN)
         self.height = TOP + ROW * len(self.items) + FOOT
 
+    def names(self):
+        """The names of what it shows."""
+        return {name for item in self.items for _, _, name in spans_of(item, self.last + 1)}
+
+    def has_outcomes(self):
+        return any(item.outcome for item in self.items)
+
     def only_symbol(self):
         """The symbol in which all instructions stand, where it is one: it needn't be told of each."""
         symbols = {self.disassembler.image.function(item.pc) for item in self.items} - {""}
@@ -117,15 +124,18 @@ class Panel:
 
     def labels_drawn(self):
         """The column of instructions, those that were squashed struck through."""
-        lines = []
-        for row, (item, label) in enumerate(zip(self.items, self.whole_labels if self.named_rows else self.labels)):
-            struck, y = ' class="struck"' if item.squashed is not None else "", self.y(row) + 11
-            lines.append(f'<g class="label" data-row="{row}" role="button" tabindex="-1" aria-pressed="false">' if self.named_rows else "")
-            if item.serial >= 0:
-                lines.append(f'<text class="serial" x="{MARGIN + SERIAL - 6}" y="{y}">{item.serial}</text>')
-            lines.append(f'<text{struck} x="{MARGIN + SERIAL}" y="{y}">{escape(label)}</text>' + "</g>" * self.named_rows)
+        labels = self.whole_labels if self.named_rows else self.labels
+        lines = [line for row, (item, label) in enumerate(zip(self.items, labels)) for line in self.label_drawn(row, item, label)]
         lines.append(f'<text class="faint" x="{MARGIN}" y="{self.y(len(self.items)) + 14}">lines that come to the cache</text>')
         return "\n".join(filter(None, lines))
+
+    def label_drawn(self, row, item, label):
+        """An instruction's serial and its text."""
+        struck, y = ' class="struck"' if item.squashed is not None else "", self.y(row) + 11
+        yield f'<g class="label" data-row="{row}" role="button" tabindex="-1" aria-pressed="false">' if self.named_rows else ""
+        if item.serial >= 0:
+            yield f'<text class="serial" x="{MARGIN + SERIAL - 6}" y="{y}">{item.serial}</text>'
+        yield f'<text{struck} x="{MARGIN + SERIAL}" y="{y}">{escape(label)}</text>' + "</g>" * self.named_rows
 
     def chart_drawn(self, framed=True):
         """The grid, the rows, the lines that come, and the frame of the first unequal cycle, with what is told of it where it is asked for."""
@@ -233,7 +243,7 @@ def shortened(label):
 
 def used(panels):
     """The names of what the pictures show, in the legend's order."""
-    names = {name for panel in panels for item in panel.items for _, _, name in spans_of(item, panel.last + 1)}
+    names = {name for panel in panels for name in panel.names()}
     return [name for name in STATES if name in names]
 
 
@@ -259,7 +269,7 @@ def legend(panels, width):
                      f'<text class="letter" fill="{dark}" x="{x + CELL / 2}" y="{y + 10}">{letter}</text>'
                      f'<text x="{x + CELL + 6}" y="{y + 10}">{text}</text>')
     rows = -(-len(told) // columns)
-    if any(item.outcome for panel in panels for item in panel.items):
+    if any(panel.has_outcomes() for panel in panels):
         parts.append(f'<text class="faint" x="{MARGIN}" y="{rows * LEGEND_ROW + 12}">{OUTCOMES}</text>')
         rows += 1
     return "\n".join(parts), rows * LEGEND_ROW + MARGIN

@@ -1,7 +1,5 @@
-// What the page of `view html` does: panels move together, labels are widened, one goes to a cycle, an instruction or a function, rows are
-// pinned.
-// CELL and ROW, the width of a cycle and the height of a row in pixels, stand before this.
-const charts = [...document.querySelectorAll('.chart')];
+// What the page of `view html` does: panels move together, one goes to a cycle, an instruction or a function, rows are pinned.
+// CELL and ROW, the width of a cycle and the height of a row in pixels, and labels.js stand before this.
 const pins = document.getElementById('pins'), told = document.getElementById('told');
 
 // ---- panels move together: the one that is moved leads, until it has stood still for a moment
@@ -66,26 +64,6 @@ for (const chart of charts) {
 document.addEventListener('keydown', event => {
   if (event.key === 'Escape') for (const row of document.querySelectorAll('.pinned')) pin(row);
 });
-
-// ---- labels are made wider and narrower, by the buttons or by the corner above them
-function widen(chart, width) {
-  const whole = parseFloat(chart.style.getPropertyValue('--whole'));
-  chart.classList.add('widened');
-  chart.style.setProperty('--labels', Math.round(Math.max(80, Math.min(whole, width))) + 'px');
-}
-function widthOf(chart) { return chart.querySelector('.labels').getBoundingClientRect().width; }
-function scaled(by) { for (const chart of charts) widen(chart, widthOf(chart) * by); }
-document.getElementById('wider').addEventListener('click', () => scaled(1.3));
-document.getElementById('narrower').addEventListener('click', () => scaled(1 / 1.3));
-for (const chart of charts) {
-  const corner = chart.querySelector('.corner');
-  corner.addEventListener('pointerdown', event => {
-    const from = event.clientX, width = widthOf(chart);
-    corner.setPointerCapture(event.pointerId);
-    corner.onpointermove = moved => widen(chart, width + moved.clientX - from);
-    corner.onpointerup = corner.onpointercancel = () => { corner.onpointermove = null; };
-  });
-}
 
 // ---- where one goes to
 function show(chart, cycle, row) {

@@ -18,17 +18,22 @@ def beside(name):
 
 def page(panels):
     """The page of one or two panels."""
-    title = " / ".join(panel.title for panel in panels)
     for panel, letter in zip(panels, "AB" if len(panels) > 1 else [""]):
         panel.named_rows, panel.letter = True, letter
-    script = f"const CELL = {CELL}, ROW = {ROW};\n{beside('page.js')}"
+    return framed(panels, map(panel_drawn, panels), "page.js")
+
+
+def framed(panels, drawn, script, more=""):
+    """The page around its panels: what stands above and below them, and what it does."""
+    title = " / ".join(panel.title for panel in panels)
+    script = f"const CELL = {CELL}, ROW = {ROW};\n{beside('labels.js')}\n{beside(script)}"
     return "\n".join([
         '<!DOCTYPE html>', '<html lang="en"><head><meta charset="utf-8">', '<meta name="viewport" content="width=device-width, initial-scale=1">',
         f"<title>{escape(title)}</title>", f"<style>{STYLE}\n{beside('page.css')}</style></head><body>",
         '<form><input id="where" placeholder="cycle, #serial, function" aria-label="cycle, #serial, function or address">'
         '<button>Go</button><span>labels <button type="button" id="narrower" aria-label="narrower labels">&#8722;</button> '
-        '<button type="button" id="wider" aria-label="wider labels">+</button></span><span id="told"></span></form>',
-        '<div class="panels">', *map(panel_drawn, panels), "</div>",
+        f'<button type="button" id="wider" aria-label="wider labels">+</button></span>{more}<span id="told"></span></form>',
+        '<div class="panels">', *drawn, "</div>",
         legend(panels), '<div id="pins"></div>', f"<script>{script}</script>", "</body></html>"])
 
 
@@ -38,7 +43,7 @@ def legend(panels):
     for letter, colour, dark, text in entries(panels):
         colours.setdefault(colour, []).append(f'<span style="background:{colour};color:{dark}">{escape(letter)}</span>{escape(text)}')
     items = [f"<li>{''.join(told)}</li>" for told in colours.values()]
-    outcomes = f"<p>{escape(OUTCOMES)}</p>" if any(item.outcome for panel in panels for item in panel.items) else ""
+    outcomes = f"<p>{escape(OUTCOMES)}</p>" if any(panel.has_outcomes() for panel in panels) else ""
     return f'<ul class="legend">{"".join(items)}</ul>{outcomes}'
 
 
@@ -47,9 +52,14 @@ def panel_drawn(panel):
     head, rest, labels, chart = TOP - 6, panel.height, panel.whole_width, panel.chart_width
     parts = [svg(CORNER, labels, head, ABOVE, "corner"), svg(panel.numbers_drawn(TOP - 12), chart, head, ABOVE, "numbers"),
              svg(panel.labels_drawn(), labels, rest, head, "labels"), svg(column(panel) + panel.chart_drawn(framed=False), chart, rest, head)]
+    return headed(panel, parts)
+
+
+def headed(panel, parts):
+    """A panel's heading, and its chart of four parts."""
     title = f"{panel.letter}: {panel.title}" if panel.letter else panel.title
     told = "".join(f"<p>{escape(text)}</p>" for text in (*panel.facts, panel.subtitle))
-    widths = f"--labels:{panel.label_width:.0f}px;--whole:{labels:.0f}px"
+    widths = f"--labels:{panel.label_width:.0f}px;--whole:{panel.whole_width:.0f}px"
     return (f'<div class="panel"><h2>{escape(title)}</h2>{told}{mark_linked(panel)}\n'
             f'<div class="chart" style="{widths}" data-title="{escape(title if panel.letter else "")}" data-first="{panel.first}" '
             f'data-last="{panel.last}"{mark_named(panel)}>{"".join(parts)}</div></div>')
