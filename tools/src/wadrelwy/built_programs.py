@@ -5,6 +5,8 @@ from typing import Iterator, Optional
 from wadrelwy import Fault
 
 ROOT = os.path.dirname(os.path.dirname(os.path.dirname(os.path.dirname(os.path.realpath(__file__)))))
+# whether the package stands in a tree of the project; an installed one doesn't
+IN_TREE = os.path.isfile(os.path.join(ROOT, "tools", "pyproject.toml"))
 SIMULATOR, SECRETS = "stt_cli", "stt_secrets"
 OTHER = {SIMULATOR: SECRETS, SECRETS: SIMULATOR}
 BUILD = {SIMULATOR: 'docs/using.md, "Before you start"', SECRETS: 'docs/secrets.md, "Before you ask"'}
@@ -20,14 +22,15 @@ def beside(name: str, other: str) -> Iterator[str]:
 
 def places(name: str, named: Optional[str]) -> Iterator[str]:
     """Where a program is looked for: the one that is named alone; else that of its variable (STT_CLI, STT_SECRETS) alone; else beside
-    that of the other's variable, and the built one of this tree."""
+    that of the other's variable, and the built one of the tree that this package is of."""
     if named or os.environ.get(name.upper()):
         yield named or os.environ[name.upper()]
         return
     other = os.environ.get(OTHER[name].upper())
     if other:
         yield from beside(name, os.path.abspath(other))
-    yield os.path.join(ROOT, "crates", name, "out", name)
+    if IN_TREE:
+        yield os.path.join(ROOT, "crates", name, "out", name)
 
 
 def program(name: str, named: Optional[str] = None) -> Optional[str]:
@@ -54,6 +57,6 @@ def needed(name: str, named: Optional[str] = None) -> str:
     """The program of this name; a refusal where there is none, with the places where it was looked for."""
     found = program(name, named)
     if found is None:
-        raise Fault(f"no program {name} at {' or '.join(places(name, named))}: build it ({BUILD[name]}), or name it by --program or "
-                    f"{name.upper()}")
+        looked = " or ".join(places(name, named))
+        raise Fault(f"no program {name}{f' at {looked}' if looked else ''}: build it ({BUILD[name]}), or name it by --program or {name.upper()}")
     return found

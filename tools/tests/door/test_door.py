@@ -1,4 +1,5 @@
 """The one door: what it lists, the help and the refusals of each command, where the built programs are looked for, and the statuses."""
+import ast
 import os
 import re
 import subprocess
@@ -11,6 +12,8 @@ import support
 from wadrelwy import built_programs, statuses
 from wadrelwy.__main__ import COMMANDS, main
 from wadrelwy.commands.view import SUBCOMMANDS
+from wadrelwy.verdict import answered, report, secrecy, touched
+from wadrelwy.view.trace import End
 
 # the developers' commands, which have a help of their own
 DEVELOPERS = [os.path.join(support.ROOT, "tools", *name.split("/")) for name in (
@@ -156,6 +159,69 @@ class Statuses(unittest.TestCase):
             section = file.read().split("\n## Statuses of the tools\n")[1].split("\n## ")[0]
         rows = {int(number) for row in re.findall(r"(?m)^\| (\d[^|]*) \|", section) for number in re.findall(r"\d+", row)}
         self.assertEqual(rows, {value for name, value in vars(statuses).items() if name.isupper() and isinstance(value, int)})
+
+
+class Table(unittest.TestCase):
+    """Each row of docs/using.md, "Statuses of the tools", is what the commands do: their words, their statuses, which is the worst."""
+
+    # the words of answers about secrets: (what shows, how the run ended, what is published, how many bytes are loaded)
+    ENDS = ("exit 0", "exit 1", "budget", "trap 5 00010004")
+    # of the built programs, which the commands pass on (docs/formats.md, "Statuses"); and of signals
+    PASSED = {"run": {1, 3, 4, 5, 6, 8, 128}, "trace": {1, 3, 4, 5, 6, 8, 128}, "isa": {1, 3, 4, 5, 6, 8, 128}, "bench": {1, 3, 4, 6, 8, 128},
+              "pair": {1, 4, 5, 6, 8, 128}, "secrets": {1, 3, 4, 5, 6, 8, 128}}
+
+    def setUp(self):
+        with open(os.path.join(support.ROOT, "docs", "using.md"), encoding="utf-8") as file:
+            section = file.read().split("\n## Statuses of the tools\n")[1].split("\n## ")[0]
+        cells = [[cell.strip() for cell in line.strip("|").split(" | ")] for line in section.splitlines() if re.match(r"\| \d", line)]
+        self.rows = {int(number): (answers, commands, worst) for number, answers, commands, worst in cells}
+
+    def of(self, command):
+        """The statuses whose rows name a command."""
+        return {number for number, (_, commands, _) in self.rows.items() if f"`{command}`" in commands}
+
+    def answers(self):
+        """Each answer about secret bytes: its word, with N for numbers, and its status."""
+        shown = secrecy.Shown(15, "access", 6, 0x10018)
+        yield answered.word(secrecy.Answer(shown, None), None), answered.status(secrecy.Answer(shown, None), None)
+        for how in self.ENDS:
+            for published in (None, 4):
+                for loaded in (0, 1):
+                    answer = secrecy.Answer(None, End("", how, 5, 21), published)
+                    found = touched.Touched(1, loaded, 0)
+                    yield re.sub(r"\d+", "N", answered.word(answer, found)), answered.status(answer, found)
+
+    def test_words(self):
+        told = {word: number for number, (answers, _, _) in self.rows.items() for word in re.findall("`([^`]+)`", answers)}
+        for word, status in report.STATUS.items():
+            self.assertEqual(told.get(word), status, word)
+        plain = {"certified", "certified for what is published", "certified in the first N cycles", "certified, exit N",
+                 "certified, to a trap in cycle N", "vacuous", "exposed"}
+        found = {word: status for word, status in self.answers() if word in plain}
+        self.assertEqual(set(found), plain)
+        for word, status in found.items():
+            self.assertEqual(told.get(word), status, word)
+
+    def test_commands(self):
+        """Those of the answers about secrets; of tables; and of the built programs."""
+        secret = {status for _, status in self.answers()} - {statuses.HOLDS}
+        self.assertEqual(self.of("certify"), secret | {statuses.REFUTED})
+        self.assertEqual(self.of("verdict"), secret | set(report.STATUS.values()) - {statuses.HOLDS})
+        for command in ("draw", "defences", "sweep"):
+            with open(os.path.join(support.ROOT, "tools", "src", "wadrelwy", "commands", f"{command}.py"), encoding="utf-8") as file:
+                used = {getattr(statuses, node.attr) for node in ast.walk(ast.parse(file.read()))
+                        if isinstance(node, ast.Attribute) and isinstance(node.value, ast.Name) and node.value.id == "statuses" and node.attr.isupper()}
+            self.assertEqual(self.of(command), used - {statuses.HOLDS}, command)
+        for command, passed in self.PASSED.items():
+            self.assertEqual(self.of(command), passed, command)
+        self.assertEqual({number for number, (_, commands, _) in self.rows.items() if commands == "all"}, {0, 2, 7, 130})
+        named = {word.split()[0] for _, commands, _ in self.rows.values() for word in re.findall("`([^`]+)`", commands)}
+        self.assertLessEqual(named, set(COMMANDS))
+
+    def test_worst(self):
+        order = {number: int(worst) for number, (_, _, worst) in self.rows.items() if worst}
+        self.assertEqual(sorted(order, key=order.get), list(statuses.WORST_FIRST))
+        self.assertEqual(sorted(order.values()), list(range(1, len(order) + 1)))
 
 
 if __name__ == "__main__":

@@ -228,6 +228,8 @@ def notes(rows):
 def victims_of(asked, folder):
     if asked.images:
         return own(asked.images, asked.large)
+    if not built_programs.IN_TREE:
+        raise Fault("the victims stand in the tree's examples, and this command is installed without them: name images, A B, and --large")
     victims = [*in_assembly(asked.assembly, folder), *(in_c(asked.large, asked.compiler, folder) if asked.compiler != "none" else [])]
     return [victim for victim in victims if asked.only in victim.name]
 

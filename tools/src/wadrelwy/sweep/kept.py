@@ -6,6 +6,7 @@ import re
 import shutil
 import subprocess
 from functools import cache
+from importlib import metadata
 from typing import NamedTuple
 
 from wadrelwy import built_programs
@@ -113,11 +114,25 @@ def said_by(*words, folder=None):
 
 
 def cited(program, name):
-    """The line by which a table is cited: the program by its sha256, the kit's line, and the commit of this tree, where there is one."""
+    """The line by which a table is cited: the program by its sha256; the kit's line, and the commit of the tree that this package is of, where
+    there is one. An installed package has no tree, and is told by its version."""
+    return f"{name} sha256 {sha256(content(program))}, " + (of_tree() if built_programs.IN_TREE else f"tools {installed()}")
+
+
+def of_tree():
     commit = said_by("git", "-C", built_programs.ROOT, "rev-parse", "--short=12", "HEAD")
     edited = commit and said_by("git", "-C", built_programs.ROOT, "status", "--porcelain", "--untracked-files=no")
     kit = said_by("rt", "version")
     if kit is None:
         found = re.search(r"(?m)^Handles: .*`(rattle-\S+ [^`]*)`", text(os.path.join(built_programs.ROOT, "README.md")))
         kit = found[1] if found else "unknown"
-    return f"{name} sha256 {sha256(content(program))}, kit {kit}, commit {commit or 'none'}" + (" with edits" if edited else "")
+    return f"kit {kit}, commit {commit or 'none'}" + (" with edits" if edited else "")
+
+
+def installed():
+    """The version of the package, and of its sources a sha256: two installed ones of one version needn't be one."""
+    folder = os.path.dirname(os.path.dirname(os.path.abspath(__file__)))
+    names = sorted(os.path.relpath(os.path.join(where, name), folder) for where, _, found in os.walk(folder) for name in found
+                   if name.endswith((".py", ".js", ".css")))
+    sources = "".join(f"{name} {sha256(content(os.path.join(folder, name)))}\n" for name in names)
+    return f"{metadata.version('wadrelwy')}, sources sha256 {sha256(sources.encode())[:DIGITS]}"
