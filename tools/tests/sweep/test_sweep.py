@@ -483,6 +483,14 @@ class Plots(Folder):
         self.assertGreater(heights[0][1], 100)
 
 
+    def test_all_panels_have_one_scale(self):
+        """A bar of 40 % in one panel is a hundred times as high as one of 0.4 % in another."""
+        row = results.Row("p", "d", {}, "spectre", "exit 0", 10, 90, 0.4)
+        drawn = plots.bars([row, row._replace(description="e", slowdown=0.004)])
+        heights = [float(height) for height in re.findall(r'width="8.0" height="([\d.]+)" fill="#2e86c1"><title>p,', drawn)]
+        self.assertEqual(len(heights), 2)
+        self.assertAlmostEqual(heights[0] / heights[1], 100, delta=8)
+
     def test_long_names_are_in_the_picture(self):
         """Turned names end below their bars: neither the left edge nor the bottom, nor the panel below, cuts them."""
         row = results.Row("clang-O0/b64_ct_with_a_long_name_of_its_own", "d", {}, "off", "exit 0", 10, 90, 0.0)

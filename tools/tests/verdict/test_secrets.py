@@ -1,6 +1,8 @@
 """Secrets by name, certificates and tables of them (docs/secrets.md): texts by stand-ins, and what the program says of small images."""
 import csv
 import glob
+import hashlib
+import json
 import os
 import re
 import shutil
@@ -369,6 +371,21 @@ class Table(unittest.TestCase):
             rows = list(csv.DictReader(file))
         self.assertEqual([(row["stt.model"], row["verdict"], row["cycles"], row["what"], row["address"]) for row in rows],
                          [("off", "exposed", "15", "address", "00010018"), ("spectre", "certified", "21", "", "")])
+
+    def test_object(self):
+        """The table as one object, in a file and on standard output, with what each answer is of."""
+        told = self.certify(*self.words("--set", "stt.model=off,spectre", "--json"))
+        self.assertEqual((told.returncode, told.stderr), (1, ""))
+        with open(os.path.join(self.folder, "table.json"), encoding="utf-8") as file:
+            self.assertEqual(file.read(), told.stdout)
+        found = json.loads(told.stdout)
+        self.assertEqual((found["status"], found["cycles"], found["summary"]), (1, 4294967295, "1 certified, 1 exposed"))
+        self.assertRegex(found["made_by"], rf"^table_stand_in sha256 {found['program_sha256']}, ")
+        self.assertEqual([(row["stt.model"], row["verdict"], row["status"], row["cycles"], row["address"]) for row in found["rows"]],
+                         [("off", "exposed", 1, 15, "00010018"), ("spectre", "certified", 0, 21, "")])
+        with open(loading(), "rb") as file:
+            self.assertEqual({row["image_sha256"] for row in found["rows"]}, {hashlib.sha256(file.read()).hexdigest()})
+        self.assertEqual(len({row["description_sha256"] for row in found["rows"]}), 2)
 
     def test_goes_on(self):
         """What has been asked isn't asked again, by the folder alone either."""

@@ -1,5 +1,6 @@
 """Images: code as loaded, and symbols (docs/formats.md, "Placing" and "Code"); descriptions; texts of instructions."""
 import shutil
+import struct
 import unittest
 
 import support
@@ -68,6 +69,9 @@ class Code(unittest.TestCase):
         self.assertEqual(image.function_named("Table<unsigned char, 4>::at"), image.function(0x10000))
         self.assertEqual(image.function_named("main"), "main")
         self.assertEqual(named_among(["_Z3fooi", "foo"], "foo"), "foo")
+        self.assertEqual(named_among(["verify.constprop.0", "verified"], "verify"), "verify.constprop.0")
+        with self.assertRaisesRegex(Fault, r"has several of `verify`: verify.constprop.0; verify.part.1"):
+            named_among(["verify.constprop.0", "verify.part.1"], "verify")
         with self.assertRaisesRegex(Fault, r"has several of `foo`: foo\(int\); foo\(long\)"):
             image.function_named("foo")
 
@@ -77,6 +81,20 @@ class Code(unittest.TestCase):
                 Image(support.file_of(name, data))
         with self.assertRaises(Fault):
             Image("/nowhere/a.elf")
+
+    def test_images_for_other_machines(self):
+        """What the simulator refuses is refused here, with what to do: width, machine, kind, compressed code."""
+        plain = support.elf([(5, 0x10000, b"\x73\0\0\0", 4)])
+        wide = b"\x7fELF" + bytes([2, 1, 1]) + bytes(9) + struct.pack("<HHIQQQIHHHHHH", 2, 243, 1, 0, 0, 0, 0, 64, 56, 0, 0, 0, 0)
+        for data, note in [(wide, "a 64-bit image: build with -march=rv32im -mabi=ilp32"),
+                           (plain[:18] + b"\x03\0" + plain[20:], "an image for another machine"),
+                           (plain[:16] + b"\x01\0" + plain[18:], "an object file: link it"),
+                           (plain[:16] + b"\x03\0" + plain[18:], "position-independent: link with -static -no-pie"),
+                           (plain[:36] + b"\x01\0\0\0" + plain[40:], "compressed code")]:
+            with self.subTest(note=note), self.assertRaises(Fault) as told:
+                Image(support.file_of("other.elf", data))
+            self.assertIn(f"other.elf: {note}", str(told.exception))
+        self.assertEqual(Image(support.file_of("other.elf", plain)).words, {0x10000: 0x73})
 
 
 class Descriptions(unittest.TestCase):

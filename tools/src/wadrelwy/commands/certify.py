@@ -9,7 +9,7 @@ under settings.
 Each program is asked under each description with each combination of the values that are set, as by wadrelwy sweep: --set
 stt.model=off,spectre; --defences is the model off, and each defence under both models that protect. A secret is named as for
 wadrelwy verdict; of several each image takes those whose symbols it has, and it has to have one. SOURCES is a folder whose Makefile
-builds each NAME.c of it, as that of examples/crypto does, into FOLDER/build/COMPILER-OLEVEL; a compiler that isn't there is left out, with a
+builds each NAME.c or NAME.cpp of it, as that of examples/crypto does, into FOLDER/build/COMPILER-OLEVEL; a compiler that isn't there is left out, with a
 word on standard error. NAME is a part of a program's name.
 
 With --public-stream 1 or 2 (both where it stands twice) what the programs write there is public from then on (docs/secrets.md, "Make

@@ -101,22 +101,26 @@ def colours_of(defences):
 
 
 def bars(found):
-    """A panel for each description and what is set besides, with the defences' bars of each program and of their mean."""
+    """A panel for each description and what is set besides, with the defences' bars of each program and of their mean; all of one scale."""
     defences, drawing = results.defences_of(found), Drawing()
     colours, free = colours_of(defences), [row for row in found if row.slowdown is not None]
     before, below = room({row.program for row in free})
     left, bottom = max(LEFT, before - BAR * len(defences) / 2), max(BOTTOM, below + BETWEEN)
-    for title, rows in results.groups(free).items():
+    means, parts = {}, results.groups(free)
+    for title, rows in parts.items():
+        for defence in defences:
+            each = [row.slowdown for row in rows if row.defence == defence]
+            means[title, defence] = results.spread(each) if each else None
+    whole = [row.slowdown for row in free] + [spread.mean for spread in means.values() if spread]
+    for title, rows in parts.items():
         top = drawing.height + TOP
         programs = list(dict.fromkeys(row.program for row in rows))
         slowdowns, tips = {(row.program, row.defence): row.slowdown for row in rows}, {}
         for defence in defences:
-            each = [slowdowns[program, defence] for program in programs if (program, defence) in slowdowns]
-            if each:
-                spread = results.spread(each)
-                slowdowns["mean", defence] = spread.mean
-                tips["mean", defence] = f" ({told(spread)})"
-        scale, step = Scale(slowdowns.values(), top), BAR * len(defences) + BETWEEN
+            if means[title, defence]:
+                slowdowns["mean", defence] = means[title, defence].mean
+                tips["mean", defence] = f" ({told(means[title, defence])})"
+        scale, step = Scale(whole, top), BAR * len(defences) + BETWEEN
         right = left + step * (len(programs) + 1)
         drawing.width, drawing.height = max(drawing.width, right + RIGHT), top + HEIGHT + bottom
         heading(drawing, left, top - 26, f"slowdown against no protection: {title}; mean of n = {len(programs)}")

@@ -19,10 +19,11 @@ NEEDS = {"gcc": ("make", "riscv64-unknown-elf-gcc"), "clang": ("make", "clang", 
 def built(sources, folder, compilers, levels, only, jobs):
     """The images that the Makefile of a folder builds, with lines of the source, all of them anew: a Makefile needn't know of each header,
     nor of its own options and the compiler. A compiler that isn't there is left out, and told."""
-    names = [os.path.splitext(os.path.basename(path))[0] for path in sorted(glob.glob(os.path.join(sources, "*.c")))]
+    files = sorted(path for ending in ("c", "cpp") for path in glob.glob(os.path.join(sources, f"*.{ending}")))
+    names = [os.path.splitext(os.path.basename(path))[0] for path in files]
     names = [name for name in names if only in name]
     if not names:
-        raise Fault(f"{sources} has no program in C" + f" with `{only}` in its name" * bool(only))
+        raise Fault(f"{sources} has no program in C or C++" + f" with `{only}` in its name" * bool(only))
     there = [compiler for compiler in compilers if is_there(compiler)]
     images = [os.path.join(os.path.abspath(folder), f"{compiler}-O{level}", f"{name}.elf")
               for name in names for compiler in there for level in levels]

@@ -5,6 +5,7 @@ import subprocess
 import tempfile
 from typing import NamedTuple, Optional
 
+from wadrelwy.machine.passing import Screen
 from wadrelwy.view import Fault
 from wadrelwy.view.trace import read_end
 
@@ -67,7 +68,8 @@ class Answer(NamedTuple):
 def started(program, words, out):
     """Runs the program for these words, what it writes going there; answers the note that it leaves where it ran."""
     try:
-        ended = subprocess.run([program, *words], stdout=out, stderr=subprocess.PIPE, text=True, errors="replace", check=False)
+        with Screen(" ".join([os.path.basename(program), *words[:1]])):
+            ended = subprocess.run([program, *words], stdout=out, stderr=subprocess.PIPE, text=True, errors="replace", check=False)
     except OSError as error:
         raise Fault(f"{program}: {error.strerror}") from None
     note = ended.stderr.strip().split("\n")[0]

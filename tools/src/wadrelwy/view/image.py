@@ -6,6 +6,8 @@ from functools import cached_property
 from typing import Any, TYPE_CHECKING
 
 from wadrelwy.elf import ELFError, ELFFile, P_FLAGS
+from wadrelwy.machine import notes
+from wadrelwy.machine.notes import BUILD
 from wadrelwy.riscv.kinds import instruction_of
 
 from . import Fault
@@ -16,6 +18,8 @@ if TYPE_CHECKING:
     from wadrelwy.view.sources import Sources
 
 
+# of `e_flags`
+COMPRESSED = 1
 # what tells the names of C++, of binutils for the host or for RISC-V
 FILTERS = ("c++filt", "riscv64-unknown-elf-c++filt", "riscv64-linux-gnu-c++filt")
 
@@ -28,6 +32,7 @@ class Image:
         try:
             with open(name, "rb") as file:
                 elf = ELFFile(file)
+                check(elf, name)
                 segments = [load for load in elf.iter_segments("PT_LOAD") if load["p_memsz"]]
                 self.ranges = [(load["p_vaddr"], load["p_vaddr"] + load["p_memsz"]) for load in segments]
                 self.pieces = pieces_of_code(segments)
@@ -56,10 +61,12 @@ class Image:
         return self.shown.get(name, name)
 
     def function_named(self, function: str) -> str:
-        """A function's name as it is shown: given so, as linkers have it, or as sources have it without its parameters where one has it."""
+        """A function's name as it is shown: given so, as linkers have it, or as sources have it, without its parameters or what a compiler put
+        behind it (`verify.constprop.0`), where one has it."""
         if any(name == function for _, _, name in self.symbols):
             return self.shown.get(function, function)
         found = {shown for shown in self.shown.values() if without_parameters(shown) == function}
+        found = found or {name for _, _, name in self.symbols if name.split(".")[0] == function}
         if len(found) > 1:
             raise Fault(f"{self.name} has several of `{function}`: {'; '.join(sorted(found))}")
         return found.pop() if found else function
@@ -87,6 +94,17 @@ class Image:
 
     def one_segment(self, first: int, second: int) -> bool:
         return any(low <= first < high and low <= second < high for low, high in self.ranges)
+
+
+def check(elf: Any, name: str) -> None:
+    """Refuses an image that isn't for this machine, as the simulator does: of another width or machine, not linked, or of compressed code."""
+    why = next(filter(None, (
+        elf.elfclass != 32 and f"a {elf.elfclass}-bit image: {BUILD}",
+        elf["e_machine"] != "EM_RISCV" and "an image for another machine than RISC-V",
+        elf["e_type"] != "ET_EXEC" and notes.file_type({"ET_REL": "1", "ET_DYN": "3"}.get(elf["e_type"], "")),
+        elf["e_flags"] & COMPRESSED and "compressed code: no `c` in -march, as -march=rv32im")), None)
+    if why:
+        raise Fault(f"{name}: {why}")
 
 
 def demangled(names: list) -> dict:

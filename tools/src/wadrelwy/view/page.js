@@ -105,7 +105,7 @@ function goToCycle(chart, cycle) {
 function named(row, text) {
   const address = text.toLowerCase().replace(/^0x/, '').padStart(8, '0');
   const symbol = row.dataset.n, name = symbol.replace(/\+0x[0-9a-f]+$/, '');
-  return '#' + row.dataset.s === text || [symbol, name, name.split('(')[0]].includes(text) || row.dataset.a === address;
+  return '#' + row.dataset.s === text || [symbol, name, name.split('(')[0], name.split('.')[0]].includes(text) || row.dataset.a === address;
 }
 function goToRow(chart, text) {
   const row = rows(chart).find(one => named(one, text));

@@ -44,7 +44,7 @@ def legend(panels):
         colours.setdefault(colour, []).append(f'<span style="background:{colour};color:{dark}">{escape(letter)}</span>{escape(text)}')
     items = [f"<li>{''.join(told)}</li>" for told in colours.values()]
     outcomes = f"<p>{escape(OUTCOMES)}</p>" if any(panel.has_outcomes() for panel in panels) else ""
-    return f'<ul class="legend">{"".join(items)}</ul>{outcomes}'
+    return f'<ul class="legend">{"".join(items)}</ul>{outcomes}<p>How to read it: docs/view.md of Wadrelwy, "Pictures".</p>'
 
 
 def panel_drawn(panel):

@@ -95,7 +95,7 @@ class Whole {
     const address = text.toLowerCase().replace(/^0x/, '').padStart(8, '0'), places = new Set();
     this.places.forEach(([pc, symbol], at) => {
       const name = symbol.replace(/\+0x[0-9a-f]+$/, '');
-      if ([symbol, name, name.split('(')[0]].includes(text) || pc === address) places.add(at);
+      if ([symbol, name, name.split('(')[0], name.split('.')[0]].includes(text) || pc === address) places.add(at);
     });
     const next = this.place.findIndex((place, row) => row > behind && places.has(place));
     return next < 0 ? this.place.findIndex(place => places.has(place)) : next;
