@@ -105,10 +105,11 @@ class Set(unittest.TestCase):
                 self.assertIn(note, told.stderr)
 
     def test_a_refusal_names_the_files_that_were_given(self):
-        refusing = program("", 4, "refusing", "echo \"description K6 $1 $2\" >&2")
+        refusing = program("", 4, "refusing", "echo description K5 cache.line 128 >&2")
         told = command("verdict", CORE, image(), "--secret", WORD, "--set", "core.rob=8", "--set", f"0x{SECRET:x}=22", "--secrets-program", refusing)
         self.assertEqual((told.returncode, told.stdout), (2, ""))
-        self.assertIn(f"description K6 {CORE} with core.rob 8 {image()} with 0x{SECRET:x} 22 ", told.stderr)
+        self.assertIn(f": {CORE} with core.rob 8 {image()} with 0x{SECRET:x} 22 --secret ", told.stderr)
+        self.assertIn("status 4, description K5 cache.line 128: cache.line is 4 to 64, and 128 isn't (", told.stderr)
 
 
 class Value(unittest.TestCase):

@@ -16,7 +16,8 @@ that the folder has.
 With --list nothing is run. FOLDER gets a list of the runs that are missing, in three forms. They need FOLDER under the name that was
 given here, and no other file; each goes on where it was stopped:
 
-    parallel < FOLDER/commands         a line of shell for each run; or  parallel --sshlogin HOST,.. --workdir . < FOLDER/commands
+    parallel < FOLDER/commands         a line of shell for each run; or  parallel --sshlogin HOST,.. --workdir . < FOLDER/commands; or
+                                       parallel 'RESULTS=results/task_{%} sh -c {}' < FOLDER/commands  with a file of results a slot
     sbatch FOLDER/array.sh             a job array for Slurm, of --tasks N tasks (1000) that get --minutes and --memory each
     make -k -j N -f FOLDER/rules.mk    a rule for each run
     wadrelwy sweep FOLDER --gather  makes the tables of what is there, and names what is missing; --from takes over the results of copies
@@ -24,7 +25,7 @@ given here, and no other file; each goes on where it was stopped:
 --pack makes FOLDER.tar.gz of all that the lists need, to be unpacked on another machine.
 
 N of --cycles is 4294967295 without it, and as many --jobs as processors. P of --program is the simulator: without it the variable STT_CLI,
-else crates/stt_cli/out/stt_cli. The status is 0 where all runs are there; 3 where runs are missing, were refused, or were ended by the budget,
+else crates/stt_cli/out/stt_cli. The summary has twenty lines on standard output, and all in FOLDER/summary. The status is 0 where all runs are there; 3 where runs are missing, were refused, or were ended by the budget,
 12 where one ended by a trap; 16 where the runs of one program retire unlike numbers, or end otherwise, which contradicts what is
 proved; 2 for a refusal; 130 if interrupted."""
 import os

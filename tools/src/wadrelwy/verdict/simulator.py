@@ -5,6 +5,7 @@ import subprocess
 import tempfile
 from typing import NamedTuple, Optional
 
+from wadrelwy.machine import notes
 from wadrelwy.machine.passing import Screen
 from wadrelwy.view import Fault
 from wadrelwy.view.trace import read_end
@@ -74,7 +75,7 @@ def started(program, words, out):
         raise Fault(f"{program}: {error.strerror}") from None
     note = ended.stderr.strip().split("\n")[0]
     if ended.returncode not in RAN:
-        raise Fault(f"{' '.join(words)}: status {ended.returncode}, {note} (docs/using.md, \"Refusals\")")
+        raise Fault(f"{' '.join(words)}: status {ended.returncode}, {notes.told(note, {})} (docs/using.md, \"Refusals\")")
     return note
 
 
