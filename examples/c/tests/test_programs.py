@@ -12,6 +12,7 @@ FOLDER = os.path.dirname(os.path.dirname(os.path.abspath(__file__)))
 ROOT = os.path.dirname(os.path.dirname(FOLDER))
 from wadrelwy import built_programs
 from wadrelwy.verdict import simulator
+from wadrelwy.verdict.loaded import Loaded
 
 PROGRAM = built_programs.simulator()
 PROGRAMS = sorted(os.path.splitext(os.path.basename(path))[0] for path in glob.glob(os.path.join(FOLDER, "programs", "*.c")))
@@ -27,6 +28,12 @@ needs_gcc = unittest.skipUnless(GCC, "no make or gcc for RISC-V")
 
 CONSTRUCTED = "static volatile int first; static int x; __attribute__((constructor)) static void begin(void) { x = first + 5; }\n" \
               "int main(void) { return x; }\n"
+LOOKED = """#include "victim.h"
+template <int N> struct Box { u8 at[N]; u8 look(u8 place) const { return at[place]; } };
+Box<256> box __attribute__((aligned(64)));
+volatile u8 sink;
+int main() { sink = box.look(key[0]); return 0; }
+"""
 # structures and arrays that compilers set and copy by memset and memcpy, some of them over one another
 COPIES = """
 struct big { int n[40]; } one, two;
@@ -80,6 +87,21 @@ def written(image):
 def source(name, text):
     with open(os.path.join(folder(), name), "w", encoding="utf-8") as file:
         file.write(text)
+
+
+class Victims(unittest.TestCase):
+    @unittest.skipUnless(COMPILERS, "no make or compiler for RISC-V")
+    def test_a_victim_in_cplusplus(self):
+        """It is linked with each key, and the two images differ in these bytes alone: the keys of secret_a.c and secret_b.c."""
+        source("looked.cpp", LOOKED)
+        for compiler in COMPILERS:
+            with self.subTest(compiler=compiler):
+                self.assertEqual(make(f"{compiler}/looked_a.elf", f"{compiler}/looked_b.elf", "EXTRA=-I.").stderr, "")
+                images = [Loaded(os.path.join(folder(), compiler, f"looked_{side}.elf"), 0x10000, 0x100000) for side in "ab"]
+                [(start, size)] = {(address, size) for address, size, name in images[0].symbols if name == "key"}
+                differ = {images[0].base + at for at, (a, b) in enumerate(zip(*(image.memory for image in images))) if a != b}
+                self.assertTrue(differ and differ <= set(range(start, start + size)), differ)
+                self.assertEqual(images[0].words, images[1].words)
 
 
 @needs_program

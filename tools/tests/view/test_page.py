@@ -86,7 +86,7 @@ found.last=Math.max(...rows()[0]);found.drawnThere=rows().map(all=>all.length);f
 found.together=wholes.map(whole=>whole.from[whole.top]);
 await go('7');await settled();found.column=wholes.map(whole=>!whole.column.hidden&&box(whole.column)[0]>=box(whole.chart)[0]);found.atSeven=wholes.map(whole=>seen(whole).includes(whole.rowAt(7)));
 await go('#'+one.serial[one.rows-3]);await settled();found.serial=[...document.querySelectorAll('.found')].map(row=>row.dataset.s);
-await go('0x10004');const first=one.sought;await go('10004');found.next=[first,one.sought];found.places=[first,one.sought].map(row=>one.places[one.place[row]][0]);
+await go('0x10004');const first=one.sought;await go('0x10004');found.next=[first,one.sought];found.places=[first,one.sought].map(row=>one.places[one.place[row]][0]);
 await go('nowhere');found.told=told.textContent;
 one.rowOf(one.sought,0).dispatchEvent(new MouseEvent('click',{bubbles:true}));found.pinned=pins.textContent;
 await go('#'+one.serial[one.rows-3]);await settled();await go('#5');await settled();found.kept=one.pinned.size;
