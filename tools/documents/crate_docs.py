@@ -8,7 +8,12 @@ crates, and the layers, are those of crates.txt.
 A document has a block between two lines, which name it: `<!-- tools/documents/map: NAME -->` and `<!-- end of NAME -->`."""
 import os
 import re
+import sys
 from typing import NamedTuple
+
+sys.path.append(os.path.join(os.path.dirname(os.path.dirname(os.path.realpath(__file__))), "src"))
+
+from wadrelwy.definitions import rust
 
 TOP = os.path.dirname(os.path.dirname(os.path.dirname(os.path.abspath(__file__))))
 LABELS = ("Rules", "Promises", "Clauses")
@@ -51,23 +56,11 @@ def root(name: str) -> str:
     return lib if os.path.exists(os.path.join(TOP, lib)) else f"crates/{name}/src/main.rt"
 
 
-def paragraphs(text: str) -> list[str]:
-    """The paragraphs of a module's documentation, each on one line."""
-    head = re.match(r"(?://!.*\n)*", text)
-    lines = [line[3:].strip() for line in head[0].splitlines()] if head else []
-    return [" ".join(part.split("\n")) for part in re.split(r"\n{2,}", "\n".join(lines)) if part]
-
-
-def first_sentence(text: str) -> str:
-    """The first sentence of a paragraph, without its point."""
-    return re.split(r"(?<=\.) (?=[A-Z`])", text)[0].rstrip(".")
-
-
 def crate(name: str, layer: str) -> Crate:
     """What a crate says of itself; a part that it doesn't say is empty."""
-    said = paragraphs(read(root(name)))
+    said = rust.paragraphs(read(root(name)))
     labelled = {label: next((part[len(label) + 2:].rstrip(".") for part in said if part.startswith(f"{label}: ")), "") for label in LABELS}
-    purpose = first_sentence(said[0]) if said and not said[0].startswith(tuple(f"{label}: " for label in LABELS)) else ""
+    purpose = rust.first_sentence(said[0]).rstrip(".") if said and not said[0].startswith(tuple(f"{label}: " for label in LABELS)) else ""
     return Crate(name, layer, purpose, *labelled.values())
 
 

@@ -5,6 +5,11 @@ trait. Of each stand the first sentence of its documentation, what it answers, a
 left out."""
 import os
 import re
+import sys
+
+sys.path.append(os.path.join(os.path.dirname(os.path.dirname(os.path.realpath(__file__))), "src"))
+
+from wadrelwy.definitions import rust
 
 TOP = os.path.dirname(os.path.dirname(os.path.dirname(os.path.abspath(__file__))))
 PAGE = "docs/calls.md"
@@ -19,10 +24,7 @@ promise in one line is in `docs/parts.md`, "The parts".
   body, whose clauses are the promise.
 - **Asks** has each condition as it stands in the source; `old` is a value before the call. A dash is a call without conditions.
 """
-FUNCTION = re.compile(r"(?P<pub>pub )?fn (?P<name>\w+)")
-OUTER = re.compile(r"^(?:impl(?:<[^{\n]*?>)? (?P<type>\w+)[^{\n]*?|pub trait (?P<trait>\w+)[^{\n]*)\{$")
 ERROR = re.compile(r"^#\[derive\([^)]*Error\)\]\n(?:#\[[^\n]*\n)*pub (?P<kind>enum|struct) (?P<name>\w+)", re.M)
-CONDITION = re.compile(r"\s*(requires|ensures)\s*([a-z_0-9]+)?\s*\{")
 
 
 def read(name):
@@ -51,82 +53,19 @@ def exported(text):
     return names | set(re.findall(r"^pub (?:fn|struct|enum|trait) (\w+)", text, re.M))
 
 
-def closing(text, at, pair):
-    """The place behind the bracket that closes the one at a place."""
-    depth = 0
-    for place in range(at, len(text)):
-        depth += (text[place] == pair[0]) - (text[place] == pair[1])
-        if depth == 0:
-            return place + 1
-    raise ValueError("a bracket stays open")
-
-
-def plain(text):
-    """A text on one line, without the space that a broken line leaves inside brackets."""
-    return re.sub(r",? \)", ")", re.sub(r"\( ", "(", " ".join(text.split())))
-
-
-def contract(text, at):
-    """The conditions that stand from a place on."""
-    conditions = []
-    while found := CONDITION.match(text, at):
-        at = closing(text, found.end() - 1, "{}")
-        if found[1] == "requires":
-            conditions.append(plain(text[found.end():at - 1]))
-    return conditions
-
-
-def documentation(lines):
-    """The first sentence of the documentation that ends these lines."""
-    said = []
-    for line in reversed(lines):
-        if line.lstrip().startswith("///"):
-            said.append(line.lstrip()[3:].strip())
-        elif not line.lstrip().startswith("#["):
-            break
-    return re.split(r"(?<=\.) (?=[A-Z`])", " ".join(reversed(said)))[0]
-
-
-def call(text, found, owner):
+def call(it: rust.Function) -> dict:
     """A function's row: its name and parameters, what its documentation says, its result, and its conditions."""
-    begin = text.index("(", found.end())
-    end = closing(text, begin, "()")
-    result = re.compile(r" -> (.+?)(?= ?\{?$|;$)", re.M).match(text, end)
-    answer = result[1] if result else ""
-    at = result.end() if result else end
-    parameters = [part for part in re.findall(r"(?:^|[(,]\s*)(&?(?:'\w+ )?(?:mut )?(?:self)\b|\w+(?=: ))", text[begin:end])]
-    name = f"{owner}::{found['name']}" if owner else found["name"]
-    law = not parameters and not answer
-    return {"call": f"`{name}`({', '.join(it.replace('mut ', '') if 'self' not in it else it for it in parameters)})",
-            "says": documentation(text[:found.start()].rsplit("\n", 1)[0].splitlines()),
-            "answers": "a law" if law else f"`{answer}`" if answer else "nothing", "asks": contract(text, at)}
-
-
-def owner_at(line, owner):
-    """Whose functions follow this line: a type's, a trait's, or nobody's."""
-    outer = OUTER.match(line)
-    if outer:
-        implements = re.search(r" for \w", line)
-        return None if implements else (outer["type"] or outer["trait"], bool(outer["trait"]))
-    return None if line.startswith("}") else owner
+    parameters = re.findall(r"(?:^|[(,]\s*)(&?(?:'\w+ )?(?:mut )?(?:self)\b|\w+(?=: ))", it.parameters)
+    law = not parameters and not it.answers
+    return {"call": f"`{it.full_name}`({', '.join(part.replace('mut ', '') if 'self' not in part else part for part in parameters)})",
+            "says": it.says, "answers": "a law" if law else f"`{it.answers}`" if it.answers else "nothing",
+            "asks": [rust.plain(clause.text) for clause in it.clauses if clause.kind == "requires"]}
 
 
 def calls_of(crate):
     texts = sources(crate)
     names = exported(texts.get("lib.rt", ""))
-    rows = []
-    for text in texts.values():
-        owner, at = None, 0
-        for line in text.splitlines(keepends=True):
-            if not line.startswith(" "):
-                owner = owner_at(line.rstrip("\n"), owner)
-            found = FUNCTION.match(text, at + len(line) - len(line.lstrip()))
-            free = not line.startswith(" ") and found and found["pub"] and found["name"] in names
-            inside = line.startswith("    ") and found and owner and owner[0] in names and (found["pub"] or owner[1])
-            if free or inside:
-                rows.append(call(text, found, owner[0] if inside else ""))
-            at += len(line)
-    return rows
+    return [call(it) for text in texts.values() for it in rust.functions(text) if it.public and (it.owner or it.name) in names]
 
 
 def cell(text):
@@ -146,7 +85,7 @@ def values_of(text, found):
     """What an error may be, by its declaration."""
     if found["kind"] == "struct":
         return "one value" if text.startswith(";", found.end()) else f"those that the calls of `{found['name']}` answer"
-    body = text[found.end():closing(text, text.index("{", found.end()), "{}")]
+    body = text[found.end():rust.closing(text, text.index("{", found.end()), "{}")]
     return ", ".join(f"`{name}`" for name in re.findall(r"^    ([A-Z]\w*)", body, re.M))
 
 

@@ -28,6 +28,9 @@ GROUPS = {
     "Many runs": {
         "sweep": "programs under descriptions under settings, as many runs at once as there are processors, with tables and plots",
     },
+    "Read what is promised": {
+        "book": "the definitions and contracts as linked pages: from a promise to each word of it by a click",
+    },
     "Look at a run": {
         "view": "a trace made readable: stats, stack, annotate, why, list, diff, konata, o3, svg, html, index",
         "path": "the instruction set's run of an image: a log of its steps, its report, the bytes that it loads",

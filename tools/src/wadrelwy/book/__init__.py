@@ -1,0 +1,1 @@
+"""The definitions and contracts as linked pages."""
