@@ -1,6 +1,6 @@
 """What each word of a definition or of a contract stands for."""
 import re
-from typing import Iterable, Iterator, NamedTuple
+from typing import Callable, Iterable, Iterator, NamedTuple
 
 from wadrelwy.definitions import rust
 from wadrelwy.definitions.antt import Definition, Module, tokens
@@ -15,6 +15,8 @@ RUST = {"fn", "impl", "trait", "for", "mut", "dyn", "self", "Self", "result", "u
 # words of the logic, which nothing has to bring in
 BUILT_IN = {"Unit", "tt", "absurd"}
 CONSTRUCTORS = {"zero", "suc", "true", "false", "refl", "inl", "inr"}
+# whether a word of a pattern stands for a constructor
+Test = Callable[[str], bool]
 NUMBER = re.compile(r"0x[0-9A-Fa-f_]+|0b[01_]+|\d[\d_]*")
 
 
@@ -48,7 +50,7 @@ def is_word(token: str) -> bool:
     return any(character.isalnum() or character == "_" for character in token) and not token.startswith(('"', "--"))
 
 
-def bound_in(parts: list[str], is_constructor) -> set[str]:
+def bound_in(parts: list[str], is_constructor: Test) -> set[str]:
     """The words that a part of a definition binds: of functions, types and `let`s."""
     kept = [parts[at] for at in solid(parts)]
     found: set[str] = set()
@@ -66,7 +68,7 @@ def bound_in(parts: list[str], is_constructor) -> set[str]:
     return found
 
 
-def until(kept: list[str], at: int, mark: str, is_constructor) -> Iterator[str]:
+def until(kept: list[str], at: int, mark: str, is_constructor: Test) -> Iterator[str]:
     """The words of a pattern that goes up to a mark."""
     while at < len(kept) and kept[at] != mark:
         if is_word(kept[at]) and kept[at - 1] != "." and not NUMBER.fullmatch(kept[at]) and not is_constructor(kept[at]):
@@ -84,7 +86,7 @@ def parts_of(it: Definition) -> list[str]:
     return ["".join(line + "\n" for line in part) for part in found]
 
 
-def constructors(tree: Tree, module: Module):
+def constructors(tree: Tree, module: Module) -> Test:
     """The test whether a word of a pattern stands for a constructor, and so binds nothing."""
     def test(word: str) -> bool:
         if word not in module.names:
