@@ -12,6 +12,20 @@ OTHER = {SIMULATOR: SECRETS, SECRETS: SIMULATOR}
 BUILD = {SIMULATOR: 'docs/using.md, "Before you start"', SECRETS: 'docs/secrets.md, "Before you ask"'}
 
 
+# the line that a program without proofs writes first to standard error (tools/try), and what its name has
+UNPROVED = "unproved"
+
+
+def is_unproved(program: str) -> bool:
+    """Whether a program says by its name that nothing about it is proved."""
+    return UNPROVED in os.path.basename(os.path.realpath(program))
+
+
+def note_of(said: str) -> str:
+    """The note among what a program wrote to standard error: its first line, but that which says that it is unproved."""
+    return next((line for line in said.strip().split("\n") if not line.startswith(UNPROVED + ":")), "")
+
+
 def beside(name: str, other: str) -> Iterator[str]:
     """Where a program may stand beside the other: in its folder, or where a tree builds each in a folder of its own."""
     yield os.path.join(os.path.dirname(other), name)

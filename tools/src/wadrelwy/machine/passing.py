@@ -9,7 +9,7 @@ import threading
 import time
 from typing import IO, Iterator, Mapping, NamedTuple, Optional, Sequence
 
-from wadrelwy import Fault, statuses
+from wadrelwy import Fault, built_programs, statuses
 
 from . import notes
 
@@ -85,6 +85,15 @@ def chunks(out: IO[bytes], by_lines: bool) -> Iterator[bytes]:
         yield data
 
 
+def told_unproved(said: str) -> str:
+    """Passes on that a program is unproved, where it says so, and answers the rest of what it wrote to standard error."""
+    note = built_programs.note_of(said)
+    for line in said.splitlines():
+        if line.startswith(built_programs.UNPROVED + ":"):
+            print(line, file=sys.stderr)
+    return note
+
+
 def passed_on(asked: Asked, name: str) -> Heard:
     """Runs a program, and passes on what it writes."""
     is_report = asked.words[0] in ("run", "isa", "bench")
@@ -108,7 +117,7 @@ def passed_on(asked: Asked, name: str) -> Heard:
                 elif not is_report and screen.thread:
                     numbers = CYCLE.findall(data)
                     screen.cycle = numbers[-1] if numbers else screen.cycle
-            note = child.stderr.read().decode(errors="replace").strip()
+            note = told_unproved(child.stderr.read().decode(errors="replace"))
     finally:
         child.stdout.close()
         child.stderr.close()

@@ -4,6 +4,7 @@ import sys
 import time
 from concurrent.futures import ThreadPoolExecutor, as_completed
 
+from wadrelwy import built_programs
 from wadrelwy.view import Fault
 from wadrelwy.view.trace import END, read_end
 
@@ -34,7 +35,7 @@ SWEEP = Sweep()
 def said_of(words):
     """What a command writes, its note, and its status."""
     ran = subprocess.run(words, capture_output=True, text=True, errors="replace", check=False)
-    return ran.stdout, ran.stderr.strip().split("\n")[0], ran.returncode
+    return ran.stdout, built_programs.note_of(ran.stderr), ran.returncode
 
 
 def refusal(status, note):

@@ -5,8 +5,7 @@ import subprocess
 import tempfile
 from typing import NamedTuple, Optional
 
-from wadrelwy.machine import notes
-from wadrelwy.machine.passing import Screen
+from wadrelwy import built_programs
 from wadrelwy.view import Fault
 from wadrelwy.view.trace import read_end
 
@@ -68,12 +67,14 @@ class Answer(NamedTuple):
 
 def started(program, words, out):
     """Runs the program for these words, what it writes going there; answers the note that it leaves where it ran."""
+    if built_programs.is_unproved(program):
+        raise Fault(f"{program} is unproved, and what this command says rests on proofs; run, trace, view and sweep take it")
     try:
         with Screen(" ".join([os.path.basename(program), *words[:1]])):
             ended = subprocess.run([program, *words], stdout=out, stderr=subprocess.PIPE, text=True, errors="replace", check=False)
     except OSError as error:
         raise Fault(f"{program}: {error.strerror}") from None
-    note = ended.stderr.strip().split("\n")[0]
+    note = built_programs.note_of(ended.stderr)
     if ended.returncode not in RAN:
         raise Fault(f"{' '.join(words)}: status {ended.returncode}, {notes.told(note, {})} (docs/using.md, \"Refusals\")")
     return note
