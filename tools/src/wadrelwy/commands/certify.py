@@ -23,10 +23,10 @@ path loads none of the secret's bytes as they were before the run, as where it d
 address, a time, where a branch or jump goes, or what a call is asked for; the source's line, or function and offset; the cycle; and, where
 the simulator is there (--program, STT_CLI), whether the instruction is on the path, or on a wrong one and behind which branch, return or
 load that passed a store. A description that is refused is a cell `refused K6`. The table is written to standard output and to FOLDER/table.md; FOLDER/table.csv has a
-row for each run, and so has FOLDER/table.json, with the status of each and the sha256 of its image and description; --json writes that to
-standard output in place of the table. Where it was stopped, the command that began it, or `wadrelwy certify FOLDER` alone, goes on: only what is missing is
-asked. FOLDER has copies of all that was asked of. FOLDER alone is refused where an image, a description or the program isn't what it was;
---copies goes on with those that the folder has. --build builds all images anew.
+row for each run. With --together all builds of a program that have the same cells are one row of the table. Where it was stopped, the
+command that began it, or `wadrelwy certify FOLDER` alone, goes on: only what is missing is asked. FOLDER has copies of all that was asked
+of. FOLDER alone is refused where an image, a description or the program isn't what it was; --copies goes on with those that the folder has.
+--build builds all images anew.
 
 N of --cycles is 4294967295 without it, and as many --jobs as processors. P of --secrets-program is the program that is asked: without it the
 variable STT_SECRETS, else crates/stt_secrets/out/stt_secrets. The status is that of the worst cell: 0 certified, 1 something shows, 3 a
