@@ -87,7 +87,7 @@ class Marks(unittest.TestCase):
         retire(pipeline, items[:1])
         self.assertEqual((pipeline.registers[5], pipeline.registers[6]), (2 * DATA & 0xffffffff, 0))
         self.assertEqual((pipeline.memory.get(DATA + 4, 1), any(pipeline.marked_registers)), (b"\0", False))
-        self.assertEqual([at for at, marked in pipeline.marked_bytes.items() if marked], [SECRET])
+        self.assertEqual(list(pipeline.marked_bytes), [SECRET])
 
 
 class Shadows(unittest.TestCase):
