@@ -254,7 +254,11 @@ class Fates(unittest.TestCase):
         self.assertEqual((told.returncode, told.stderr), (1, ""))
         self.assertRegex(told.stdout, r"\nmade          of 0001fff8\b.*, by 3 instructions\n {14}00010008 lbu .*\n {14}0001000c slli? .*\n {14}00010010 add .*\n"
                                       r"list          00010014 lw .*: its access, 1 time, first in cycle 16, on wrong paths\n")
-        self.assertNotIn("\nmade ", command("verdict", CORE, support.example("fault_shadow.elf"), *words).stdout)
+        made = json.loads(command("verdict", CORE, support.example("fault_shadow.elf"), *words, "--all", "--json").stdout)["made"]
+        self.assertEqual((made["byte"], made["instructions"], [each["address"] for each in made["last"]]), ("0001fff8", 3, ["00010008", "0001000c", "00010010"]))
+        plain = [command("verdict", CORE, support.example("fault_shadow.elf"), *words, *more).stdout for more in ([], ["--json"])]
+        self.assertNotIn("\nmade ", plain[0])
+        self.assertIsNone(json.loads(plain[1])["made"])
 
     def test_cells(self):
         place = "line {:x}".format

@@ -8,6 +8,7 @@ from wadrelwy.view.trace import End
 
 from . import answered, certificate, report, secrecy, wrong_path
 from .given import File, Given
+from .values import Chain
 from .wrong_path import Fate
 
 
@@ -46,6 +47,14 @@ def of_fate(fate: Optional[Fate], texts: Disassembler) -> Optional[dict]:
     return {"kind": fate.kind, "told": wrong_path.sentence(fate, texts)} | behind
 
 
+def of_chain(chain: Optional[Chain], texts: Disassembler) -> Optional[dict]:
+    """How what shows first was made of a secret byte: by how many instructions, and which were the last."""
+    if chain is None:
+        return None
+    return {"byte": f"{chain.byte:08x}", "symbol": texts.image.symbol(chain.byte) or None, "instructions": chain.count,
+            "last": [place(pc, texts) for pc in chain.last]}
+
+
 def of_ranges(image: Any, addresses: Sequence[int]) -> list:
     """Sorted addresses as ranges, each by its first and its last byte."""
     found: list = []
@@ -71,7 +80,7 @@ def of_one(case: "certificate.Case", given: Given, cycles: int, asked: Sequence[
         "secret": [range_ for each in case.secret for range_ in of_ranges(case.image, each.addresses)],
         "public_streams": list(case.streams), "path": case.touched._asdict(), "run": of_end(case.answer.end),
         "published": None if case.published is None else case.published.hex(),
-        "shown": of_shown(shown, texts), "fate": of_fate(case.fate, texts),
+        "shown": of_shown(shown, texts), "fate": of_fate(case.fate, texts), "made": of_chain(case.chain, texts),
         "all": None if case.all is None else [place(pc, texts) | {"what": what, "times": each.times, "cycle": each.cycle, "on_path": each.retired}
                                               for (pc, what), each in case.all.items()],
         "programs": programs(asked), "text": lines}
