@@ -12,7 +12,7 @@ use Rattle.tool_words.specs.inner.Words.{FindsBy}
 use Rattle.tool_words.proofs.Tool.{none_of}
 use Rattle.secret_words.specs.Ranges.{number_of, address_of, bytes_of, range_of, ranges_of}
 use Rattle.secret_words.specs.Streams.{none_public, streams_of, with_named}
-use Rattle.secret_words.specs.Words.{secrets_app, faults, rows_in, WantedText, wanted_in, wanted_of}
+use Rattle.secret_words.specs.Words.{secrets_app, faults, rows_in, WantedText, core_run, path_run, wanted_in, wanted_of}
 
 secrets_are_free : is_simple_and_free secrets_app ≡ true
 secrets_are_free = refl
@@ -52,7 +52,7 @@ empty_words f (w ∷ ws) n = absurd (omega (arith, n))
 
 -- two ranges are read, in their order
 two_are_read : wanted_of (codes "d.toml" ∷ codes "p.elf" ∷ codes "--secret" ∷ codes "0x1f000:64" ∷ codes "--secret=131072:1" ∷ codes "--cycles" ∷ codes "9" ∷ [])
-    ≡ Some (record { description = codes "d.toml"; image = codes "p.elf"; secret = record { addr = 126976; bytes = 64 } ∷ record { addr = 131072; bytes = 1 } ∷ []; public = none_public; cycles = 9 })
+    ≡ Some (record { image = codes "p.elf"; secret = record { addr = 126976; bytes = 64 } ∷ record { addr = 131072; bytes = 1 } ∷ []; public = none_public; run = core_run (codes "d.toml") 9 })
 unfolding wanted_of faults rows_in word_of ranges_of range_of address_of bytes_of number_of clap_on_literals
 two_are_read = refl
 
@@ -60,7 +60,7 @@ two_are_read = refl
 named : Text → PublicStreams → Type 0
 named n public =
     wanted_of (codes "d.toml" ∷ codes "p.elf" ∷ codes "--public-stream" ∷ n ∷ codes "--secret" ∷ codes "0:1" ∷ codes "--cycles=9" ∷ [])
-    ≡ Some (record { description = codes "d.toml"; image = codes "p.elf"; secret = record { addr = 0; bytes = 1 } ∷ []; public = public; cycles = 9 })
+    ≡ Some (record { image = codes "p.elf"; secret = record { addr = 0; bytes = 1 } ∷ []; public = public; run = core_run (codes "d.toml") 9 })
 
 first_is_public : named (codes "1") (record { first = true; second = false })
 unfolding named wanted_of faults rows_in word_of ranges_of range_of address_of bytes_of number_of streams_of with_named clap_on_literals
@@ -109,6 +109,45 @@ no_range_is_read = (refl, refl, refl, refl, refl, refl, refl, refl)
 one_is_none : wanted_of (codes "d.toml" ∷ codes "p.elf" ∷ codes "--secret" ∷ codes "0x1f000:64" ∷ codes "--secret" ∷ codes "7" ∷ codes "--cycles" ∷ codes "9" ∷ []) ≡ None
 unfolding wanted_of faults rows_in word_of ranges_of range_of address_of bytes_of number_of clap_on_literals
 one_is_none = refl
+
+-- one name and a number of steps ask of the path, with a description or without one
+path_asked : List Text → Option Text → Type 0
+path_asked desc named =
+    wanted_of (codes "p.elf" ∷ codes "--secret=0:1" ∷ codes "--steps" ∷ codes "9" ∷ desc)
+    ≡ Some (record { image = codes "p.elf"; secret = record { addr = 0; bytes = 1 } ∷ []; public = none_public; run = path_run named 9 })
+
+path_is_asked : path_asked [] None
+unfolding path_asked wanted_of faults rows_in word_of ranges_of range_of address_of bytes_of number_of clap_on_literals
+path_is_asked = refl
+
+path_in_memory_of : path_asked (codes "--desc" ∷ codes "d.toml" ∷ []) (Some (codes "d.toml"))
+unfolding path_asked wanted_of faults rows_in word_of ranges_of range_of address_of bytes_of number_of clap_on_literals
+path_in_memory_of = refl
+
+-- what is asked of a core and what is asked of the path don't mix: both budgets, a description by its option beside one
+-- by its place, steps behind two names, cycles behind one, and no budget
+mixed : List Text → Type 0
+mixed ws = wanted_of (codes "--secret=0:1" ∷ ws) ≡ None
+
+both_budgets : mixed (codes "d.toml" ∷ codes "p.elf" ∷ codes "--cycles=9" ∷ codes "--steps=9" ∷ [])
+unfolding mixed wanted_of faults rows_in word_of clap_on_literals
+both_budgets = refl
+
+two_descriptions : mixed (codes "d.toml" ∷ codes "p.elf" ∷ codes "--cycles=9" ∷ codes "--desc=d.toml" ∷ [])
+unfolding mixed wanted_of faults rows_in word_of clap_on_literals
+two_descriptions = refl
+
+steps_of_a_core : mixed (codes "d.toml" ∷ codes "p.elf" ∷ codes "--steps=9" ∷ [])
+unfolding mixed wanted_of faults rows_in word_of clap_on_literals
+steps_of_a_core = refl
+
+cycles_of_a_path : mixed (codes "p.elf" ∷ codes "--cycles=9" ∷ [])
+unfolding mixed wanted_of faults rows_in word_of clap_on_literals
+cycles_of_a_path = refl
+
+no_budget : mixed (codes "d.toml" ∷ codes "p.elf" ∷ [])
+unfolding mixed wanted_of faults rows_in word_of clap_on_literals
+no_budget = refl
 
 -- no range, and a request for help
 none_is_given : faults (codes "d.toml" ∷ codes "p.elf" ∷ codes "--cycles" ∷ codes "9" ∷ []) ≡ kind.MissingRequiredArgument ∷ []
