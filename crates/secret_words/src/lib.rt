@@ -1,10 +1,8 @@
-<<<<<<< Updated upstream
-//! The words of `stt_secrets`, read by clap: a run that watches secret bytes, the ranges of those bytes, and the public
-//! streams.
-=======
-//! The words of `stt_secrets`, read by clap: `D IMAGE --secret ADDRESS:BYTES .. [--public-stream N ..] --cycles N` asks of
-//! a core's run, and `IMAGE --secret ADDRESS:BYTES .. [--public-stream N ..] --steps N [--desc D]` of the path.
->>>>>>> Stashed changes
+//! The words of `stt_secrets`, read by clap: the run of a core or the path of the instruction set that watches secret
+//! bytes, the ranges of those bytes, and the public streams.
+//!
+//! `D IMAGE --secret ADDRESS:BYTES .. [--public-stream N ..] --cycles N` asks of a core's run, and
+//! `IMAGE --secret ADDRESS:BYTES .. [--public-stream N ..] --steps N [--desc D]` of the path.
 //!
 //! Rules: `specs/Words.antt`, what words ask for, over clap's own written definition of what it takes; `Ranges.antt`,
 //! what a range is; `Streams.antt`, which streams may be public; `docs/formats.md`, "Words of stt_secrets".
@@ -37,7 +35,10 @@ use tool_words::{Refused, STEPS_MAX, find_by, name_arg, text_arg, text_in, with_
 #[derive(Clone, Copy, Debug, PartialEq, Eq)]
 pub enum RunWanted<'a> {
     /// The run of a core, by the name of its description, for at most so many cycles, at least 1.
-    Core { description: &'a str, cycles: u32 },
+    Core {
+        description: &'a str,
+        cycles: u32,
+    },
     /// The path, which is the run of the instruction set, for at most so many steps, at least 1, in the memory of the
     /// description of this name, if one is named.
     Path {
