@@ -1,8 +1,9 @@
--- A run in which nothing shows gives the trace of every secret: by the law of one run for all.
+-- A run in which nothing shows gives the trace of every secret: of a core by the law of one run for all, and of the path
+-- by that of one run for every core.
 use Rattle.std.proofs.Common.{◌≡◌, ◌⊎◌, ◌≤◌, ◌==◌, ◌||◌, Bool, ℕ, List, length, true, false, Option, Some, None, Result, refl, sym, ap, ◌∙◌, inl, inr, subst, arith}
 use Rattle.std.specs.Option.{option_map, is_some}
 use Rattle.std.specs.Prelude.{if◌then◌else◌}
-use Rattle.rv_types.specs.Isa.{start}
+use Rattle.rv_types.specs.Isa.{isa_step, start}
 use Rattle.rv_types.specs.Memory.{Code, Ram}
 use Rattle.rv_types.specs.declared.End.{End}
 use Rattle.elf_loader.specs.Image.{ImageText}
@@ -18,7 +19,7 @@ use Rattle.secret_marks.specs.declared.PublicStreams.{PublicStreams}
 use Rattle.secret_marks.specs.declared.SecretRange.{SecretRange}
 use Rattle.secret_marks.specs.Laws.{PublishesSame}
 use Rattle.secret_marks.specs.Marks.{Marks}
-use Rattle.secret_marks.specs.Published.{Public, published_by}
+use Rattle.secret_marks.specs.Published.{Public, published_by, published_in}
 use Rattle.secret_marks.specs.Ranges.{secret_in}
 use Rattle.secret_marks.specs.Shown.{first_shown}
 use Rattle.secret_marks.specs.Streams.{public_in}
@@ -28,14 +29,19 @@ use Rattle.secret_marks.proofs.FirstCycle.{told_first}
 use Rattle.secret_marks.proofs.Longer.{ended_output, first_shows}
 use Rattle.secret_marks.proofs.Outputs.{none_published}
 use Rattle.secret_marks.proofs.Trace.{one_output}
+use Rattle.constant_time.specs.Certified.{ends_plainly}
+use Rattle.constant_time.specs.declared.FirstStep.{FirstStep}
+use Rattle.constant_time.specs.PathMarks.{first_marks, path_shows}
+use Rattle.constant_time.proofs.PathMarks.{first_shows as first_step_shows}
+use Rattle.constant_time.proofs.PlainEnds.{one_run_for_every_core}
 use Rattle.run_inputs.specs.Told.{World}
-use Rattle.secret_words.specs.Words.{WantedText}
+use Rattle.secret_words.specs.Words.{RunText, WantedText, core_run, path_run}
 use Rattle.secrets_top.specs.declared.refusal.Unjudged.{Unjudged}
 use Rattle.secrets_top.specs.declared.verdict.Verdict.{Verdict}
-use Rattle.secrets_top.specs.Verdict.{is_any_public, told_of, verdict, verdict_text, hidden_text, hidden_status, verdict_status, first_of_run}
+use Rattle.secrets_top.specs.Verdict.{is_any_public, told_of, verdict, path_verdict, path_of, ending_in, verdict_text, hidden_text, hidden_status, verdict_status, first_of_run, first_on_path}
 use Rattle.secrets_top.specs.Refused.{status_of}
-use Rattle.secrets_top.specs.Top.{Inputs, Ends, Statuses}
-use Rattle.secrets_top.specs.Promises.{OneTrace, Hides, Tells, Promises, PublishesAlike, published_of}
+use Rattle.secrets_top.specs.Top.{Inputs, Ends, Statuses, judged}
+use Rattle.secrets_top.specs.Promises.{OneTrace, Hides, Tells, Promises, PublishesAlike, published_of, StepsPublishAlike, OneTraceOnEveryCore, Certifies, TellsStep, HidesIn, TellsIn, path_published_of}
 use Rattle.secrets_top.proofs.Statuses.{statuses_at}
 
 -- ---- One run in which nothing shows
@@ -83,6 +89,32 @@ longer : (public : PublicStreams) (d : Desc) (image : ImageText) (secret : List 
 longer public d image secret n k end al e f le =
     λ m agree alike. ended_output (public_in public) d image.code image.entry (secret_in secret) image.ram m n k end al agree (no_secret public d image secret n e) (publishes public d image n m alike) f le
 
+-- ---- One path on which nothing shows
+
+-- where nothing is told to show on the path, nothing shows
+no_step : (public : PublicStreams) (image : ImageText) (secret : List SecretRange) (n : ℕ) → first_on_path image secret public n ≡ None
+    → path_shows (public_in public) isa_step image.code n (start image.entry image.ram) (first_marks (secret_in secret) image.ram) ≡ false
+no_step public image secret n e =
+    sym (first_step_shows (public_in public) isa_step image.code n 1 (start image.entry image.ram) (first_marks (secret_in secret) image.ram)) ∙ ap is_some e
+
+-- steps publish the same with two memories, where that is asked or no stream is public
+steps_publish : (public : PublicStreams) (image : ImageText) (n : ℕ) (m : Ram) → StepsPublishAlike public image n m
+    → published_in (public_in public) image.code n (start image.entry m) ≡ published_in (public_in public) image.code n (start image.entry image.ram)
+steps_publish public image n m h = by_any (is_any_public public) refl
+  where
+    by_any : (b : Bool) → is_any_public public ≡ b
+        → published_in (public_in public) image.code n (start image.entry m) ≡ published_in (public_in public) image.code n (start image.entry image.ram)
+    by_any true e = h e
+    by_any false e =
+        let none = none_of public.first public.second e in
+        none_published (public_in public) image.code n (start image.entry m) none ∙ sym (none_published (public_in public) image.code n (start image.entry image.ram) none)
+
+every_core : (public : PublicStreams) (image : ImageText) (secret : List SecretRange) (n : ℕ) → Aligned image.code → first_on_path image secret public n ≡ None
+    → ends_plainly (path_of image n).ended ≡ true → OneTraceOnEveryCore public image secret n
+every_core public image secret n al e plain =
+    λ m agree alike d k protected delayed. one_run_for_every_core (public_in public) image.code image.entry (secret_in secret) image.ram m n al agree plain
+    (no_step public image secret n e) (steps_publish public image n m alike) d k protected delayed
+
 -- ---- How many bytes are published
 
 -- how many bytes the cycles of a run publish, as it is told
@@ -126,7 +158,55 @@ module _ (public : PublicStreams) (d : Desc) (image : ImageText) (secret : List 
   tells None e h s w = absurd (hidden_other (trace_of d image n).end status s h)
   tells (Some first) e h s w = record { first = first; shows = e; text = w }
 
+module _ (public : PublicStreams) (image : ImageText) (secret : List SecretRange) (n : ℕ) (out out' : Told) (status : ℕ) where
+  -- the verdict where this shows first on the path
+  abbrev told_step : Option FirstStep → Verdict
+  told_step o = path_verdict (ending_in (path_of image n)) (path_published_of public image n) o
+
+  certifies : (o : Option FirstStep) → first_on_path image secret public n ≡ o → Aligned image.code → (status ≡ 0) ⊎ (status ≡ 3)
+      → status ≡ verdict_status (told_step o) → Wrote (verdict_text (told_step o)) out out' → Certifies public image secret n out out'
+  certifies None e al h s w = record { text = w; every_core = every_core public image secret n al e }
+  certifies (Some first) e al h s w = let one : status ≡ 1 = s in absurd (omega (arith, h, one))
+
+  tells_step : (o : Option FirstStep) → first_on_path image secret public n ≡ o → status ≡ 1
+      → status ≡ verdict_status (told_step o) → Wrote (verdict_text (told_step o)) out out' → TellsStep public image secret n out out'
+  tells_step None e h s w = absurd (hidden_other (path_of image n).ended status s h)
+  tells_step (Some first) e h s w = record { first = first; shows = e; text = w }
+
 -- ---- The promises of the program
+
+-- what is told of a run is one verdict
+one_verdict : {o : Option Verdict} {v w : Verdict} → o ≡ Some v → o ≡ Some w → v ≡ w
+one_verdict p q = cc
+
+no_verdict : {v : Verdict} → None ≡ Some v → ⊥
+no_verdict p = cc
+
+module _ (image : ImageText) (secret : List SecretRange) (public : PublicStreams) (status : ℕ) (out out' : Told) (v : Verdict) (w : Wrote (verdict_text v) out out') (s : status ≡ verdict_status v) where
+  hides_in : (run : RunText) (desc : Option Desc) → judged run desc image secret public ≡ Some v → Aligned image.code → (status ≡ 0) ⊎ (status ≡ 3)
+      → HidesIn run desc image secret public status out out'
+  hides_in (core_run name n) (Some d) e al h =
+      let same = one_verdict e refl in (
+        d,
+        refl,
+        hides public d image secret n out out' status (first_of_run d image secret public n) refl al h (s ∙ ap verdict_status same) (subst (λ t. Wrote (verdict_text t) out out') same w),
+      )
+  hides_in (core_run name n) None e al h = absurd (no_verdict e)
+  hides_in (path_run name n) desc e al h =
+      let same = one_verdict e refl in
+      certifies public image secret n out out' status (first_on_path image secret public n) refl al h (s ∙ ap verdict_status same) (subst (λ t. Wrote (verdict_text t) out out') same w)
+
+  tells_in : (run : RunText) (desc : Option Desc) → judged run desc image secret public ≡ Some v → status ≡ 1 → TellsIn run desc image secret public out out'
+  tells_in (core_run name n) (Some d) e h =
+      let same = one_verdict e refl in (
+        d,
+        refl,
+        tells public d image secret n out out' status (first_of_run d image secret public n) refl h (s ∙ ap verdict_status same) (subst (λ t. Wrote (verdict_text t) out out') same w),
+      )
+  tells_in (core_run name n) None e h = absurd (no_verdict e)
+  tells_in (path_run name n) desc e h =
+      let same = one_verdict e refl in
+      tells_step public image secret n out out' status (first_on_path image secret public n) refl h (s ∙ ap verdict_status same) (subst (λ t. Wrote (verdict_text t) out out') same w)
 
 -- an image that is read has its instructions at multiples of 4
 aligned : (wanted : WantedText) (old new : Shelf) (i : Inputs wanted old new) → Aligned i.image.code
@@ -143,18 +223,14 @@ promises words old new status s = record {
     t.1,
     (
       a,
-      hides t.0.public a.inputs.desc a.inputs.image t.0.secret t.0.cycles old.out new.out status
-          (first_of_run a.inputs.desc a.inputs.image t.0.secret t.0.public t.0.cycles) refl (aligned t.0 old.files new.files a.inputs) h t.2.2 t.2.1,
+      hides_in a.inputs.image t.0.secret t.0.public status old.out new.out a.verdict t.2.1 t.2.2 t.0.run a.inputs.desc a.told
+          (aligned t.0 old.files new.files a.inputs) h,
     ),
   );
   shown = λ h. let t = s.told (inr (inl h)) in let a = t.2.0 in (
     t.0,
     t.1,
-    (
-      a,
-      tells t.0.public a.inputs.desc a.inputs.image t.0.secret t.0.cycles old.out new.out status
-          (first_of_run a.inputs.desc a.inputs.image t.0.secret t.0.public t.0.cycles) refl h t.2.2 t.2.1,
-    ),
+    (a, tells_in a.inputs.image t.0.secret t.0.public status old.out new.out a.verdict t.2.1 t.2.2 t.0.run a.inputs.desc a.told h),
   );
 }
 

@@ -11,7 +11,7 @@ use Rattle.run_inputs.specs.declared.refusal.Which.{Which}
 use Rattle.run_inputs.specs.declared.refusal.Refusal.{Refusal}
 use Rattle.run_inputs.specs.declared.refusal.Refusal.TheVariants.{Words, ReadDescription, DescriptionTooLong, Description, ReadImage, ImageTooLong, Image, Write, Memory}
 use Rattle.run_inputs.specs.Refused.{place_of}
-use Rattle.run_inputs.specs.Input.{MayGive, Gives, HasDesc, IsFaultyDescription, ImageFrom, from_file, IsImage, HasTooMany, HasFault, IsFaultyImage, RefusedAt, FailsToRead}
+use Rattle.run_inputs.specs.Input.{MayGive, Gives, HasDesc, IsFaultyDescription, DescriptionRefused, NamedRefused, ImageFrom, from_file, IsImage, HasTooMany, HasFault, IsFaultyImage, RefusedAt, FailsToRead}
 use Rattle.run_inputs.specs.Told.{World}
 use Rattle.run_inputs.proofs.Told.{told_desc, no_desc, not_longer, not_refused, none_faulty, same_images, no_fault, not_too_many}
 use Rattle.secret_words.specs.Words.{WantedText, wanted_of}
@@ -19,11 +19,11 @@ use Rattle.secrets_top.specs.declared.ranges.FaultyRange.{FaultyRange}
 use Rattle.secrets_top.specs.declared.refusal.Unjudged.{Unjudged}
 use Rattle.secrets_top.specs.declared.refusal.Unjudged.TheVariants.{Range, Refused}
 use Rattle.secrets_top.specs.declared.verdict.Verdict.{Verdict}
-use Rattle.secrets_top.specs.declared.verdict.Verdict.TheVariants.{Hidden, Shown}
+use Rattle.secrets_top.specs.declared.verdict.Verdict.TheVariants.{Hidden, Shown, PathShown}
 use Rattle.secrets_top.specs.Verdict.{hidden_status, verdict_text, verdict_status}
 use Rattle.secrets_top.specs.Refused.{status_of}
 use Rattle.secrets_top.proofs.Outcomes.{not_empty}
-use Rattle.secrets_top.specs.Top.{Wants, Inputs, Accepted, RefusedInputs, fault_in, verdict_in, verdict_on, Ends, Statuses, IsTold}
+use Rattle.secrets_top.specs.Top.{Wants, named, Inputs, Accepted, RefusedInputs, fault_in, verdict_in, Ends, Statuses, IsTold}
 
 -- words that want something don't want nothing
 clash : {o : Option WantedText} {w : WantedText} → o ≡ Some w → o ≡ None → ⊥
@@ -47,10 +47,16 @@ hidden_told None = inr (inr refl)
 told_status : (v : Verdict) → IsTold (verdict_status v)
 told_status (Hidden ending published) = hidden_told ending.end
 told_status (Shown first) = inr (inl refl)
+told_status (PathShown first) = inr (inl refl)
 
 -- a verdict has no status but 0, 1 and 3
 other_status : (v : Verdict) (n : ℕ) → (IsTold n → ⊥) → verdict_status v ≡ n → ⊥
 other_status v n h q = h (subst IsTold q (told_status v))
+
+-- a description that is refused is named
+refused_name : (name : Option (List ℕ)) (old new : Shelf) (e : Refusal) → NamedRefused name old new e → (n : List ℕ) × (name ≡ Some n) × DescriptionRefused n old new e
+refused_name None old new e h = absurd h
+refused_name (Some name) old new e h = (name, refl, h)
 
 -- where there is one image, that one is refused
 refused_image : (old : Shelf) (name : Option (List ℕ)) (from : ImageFrom) (place : ℕ) (P : Option Desc → ImageFrom → Type 0) → RefusedAt old name (from ∷ []) place P
@@ -64,24 +70,24 @@ refused_image old name from (suc n) P r = let none : None ≡ Some r.from = r.th
 module _ (words : List (List ℕ)) (old new : World) where
   -- the image that is wanted is refused, for each cause
   unread : (wanted : WantedText) (which : Which) → RefusedInputs wanted old.files new.files (ReadImage which)
-      → (desc : Option Desc) × HasDesc (MayGive old.files) (Some wanted.description) desc × NameFailed wanted.image old.files new.files
+      → (desc : Option Desc) × HasDesc (MayGive old.files) (named wanted.run) desc × NameFailed wanted.image old.files new.files
   unread wanted which r =
-      refused_image old.files (Some wanted.description) (from_file wanted.image) (place_of which) (λ desc from. FailsToRead old.files new.files from) r
+      refused_image old.files (named wanted.run) (from_file wanted.image) (place_of which) (λ desc from. FailsToRead old.files new.files from) r
 
   too_long : (wanted : WantedText) (which : Which) → RefusedInputs wanted old.files new.files (ImageTooLong which)
-      → (desc : Option Desc) × HasDesc (MayGive old.files) (Some wanted.description) desc × HasTooMany (MayGive old.files) (from_file wanted.image)
+      → (desc : Option Desc) × HasDesc (MayGive old.files) (named wanted.run) desc × HasTooMany (MayGive old.files) (from_file wanted.image)
   too_long wanted which r =
-      refused_image old.files (Some wanted.description) (from_file wanted.image) (place_of which) (λ desc from. HasTooMany (MayGive old.files) from) r.0
+      refused_image old.files (named wanted.run) (from_file wanted.image) (place_of which) (λ desc from. HasTooMany (MayGive old.files) from) r.0
 
   at_fault : (wanted : WantedText) (which : Which) (f : ElfFault) → RefusedInputs wanted old.files new.files (Image which f)
-      → (desc : Option Desc) × HasDesc (MayGive old.files) (Some wanted.description) desc × HasFault (MayGive old.files) desc (from_file wanted.image) f
+      → (desc : Option Desc) × HasDesc (MayGive old.files) (named wanted.run) desc × HasFault (MayGive old.files) desc (from_file wanted.image) f
   at_fault wanted which f r =
-      refused_image old.files (Some wanted.description) (from_file wanted.image) (place_of which) (λ desc from. HasFault (MayGive old.files) desc from f) r.0
+      refused_image old.files (named wanted.run) (from_file wanted.image) (place_of which) (λ desc from. HasFault (MayGive old.files) desc from f) r.0
 
   -- ---- What comes of each status
 
   told : (r : Result Verdict Unjudged) → Ends words old new r → IsTold (status_of r)
-      → Wants words (λ wanted. (a : Accepted wanted old.files new.files) × Wrote (verdict_text (verdict_on a)) old.out new.out × (status_of r ≡ verdict_status (verdict_on a)))
+      → Wants words (λ wanted. (a : Accepted wanted old.files new.files) × Wrote (verdict_text a.verdict) old.out new.out × (status_of r ≡ verdict_status a.verdict))
   told (Ok v) e h = (e.0, e.1, (e.2.0, e.2.1, ap verdict_status e.2.2))
   told (Err (Range f)) e h = absurd (omega arith)
   told (Err (Refused Words)) e h = absurd (omega arith)
@@ -95,15 +101,21 @@ module _ (words : List (List ℕ)) (old new : World) where
   two (Err (Refused _)) e h = absurd (omega arith)
 
   four : (r : Result Verdict Unjudged) → Ends words old new r → status_of r ≡ 4
-      → Wants words (λ wanted. IsFaultyDescription (MayGive old.files) wanted.description)
+      → Wants words (λ wanted. (name : List ℕ) × (named wanted.run ≡ Some name) × IsFaultyDescription (MayGive old.files) name)
   four (Ok v) e h = absurd (other_status v 4 (λ k. omega arith) h)
   four (Err (Range f)) e h = absurd (omega arith)
-  four (Err (Refused DescriptionTooLong)) e h = let a = e.0 in (a.0, a.1, inl a.2.0)
-  four (Err (Refused (Description f))) e h = let a = e.0 in (a.0, a.1, inr (f, a.2.0))
+  four (Err (Refused DescriptionTooLong)) e h =
+      let a = e.0 in
+      let n = refused_name (named a.0.run) old.files new.files DescriptionTooLong a.2 in
+      (a.0, a.1, (n.0, n.1, inl n.2.0))
+  four (Err (Refused (Description f))) e h =
+      let a = e.0 in
+      let n = refused_name (named a.0.run) old.files new.files (Description f) a.2 in
+      (a.0, a.1, (n.0, n.1, inr (f, n.2.0)))
   four (Err (Refused _)) e h = absurd (omega arith)
 
   five : (r : Result Verdict Unjudged) → Ends words old new r → status_of r ≡ 5
-      → Wants words (λ wanted. (desc : Option Desc) × HasDesc (MayGive old.files) (Some wanted.description) desc × IsFaultyImage (MayGive old.files) desc (from_file wanted.image))
+      → Wants words (λ wanted. (desc : Option Desc) × HasDesc (MayGive old.files) (named wanted.run) desc × IsFaultyImage (MayGive old.files) desc (from_file wanted.image))
   five (Ok v) e h = absurd (other_status v 5 (λ k. omega arith) h)
   five (Err (Range f)) e h = absurd (omega arith)
   five (Err (Refused (ImageTooLong which))) e h = let a = e.0 in let r = too_long a.0 which a.2 in (a.0, a.1, (r.0, r.1, inl r.2))
@@ -111,16 +123,16 @@ module _ (words : List (List ℕ)) (old new : World) where
   five (Err (Refused _)) e h = absurd (omega arith)
 
   six : (r : Result Verdict Unjudged) → Ends words old new r → status_of r ≡ 6
-      → Wants words (λ wanted. NameFailed wanted.description old.files new.files
-      ⊎ ((desc : Option Desc) × HasDesc (MayGive old.files) (Some wanted.description) desc × NameFailed wanted.image old.files new.files))
+      → Wants words (λ wanted. ((name : List ℕ) × (named wanted.run ≡ Some name) × NameFailed name old.files new.files)
+      ⊎ ((desc : Option Desc) × HasDesc (MayGive old.files) (named wanted.run) desc × NameFailed wanted.image old.files new.files))
   six (Ok v) e h = absurd (other_status v 6 (λ k. omega arith) h)
   six (Err (Range f)) e h = absurd (omega arith)
-  six (Err (Refused ReadDescription)) e h = let a = e.0 in (a.0, a.1, inl a.2)
+  six (Err (Refused ReadDescription)) e h = let a = e.0 in (a.0, a.1, inl (refused_name (named a.0.run) old.files new.files ReadDescription a.2))
   six (Err (Refused (ReadImage which))) e h = let a = e.0 in (a.0, a.1, inr (unread a.0 which a.2))
   six (Err (Refused _)) e h = absurd (omega arith)
 
   seven : (r : Result Verdict Unjudged) → Ends words old new r → status_of r ≡ 7
-      → Wants words (λ wanted. (a : Accepted wanted old.files new.files) × WrotePrefix (verdict_text (verdict_on a)) old.out new.out)
+      → Wants words (λ wanted. (a : Accepted wanted old.files new.files) × WrotePrefix (verdict_text a.verdict) old.out new.out)
   seven (Ok v) e h = absurd (other_status v 7 (λ k. omega arith) h)
   seven (Err (Range f)) e h = absurd (omega arith)
   seven (Err (Refused Write)) e h = e
@@ -133,8 +145,8 @@ module _ (words : List (List ℕ)) (old new : World) where
   not_six (Err (Range f)) e h = e.0.2.0.read.counts
   not_six (Err (Refused Words)) e h = e.1
   not_six (Err (Refused ReadDescription)) e h = absurd (h refl)
-  not_six (Err (Refused DescriptionTooLong)) e h = e.0.2.1
-  not_six (Err (Refused (Description f))) e h = e.0.2.1
+  not_six (Err (Refused DescriptionTooLong)) e h = (refused_name (named e.0.0.run) old.files new.files DescriptionTooLong e.0.2).2.1
+  not_six (Err (Refused (Description f))) e h = (refused_name (named e.0.0.run) old.files new.files (Description f) e.0.2).2.1
   not_six (Err (Refused (ReadImage which))) e h = absurd (h refl)
   not_six (Err (Refused (ImageTooLong which))) e h = e.0.2.1
   not_six (Err (Refused (Image which f))) e h = e.0.2.1
@@ -178,11 +190,11 @@ module _ (words : List (List ℕ)) (old new : World) where
 
   -- what each status says of what the words want
   module _ (wanted : WantedText) (k : wanted_of words ≡ Some wanted) where
-    whole : (v : Verdict) → Ends words old new (Ok v) → (a : Accepted wanted old.files new.files) × Wrote (verdict_text (verdict_on a)) old.out new.out × (v ≡ verdict_on a)
-    whole v e = of_wish words (λ w. (a : Accepted w old.files new.files) × Wrote (verdict_text (verdict_on a)) old.out new.out × (v ≡ verdict_on a)) wanted k e
+    whole : (v : Verdict) → Ends words old new (Ok v) → (a : Accepted wanted old.files new.files) × Wrote (verdict_text a.verdict) old.out new.out × (v ≡ a.verdict)
+    whole v e = of_wish words (λ w. (a : Accepted w old.files new.files) × Wrote (verdict_text a.verdict) old.out new.out × (v ≡ a.verdict)) wanted k e
 
-    cut : Ends words old new (Err (Refused Write)) → (a : Accepted wanted old.files new.files) × WrotePrefix (verdict_text (verdict_on a)) old.out new.out
-    cut e = of_wish words (λ w. (a : Accepted w old.files new.files) × WrotePrefix (verdict_text (verdict_on a)) old.out new.out) wanted k e
+    cut : Ends words old new (Err (Refused Write)) → (a : Accepted wanted old.files new.files) × WrotePrefix (verdict_text a.verdict) old.out new.out
+    cut e = of_wish words (λ w. (a : Accepted w old.files new.files) × WrotePrefix (verdict_text a.verdict) old.out new.out) wanted k e
 
     its_fault : (f : FaultyRange) → Ends words old new (Err (Range f)) → (inputs : Inputs wanted old.files new.files) × (fault_in wanted inputs.image ≡ Some f)
     its_fault f e = of_wish words (λ w. (inputs : Inputs w old.files new.files) × (fault_in w inputs.image ≡ Some f)) wanted k e.0
@@ -190,40 +202,42 @@ module _ (words : List (List ℕ)) (old new : World) where
     its_refusal : (c : Refusal) → Wants words (λ w. RefusedInputs w old.files new.files c) → RefusedInputs wanted old.files new.files c
     its_refusal c a = of_wish words (λ w. RefusedInputs w old.files new.files c) wanted k a
 
-    not_described : (desc : Option Desc) → HasDesc (MayGive old.files) (Some wanted.description) desc → IsFaultyDescription (Gives old.files) wanted.description → ⊥
-    not_described desc h x = no_desc old.files (Some wanted.description) desc wanted.description refl h x
+    -- what each status says where a description is wanted that has a fault
+    module _ (name : List ℕ) (is : named wanted.run ≡ Some name) (x : IsFaultyDescription (Gives old.files) name) where
+      not_described : (desc : Option Desc) → HasDesc (MayGive old.files) (named wanted.run) desc → ⊥
+      not_described desc h = no_desc old.files (named wanted.run) desc name is h x
 
-    faulty_description : (r : Result Verdict Unjudged) → Ends words old new r → IsFaultyDescription (Gives old.files) wanted.description
-        → (status_of r ≡ 4) ⊎ ((status_of r ≡ 6) ⊎ (status_of r ≡ 8))
-    faulty_description (Ok v) e x = let i = (whole v e).0.inputs in absurd (not_described (Some i.desc) i.read.described x)
-    faulty_description (Err (Range f)) e x = let i = (its_fault f e).0 in absurd (not_described (Some i.desc) i.read.described x)
-    faulty_description (Err (Refused Words)) e x = absurd (clash k e.0)
-    faulty_description (Err (Refused ReadDescription)) e x = inr (inl refl)
-    faulty_description (Err (Refused DescriptionTooLong)) e x = inl refl
-    faulty_description (Err (Refused (Description f))) e x = inl refl
-    faulty_description (Err (Refused (ReadImage which))) e x = inr (inl refl)
-    faulty_description (Err (Refused (ImageTooLong which))) e x =
-        let r = too_long wanted which (its_refusal (ImageTooLong which) e.0) in absurd (not_described r.0 r.1 x)
-    faulty_description (Err (Refused (Image which f))) e x =
-        let r = at_fault wanted which f (its_refusal (Image which f) e.0) in absurd (not_described r.0 r.1 x)
-    faulty_description (Err (Refused Write)) e x = let i = (cut e).0.inputs in absurd (not_described (Some i.desc) i.read.described x)
-    faulty_description (Err (Refused Memory)) e x = inr (inr refl)
+      faulty_description : (r : Result Verdict Unjudged) → Ends words old new r
+          → (status_of r ≡ 4) ⊎ ((status_of r ≡ 6) ⊎ (status_of r ≡ 8))
+      faulty_description (Ok v) e = let i = (whole v e).0.inputs in absurd (not_described i.desc i.read.described)
+      faulty_description (Err (Range f)) e = let i = (its_fault f e).0 in absurd (not_described i.desc i.read.described)
+      faulty_description (Err (Refused Words)) e = absurd (clash k e.0)
+      faulty_description (Err (Refused ReadDescription)) e = inr (inl refl)
+      faulty_description (Err (Refused DescriptionTooLong)) e = inl refl
+      faulty_description (Err (Refused (Description f))) e = inl refl
+      faulty_description (Err (Refused (ReadImage which))) e = inr (inl refl)
+      faulty_description (Err (Refused (ImageTooLong which))) e =
+          let r = too_long wanted which (its_refusal (ImageTooLong which) e.0) in absurd (not_described r.0 r.1)
+      faulty_description (Err (Refused (Image which f))) e =
+          let r = at_fault wanted which f (its_refusal (Image which f) e.0) in absurd (not_described r.0 r.1)
+      faulty_description (Err (Refused Write)) e = let i = (cut e).0.inputs in absurd (not_described i.desc i.read.described)
+      faulty_description (Err (Refused Memory)) e = inr (inr refl)
 
     -- what each status says where the files tell the description that is wanted
-    module _ (desc : Option Desc) (described : HasDesc (Gives old.files) (Some wanted.description) desc) where
-      same_desc : (desc' : Option Desc) → HasDesc (MayGive old.files) (Some wanted.description) desc' → desc' ≡ desc
-      same_desc desc' h = told_desc old.files (Some wanted.description) desc desc' described h
+    module _ (desc : Option Desc) (described : HasDesc (Gives old.files) (named wanted.run) desc) where
+      same_desc : (desc' : Option Desc) → HasDesc (MayGive old.files) (named wanted.run) desc' → desc' ≡ desc
+      same_desc desc' h = told_desc old.files (named wanted.run) desc desc' described h
 
       described_longer : Wants words (λ w. RefusedInputs w old.files new.files DescriptionTooLong) → ⊥
-      described_longer a = not_longer old.files new.files (Some wanted.description) desc described (its_refusal DescriptionTooLong a)
+      described_longer a = not_longer old.files new.files (named wanted.run) desc described (its_refusal DescriptionTooLong a)
 
       described_faulty : (f : DescFault) → Wants words (λ w. RefusedInputs w old.files new.files (Description f)) → ⊥
-      described_faulty f a = not_refused old.files new.files (Some wanted.description) desc f described (its_refusal (Description f) a)
+      described_faulty f a = not_refused old.files new.files (named wanted.run) desc f described (its_refusal (Description f) a)
 
       no_image : (i : Inputs wanted old.files new.files) → IsFaultyImage (Gives old.files) desc (from_file wanted.image) → ⊥
       no_image i x =
-          none_faulty old.files desc (Some i.desc) (from_file wanted.image ∷ []) (i.image ∷ []) 0 (from_file wanted.image)
-          (same_desc (Some i.desc) i.read.described) i.read.are_images refl x
+          none_faulty old.files desc i.desc (from_file wanted.image ∷ []) (i.image ∷ []) 0 (from_file wanted.image)
+          (same_desc i.desc i.read.described) i.read.are_images refl x
 
       faulty_image : (r : Result Verdict Unjudged) → Ends words old new r → IsFaultyImage (Gives old.files) desc (from_file wanted.image)
           → (status_of r ≡ 5) ⊎ ((status_of r ≡ 6) ⊎ (status_of r ≡ 8))
@@ -244,7 +258,7 @@ module _ (words : List (List ℕ)) (old new : World) where
         same_image : (i : Inputs wanted old.files new.files) → i.image ≡ image
         same_image i =
             let same : (i.image ∷ []) ≡ (image ∷ []) =
-            same_images old.files desc (Some i.desc) (from_file wanted.image ∷ []) (image ∷ []) (i.image ∷ []) (same_desc (Some i.desc) i.read.described) (there, tt)
+            same_images old.files desc i.desc (from_file wanted.image ∷ []) (image ∷ []) (i.image ∷ []) (same_desc i.desc i.read.described) (there, tt)
             i.read.are_images in
             cc
 
@@ -275,31 +289,33 @@ module _ (words : List (List ℕ)) (old new : World) where
         faulty_range (Err (Refused Write)) e faulty x = let a = (cut e).0 in absurd (no_clash x (same_fault a.inputs None a.ranges))
         faulty_range (Err (Refused Memory)) e faulty x = inr (inr refl)
 
-        same_verdict : (d : Desc) → desc ≡ Some d → (a : Accepted wanted old.files new.files) → verdict_on a ≡ verdict_in wanted d image
-        same_verdict d is a =
-            let m : Some a.inputs.desc ≡ Some d = same_desc (Some a.inputs.desc) a.inputs.read.described ∙ is in
-            let e : a.inputs.desc ≡ d = cc in
-            ap₂ (verdict_in wanted) e (same_image a.inputs)
+        -- one verdict is told of what is accepted
+        same_verdict : (verdict : Verdict) → verdict_in wanted desc image ≡ Some verdict → (a : Accepted wanted old.files new.files) → a.verdict ≡ verdict
+        same_verdict verdict is a =
+            let told : Some a.verdict ≡ Some verdict =
+            sym a.told ∙ ap₂ (verdict_in wanted) (same_desc a.inputs.desc a.inputs.read.described) (same_image a.inputs) ∙ is in
+            cc
 
-        complete : (r : Result Verdict Unjudged) → Ends words old new r → (d : Desc) → desc ≡ Some d → fault_in wanted image ≡ None
-            → (Rose (old.files.faults wanted.description) (new.files.faults wanted.description) → ⊥) → (Rose (old.files.faults wanted.image) (new.files.faults wanted.image) → ⊥)
-            → (Rose old.out.faults new.out.faults → ⊥)
-            → ((status_of r ≡ 8) × (new.out ≡ old.out))
-            ⊎ ((status_of r ≡ verdict_status (verdict_in wanted d image)) × Wrote (verdict_text (verdict_in wanted d image)) old.out new.out)
-        complete (Ok v) e d is none a b c =
+        complete : (r : Result Verdict Unjudged) → Ends words old new r → (verdict : Verdict) → verdict_in wanted desc image ≡ Some verdict → fault_in wanted image ≡ None
+            → ((name : List ℕ) → named wanted.run ≡ Some name → Rose (old.files.faults name) (new.files.faults name) → ⊥)
+            → (Rose (old.files.faults wanted.image) (new.files.faults wanted.image) → ⊥) → (Rose old.out.faults new.out.faults → ⊥)
+            → ((status_of r ≡ 8) × (new.out ≡ old.out)) ⊎ ((status_of r ≡ verdict_status verdict) × Wrote (verdict_text verdict) old.out new.out)
+        complete (Ok v) e verdict is none a b c =
             let w = whole v e in
-            let same = same_verdict d is w.0 in
+            let same = same_verdict verdict is w.0 in
             inr (ap verdict_status (w.2 ∙ same), subst (λ v. Wrote (verdict_text v) old.out new.out) same w.1)
-        complete (Err (Range f)) e d is none a b c = let i = its_fault f e in absurd (no_clash (same_fault i.0 (Some f) i.1) none)
-        complete (Err (Refused Words)) e d is none a b c = absurd (clash k e.0)
-        complete (Err (Refused ReadDescription)) e d is none a b c = absurd (a (its_refusal ReadDescription e.0).rose)
-        complete (Err (Refused DescriptionTooLong)) e d is none a b c = absurd (described_longer e.0)
-        complete (Err (Refused (Description f))) e d is none a b c = absurd (described_faulty f e.0)
-        complete (Err (Refused (ReadImage which))) e d is none a b c = absurd (b (unread wanted which (its_refusal (ReadImage which) e.0)).2.rose)
-        complete (Err (Refused (ImageTooLong which))) e d is none a b c = absurd (not_long which e.0)
-        complete (Err (Refused (Image which f))) e d is none a b c = absurd (not_at_fault which f e.0)
-        complete (Err (Refused Write)) e d is none a b c = absurd (c (cut e).1.rose)
-        complete (Err (Refused Memory)) e d is none a b c = inl (refl, e.2)
+        complete (Err (Range f)) e verdict is none a b c = let i = its_fault f e in absurd (no_clash (same_fault i.0 (Some f) i.1) none)
+        complete (Err (Refused Words)) e verdict is none a b c = absurd (clash k e.0)
+        complete (Err (Refused ReadDescription)) e verdict is none a b c =
+            let n = refused_name (named wanted.run) old.files new.files ReadDescription (its_refusal ReadDescription e.0) in
+            absurd (a n.0 n.1 n.2.rose)
+        complete (Err (Refused DescriptionTooLong)) e verdict is none a b c = absurd (described_longer e.0)
+        complete (Err (Refused (Description f))) e verdict is none a b c = absurd (described_faulty f e.0)
+        complete (Err (Refused (ReadImage which))) e verdict is none a b c = absurd (b (unread wanted which (its_refusal (ReadImage which) e.0)).2.rose)
+        complete (Err (Refused (ImageTooLong which))) e verdict is none a b c = absurd (not_long which e.0)
+        complete (Err (Refused (Image which f))) e verdict is none a b c = absurd (not_at_fault which f e.0)
+        complete (Err (Refused Write)) e verdict is none a b c = absurd (c (cut e).1.rose)
+        complete (Err (Refused Memory)) e verdict is none a b c = inl (refl, e.2)
 
 pub statuses : (words : List (List ℕ)) (old new : World) (r : Result Verdict Unjudged) → Ends words old new r → Statuses words old new (status_of r)
 statuses words old new r e = record {
@@ -309,7 +325,7 @@ statuses words old new r e = record {
   no_words = no_words words old new r e;
   faulty_range = λ wanted desc image faulty k t i x. faulty_range words old new wanted k desc t image i r e faulty x;
   four = four words old new r e;
-  faulty_description = λ wanted k x. faulty_description words old new wanted k r e x;
+  faulty_description = λ wanted name k is x. faulty_description words old new wanted k name is x r e;
   five = five words old new r e;
   faulty_image = λ wanted desc k t x. faulty_image words old new wanted k desc t r e x;
   six = six words old new r e;
@@ -317,7 +333,7 @@ statuses words old new r e = record {
   seven = seven words old new r e;
   not_seven = not_seven words old new r e;
   nothing = nothing words old new r e;
-  complete = λ wanted d image k t i none a b c. complete words old new wanted k (Some d) t image i r e d refl none a b c;
+  complete = λ wanted desc image verdict k t i none is a b c. complete words old new wanted k desc t image i r e verdict is none a b c;
 }
 
 -- the status that is answered says what the status of the outcome says

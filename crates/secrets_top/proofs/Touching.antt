@@ -2,7 +2,7 @@
 use Rattle.std.proofs.Common.{◌≡◌, ◌<◌, ℕ, ◌+◌, ◌-◌, Bool, false, ◌||◌, ap, sym, ◌∙◌}
 use Rattle.std.specs.List.{list_any}
 use Rattle.rv_types.specs.Memory.{range}
-use Rattle.marked_core.proofs.Secrets.{range_next}
+use Rattle.mark_words.proofs.Secrets.{range_next}
 
 module _ (p : ℕ → Bool) (a n i : ℕ) where
   -- one of the addresses that are left has the property, where the first has or one of the others

@@ -8,14 +8,16 @@ use Rattle.run_inputs.specs.Input.{MayGive, Gives, HasDesc, IsFaultyDescription,
 use Rattle.run_inputs.specs.Told.{World}
 use Rattle.run_inputs.specs.declared.refusal.Refusal.{Refusal}
 use Rattle.run_inputs.specs.declared.refusal.Refusal.TheVariants.{Words, Write, Memory}
-use Rattle.secret_words.specs.Words.{WantedText, wanted_of}
+use Rattle.secret_marks.specs.declared.PublicStreams.{PublicStreams}
+use Rattle.secret_marks.specs.declared.SecretRange.{SecretRange}
+use Rattle.secret_words.specs.Words.{RunText, WantedText, wanted_of, core_run, path_run}
 use Rattle.secrets_top.specs.declared.ranges.FaultyRange.{FaultyRange}
 use Rattle.secrets_top.specs.declared.refusal.Unjudged.{Unjudged}
 use Rattle.secrets_top.specs.declared.refusal.Unjudged.TheVariants.{Range, Refused}
 use Rattle.secrets_top.specs.declared.verdict.Verdict.{Verdict}
 use Rattle.secrets_top.specs.Ranges.{first_faulty}
 use Rattle.secrets_top.specs.Refused.{Notes, status_of}
-use Rattle.secrets_top.specs.Verdict.{verdict_of, verdict_text, verdict_status}
+use Rattle.secrets_top.specs.Verdict.{verdict_of, path_verdict_of, verdict_text, verdict_status}
 
 -- ---- What the words want
 
@@ -23,39 +25,50 @@ use Rattle.secrets_top.specs.Verdict.{verdict_of, verdict_text, verdict_status}
 abbrev pub Wants : List (List ℕ) → (WantedText → Type 0) → Type 0
 Wants words P = (wanted : WantedText) × (wanted_of words ≡ Some wanted) × P wanted
 
--- what is read for what is wanted: a description, and then an image under it
+-- the name of the description of a run: the path may do without
+abbrev pub named : RunText → Option (List ℕ)
+named (core_run description cycles) = Some description
+named (path_run description steps) = description
+
+-- what is read for what is wanted: a description, if one is named, and then an image under it
 pub record Inputs (wanted : WantedText) (old new : Shelf) : Type 0 where
-  pub desc : Desc
+  pub desc : Option Desc
   pub image : ImageText
-  pub read : IsRead old new (Some wanted.description) (from_file wanted.image ∷ []) (Some desc) (image ∷ [])
+  pub read : IsRead old new (named wanted.run) (from_file wanted.image ∷ []) desc (image ∷ [])
 
 -- what is wrong with the ranges of an image
 abbrev pub fault_in : WantedText → ImageText → Option FaultyRange
 fault_in wanted image = first_faulty image 0 wanted.secret
 
--- what is read is accepted: a description, an image under it, and no range of secret bytes with a fault
+-- what is told of a run, with what is read for it: of a core's with its description alone
+abbrev pub judged : RunText → Option Desc → ImageText → List SecretRange → PublicStreams → Option Verdict
+judged (core_run description cycles) (Some d) image secret public = Some (verdict_of d image secret public cycles)
+judged (core_run description cycles) None image secret public = None
+judged (path_run description steps) desc image secret public = Some (path_verdict_of image secret public steps)
+
+-- what is told of the run that is wanted
+abbrev pub verdict_in : WantedText → Option Desc → ImageText → Option Verdict
+verdict_in wanted desc image = judged wanted.run desc image wanted.secret wanted.public
+
+-- what is read is accepted: a description, if one is named, an image under it, and no range of secret bytes with a
+-- fault; and this is told of the run
 pub record Accepted (wanted : WantedText) (old new : Shelf) : Type 0 where
   pub inputs : Inputs wanted old new
   pub ranges : fault_in wanted inputs.image ≡ None
-
--- what is told of the run that is wanted
-abbrev pub verdict_in : WantedText → Desc → ImageText → Verdict
-verdict_in wanted d image = verdict_of d image wanted.secret wanted.public wanted.cycles
-
-abbrev pub verdict_on : {wanted : WantedText} {old new : Shelf} → Accepted wanted old new → Verdict
-verdict_on {wanted} a = verdict_in wanted a.inputs.desc a.inputs.image
+  pub verdict : Verdict
+  pub told : verdict_in wanted inputs.desc inputs.image ≡ Some verdict
 
 -- why reading is refused: for the description, or for the image under it
 abbrev pub RefusedInputs : WantedText → Shelf → Shelf → Refusal → Type 0
-RefusedInputs wanted old new refusal = Refuses (Some wanted.description) (from_file wanted.image ∷ []) old new refusal
+RefusedInputs wanted old new refusal = Refuses (named wanted.run) (from_file wanted.image ∷ []) old new refusal
 
 -- how the program ends: what is told is written whole, or in part where the sink failed; or the words want nothing,
 -- there are some and there was no memory, what is read or a range of it is refused, and nothing is written
 abbrev pub Ends : List (List ℕ) → World → World → Result Verdict Unjudged → Type 0
-Ends words old new (Ok told) = Wants words (λ wanted. (a : Accepted wanted old.files new.files) × Wrote (verdict_text (verdict_on a)) old.out new.out × (told ≡ verdict_on a))
+Ends words old new (Ok told) = Wants words (λ wanted. (a : Accepted wanted old.files new.files) × Wrote (verdict_text a.verdict) old.out new.out × (told ≡ a.verdict))
 Ends words old new (Err (Range faulty)) =
     Wants words (λ wanted. (inputs : Inputs wanted old.files new.files) × (fault_in wanted inputs.image ≡ Some faulty)) × (new.out ≡ old.out)
-Ends words old new (Err (Refused Write)) = Wants words (λ wanted. (a : Accepted wanted old.files new.files) × WrotePrefix (verdict_text (verdict_on a)) old.out new.out)
+Ends words old new (Err (Refused Write)) = Wants words (λ wanted. (a : Accepted wanted old.files new.files) × WrotePrefix (verdict_text a.verdict) old.out new.out)
 Ends words old new (Err (Refused Words)) = (wanted_of words ≡ None) × SameCounts old.files new.files × (new.out ≡ old.out)
 Ends words old new (Err (Refused Memory)) = (words ≢ []) × SameCounts old.files new.files × (new.out ≡ old.out)
 Ends words old new (Err (Refused refusal)) = Wants words (λ wanted. RefusedInputs wanted old.files new.files refusal) × (new.out ≡ old.out)
@@ -74,8 +87,8 @@ IsTold status = (status ≡ 0) ⊎ (status ≡ 1) ⊎ (status ≡ 3)
 pub record Statuses (words : List (List ℕ)) (old new : World) (status : ℕ) : Type 0 where
   -- 0, 1 and 3: the whole text is written, with the status of what it tells: nothing shows and the run ended, something
   -- shows, or nothing does within the budget
-  pub told : IsTold status → Wants words (λ wanted. (a : Accepted wanted old.files new.files) × Wrote (verdict_text (verdict_on a)) old.out new.out
-      × (status ≡ verdict_status (verdict_on a)))
+  pub told : IsTold status → Wants words (λ wanted. (a : Accepted wanted old.files new.files) × Wrote (verdict_text a.verdict) old.out new.out
+      × (status ≡ verdict_status a.verdict))
   -- 2 only where the words want nothing, or a range isn't within the image's memory or touches its code; and there
   -- always, but for a failed read and want of memory
   pub two : status ≡ 2 → (wanted_of words ≡ None)
@@ -84,33 +97,34 @@ pub record Statuses (words : List (List ℕ)) (old new : World) (status : ℕ) :
   -- 2 wherever there are no words
   pub no_words : words ≡ [] → status ≡ 2
   pub faulty_range : (wanted : WantedText) (desc : Option Desc) (image : ImageText) (faulty : FaultyRange) → wanted_of words ≡ Some wanted
-      → HasDesc (Gives old.files) (Some wanted.description) desc → IsImage (Gives old.files) desc (from_file wanted.image) image → fault_in wanted image ≡ Some faulty
+      → HasDesc (Gives old.files) (named wanted.run) desc → IsImage (Gives old.files) desc (from_file wanted.image) image → fault_in wanted image ≡ Some faulty
       → (status ≡ 2) ⊎ ((status ≡ 6) ⊎ (status ≡ 8))
-  -- 4 only where the description is too long or at fault, and there always, but for a failed read and want of memory
-  pub four : status ≡ 4 → Wants words (λ wanted. IsFaultyDescription (MayGive old.files) wanted.description)
-  pub faulty_description : (wanted : WantedText) → wanted_of words ≡ Some wanted → IsFaultyDescription (Gives old.files) wanted.description
-      → (status ≡ 4) ⊎ ((status ≡ 6) ⊎ (status ≡ 8))
+  -- 4 only where a description is named that is too long or at fault, and there always, but for a failed read and want
+  -- of memory
+  pub four : status ≡ 4 → Wants words (λ wanted. (name : List ℕ) × (named wanted.run ≡ Some name) × IsFaultyDescription (MayGive old.files) name)
+  pub faulty_description : (wanted : WantedText) (name : List ℕ) → wanted_of words ≡ Some wanted → named wanted.run ≡ Some name
+      → IsFaultyDescription (Gives old.files) name → (status ≡ 4) ⊎ ((status ≡ 6) ⊎ (status ≡ 8))
   -- 5 only where the image is too long or at fault and the description isn't, and there always, but for a failed read
   -- and want of memory
-  pub five : status ≡ 5 → Wants words (λ wanted. (desc : Option Desc) × HasDesc (MayGive old.files) (Some wanted.description) desc
+  pub five : status ≡ 5 → Wants words (λ wanted. (desc : Option Desc) × HasDesc (MayGive old.files) (named wanted.run) desc
       × IsFaultyImage (MayGive old.files) desc (from_file wanted.image))
-  pub faulty_image : (wanted : WantedText) (desc : Option Desc) → wanted_of words ≡ Some wanted → HasDesc (Gives old.files) (Some wanted.description) desc
+  pub faulty_image : (wanted : WantedText) (desc : Option Desc) → wanted_of words ≡ Some wanted → HasDesc (Gives old.files) (named wanted.run) desc
       → IsFaultyImage (Gives old.files) desc (from_file wanted.image) → (status ≡ 5) ⊎ ((status ≡ 6) ⊎ (status ≡ 8))
-  -- 6 only where the count of the description's name rose, or that of the image's after the description was read and
-  -- had no fault; any other status leaves all counts of the files
-  pub six : status ≡ 6 → Wants words (λ wanted. NameFailed wanted.description old.files new.files
-      ⊎ ((desc : Option Desc) × HasDesc (MayGive old.files) (Some wanted.description) desc × NameFailed wanted.image old.files new.files))
+  -- 6 only where the count of the description's name rose, or that of the image's after the description, if one is
+  -- named, was read and had no fault; any other status leaves all counts of the files
+  pub six : status ≡ 6 → Wants words (λ wanted. ((name : List ℕ) × (named wanted.run ≡ Some name) × NameFailed name old.files new.files)
+      ⊎ ((desc : Option Desc) × HasDesc (MayGive old.files) (named wanted.run) desc × NameFailed wanted.image old.files new.files))
   pub not_six : status ≢ 6 → SameCounts old.files new.files
   -- 7 only where the count of the sink rose, with a part of the text written; any other status leaves that count
-  pub seven : status ≡ 7 → Wants words (λ wanted. (a : Accepted wanted old.files new.files) × WrotePrefix (verdict_text (verdict_on a)) old.out new.out)
+  pub seven : status ≡ 7 → Wants words (λ wanted. (a : Accepted wanted old.files new.files) × WrotePrefix (verdict_text a.verdict) old.out new.out)
   pub not_seven : status ≢ 7 → new.out.faults ≡ old.out.faults
   -- any status but 0, 1, 3 and 7 writes nothing
   pub nothing : ¬ IsTold status → status ≢ 7 → new.out ≡ old.out
   -- where the words, the description, the image and the ranges have no fault and no count rose, the whole text is
   -- written with its status, or memory was wanting and nothing is
-  pub complete : (wanted : WantedText) (d : Desc) (image : ImageText) → wanted_of words ≡ Some wanted
-      → HasDesc (Gives old.files) (Some wanted.description) (Some d) → IsImage (Gives old.files) (Some d) (from_file wanted.image) image → fault_in wanted image ≡ None
-      → ¬ Rose (old.files.faults wanted.description) (new.files.faults wanted.description) → ¬ Rose (old.files.faults wanted.image) (new.files.faults wanted.image)
-      → ¬ Rose old.out.faults new.out.faults
-      → ((status ≡ 8) × (new.out ≡ old.out))
-      ⊎ ((status ≡ verdict_status (verdict_in wanted d image)) × Wrote (verdict_text (verdict_in wanted d image)) old.out new.out)
+  pub complete : (wanted : WantedText) (desc : Option Desc) (image : ImageText) (verdict : Verdict) → wanted_of words ≡ Some wanted
+      → HasDesc (Gives old.files) (named wanted.run) desc → IsImage (Gives old.files) desc (from_file wanted.image) image → fault_in wanted image ≡ None
+      → verdict_in wanted desc image ≡ Some verdict
+      → ((name : List ℕ) → named wanted.run ≡ Some name → ¬ Rose (old.files.faults name) (new.files.faults name))
+      → ¬ Rose (old.files.faults wanted.image) (new.files.faults wanted.image) → ¬ Rose old.out.faults new.out.faults
+      → ((status ≡ 8) × (new.out ≡ old.out)) ⊎ ((status ≡ verdict_status verdict) × Wrote (verdict_text verdict) old.out new.out)

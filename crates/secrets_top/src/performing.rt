@@ -1,14 +1,16 @@
-//! A run with marks beside it, and what is told of it. All memory is taken before the first cycle, and nothing is
-//! written before the last.
+//! A run with marks beside it, of a core or of the instruction set, and what is told of it. All memory is taken before
+//! the run begins, and nothing is written before it ends.
 ghost use Rattle.std.specs.Prelude.{◌≡◌, ◌<◌, ◌+◌, ◌^◌, IfOk};
 ghost use Rattle.elf_loader.specs.inner.Code.{word_at};
 ghost use Rattle.pair_run.specs.Running.{ending_at};
 ghost use Rattle.run_inputs.specs.Loaded.{Fits, loaded};
-ghost use Rattle.secrets_top.specs.Verdict.{told_of, verdict_from, verdict_of};
-ghost use Rattle.secrets_top.specs.inner.Top.{Performs};
+ghost use Rattle.secrets_top.specs.Verdict.{verdict_from, verdict_of};
+ghost use Rattle.secrets_top.specs.inner.Top.{InMemory, Performs, verdict_on};
 
+use crate::path::judge_path;
 use crate::refusal::Unjudged;
-use crate::verdict::{Verdict, write_verdict};
+use crate::task::Task;
+use crate::verdict::{Verdict, told_of, write_verdict};
 use marked_core::{MarkedCore, first_shown};
 use rename_taint::ByTable;
 use run_inputs::Described;
@@ -31,17 +33,6 @@ fn ending_at(core: &Core) -> Ending
     }
 }
 
-// A number of published bytes is told where a stream is public.
-fn told_of(public: PublicStreams, count: u64) -> Option<u64>
-    ensures { result ≡ told_of public count }
-{
-    if public.first || public.second {
-        Some(count)
-    } else {
-        None
-    }
-}
-
 // Runs a core for at most so many cycles, until something shows.
 fn watch(core: &mut Core, cycles: u32) -> Verdict
     requires few { core.old.machine.cycle + cycles < 2 ^ 32 }
@@ -57,8 +48,8 @@ fn watch(core: &mut Core, cycles: u32) -> Verdict
     }
 }
 
-// What is told of an image's run. The one error is want of memory, before the first cycle.
-fn judge(
+// What is told of the run of a core. The one error is want of memory, before the first cycle.
+fn judge_core(
     alloc: Global,
     read: Described,
     secret: &[SecretRange],
@@ -73,21 +64,35 @@ fn judge(
     Ok(watch(&mut core, cycles))
 }
 
+// What is told of a run. The one error is want of memory, before it begins.
+fn judge(
+    alloc: Global,
+    task: Task,
+    secret: &[SecretRange],
+    public: PublicStreams,
+) -> Result<Verdict, NoMemory>
+    requires { InMemory task }
+    ensures { IfOk result (λ v. v ≡ verdict_on task secret.now public) }
+{
+    match task {
+        Task::Core { read, cycles } => judge_core(alloc, read, secret, public, cycles),
+        Task::Path { image, steps } => judge_path(alloc, image, secret, public, steps),
+    }
+}
+
 /// Tells what a run shows. Errors: `Memory`, before anything is written; `Write`, only where the sink's count of faults
 /// rose, with a part of the text written.
 pub(crate) fn perform<O: Sink>(
     alloc: Global,
-    read: Described,
+    task: Task,
     secret: &[SecretRange],
     public: PublicStreams,
-    cycles: u32,
     out: &mut O,
 ) -> Result<Verdict, Unjudged>
-    requires { Fits read.desc read.image.ram }
-    ensures { Performs (verdict_of read.desc (loaded read.image) secret.now public cycles)
-        (O.told out.old) (O.told out.new) result }
+    requires { InMemory task }
+    ensures { Performs (verdict_on task secret.now public) (O.told out.old) (O.told out.new) result }
 {
-    let verdict = judge(alloc, read, secret, public, cycles)?;
+    let verdict = judge(alloc, task, secret, public)?;
     write_verdict(&verdict, out)?;
     Ok(verdict)
 }

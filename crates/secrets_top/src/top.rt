@@ -10,14 +10,14 @@ ghost use Rattle.secrets_top.specs.Promises.{Promises};
 use crate::performing::perform;
 use crate::ranges::check_ranges;
 use crate::refusal::{Unjudged, note_line, status_of};
+use crate::task::read_task;
 use crate::verdict::Verdict;
-use run_inputs::{ImageSource, read_described};
 use secret_words::read_wanted;
 use std::alloc::Global;
 use tool_io::{Files, Sink};
 
-// Reads the words, the description and the image, checks the ranges, and runs and tells what shows: all that the
-// program does but for the note.
+// Reads the words, the description, if one is named, and the image, checks the ranges, and runs and tells what shows: all
+// that the program does but for the note.
 fn answer<F: Files, O: Sink>(
     alloc: Global,
     words: &[&str],
@@ -29,25 +29,14 @@ fn answer<F: Files, O: Sink>(
     ensures stays { SameContents (F.shelf files.old) (F.shelf files.new) }
 {
     let wanted = read_wanted(alloc, words)?;
-    let read = read_described(
-        alloc,
-        wanted.description,
-        ImageSource::File(wanted.image),
-        files,
-    )?;
-    check_ranges(&read.image, wanted.secret.as_slice())?;
-    perform(
-        alloc,
-        read,
-        wanted.secret.as_slice(),
-        wanted.public,
-        wanted.cycles,
-        out,
-    )
+    let task = read_task(alloc, wanted.image, wanted.run, files)?;
+    check_ranges(task.image(), wanted.secret.as_slice())?;
+    perform(alloc, task, wanted.secret.as_slice(), wanted.public, out)
 }
 
-/// Does all that the program does, and answers its status. `words` are those after the program's name. What is told of
-/// the run is written to `out`, one put a line; a refusal writes its line to `note`, whose failure changes no status.
+/// Does all that the program does, and answers its status. `words` are those after the program's name: they ask of the
+/// run of a core, or of the path, which is the run of the instruction set. What is told of the run is written to `out`,
+/// one put a line; a refusal writes its line to `note`, whose failure changes no status.
 ///
 /// Statuses: 0 nothing of the secret shows, and the run ended; 1 something shows; 3 nothing shows within the budget, in
 /// which the run didn't end; 2 the words are no wish, or a range isn't within memory or touches code; 4 the

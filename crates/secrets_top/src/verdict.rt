@@ -4,11 +4,12 @@
 //! A put has one line, and nothing here takes memory.
 ghost use Rattle.std.specs.Prelude.{◌≡◌, Some};
 ghost use Rattle.tool_io.specs.Outside.{Writes};
-ghost use Rattle.secrets_top.specs.Verdict.{what_shows, shown_line, published_line, last_lines, hidden_text, verdict_text, verdict_status};
+ghost use Rattle.secrets_top.specs.Verdict.{told_of, what_shows, shown_line, step_line, published_line, last_lines, hidden_text, verdict_text, verdict_status};
 
+use constant_time::FirstStep;
 use line_text::{Line, write_end};
 use rv_types::{Ending, Kind};
-use secret_marks::FirstShown;
+use secret_marks::{FirstShown, PublicStreams};
 use tool_io::{Failed, Sink};
 
 /// What is told of a run.
@@ -17,8 +18,21 @@ pub(crate) enum Verdict {
     /// Nothing shows in the run, which ended so, or not within its budget; and how many bytes it published, where a
     /// stream is public.
     Hidden(Ending, Option<u64>),
-    /// Something shows in the run: what does first, and in which cycle.
+    /// Something shows in the run of a core: what does first, and in which cycle.
     Shown(FirstShown),
+    /// Something shows on the path: what does first, and in which step.
+    PathShown(FirstStep),
+}
+
+/// How many bytes a run published, as it is told: where a stream is public.
+pub(crate) fn told_of(public: PublicStreams, count: u64) -> Option<u64>
+    ensures { result ≡ told_of public count }
+{
+    if public.first || public.second {
+        Some(count)
+    } else {
+        None
+    }
 }
 
 // The word of what shows of an instruction of this kind. Of a kind that isn't named nothing shows but where a branch or
@@ -47,6 +61,21 @@ fn shown_line(first: &FirstShown) -> Line
     line.add_decimal(first.shown.serial);
     line.add(b" ");
     line.add_hex8(first.shown.pc);
+    line.add(b"\n");
+    line
+}
+
+#[tactic(auto, unfolding(crate::specs::Verdict::step_line))]
+fn step_line(first: &FirstStep) -> Line
+    ensures { result ≡ step_line first.now }
+{
+    let mut line = Line::new();
+    line.add(b"shown ");
+    line.add_decimal(first.step);
+    line.add(b" ");
+    line.add(what_shows(first.kind));
+    line.add(b" ");
+    line.add_hex8(first.pc);
     line.add(b"\n");
     line
 }
@@ -93,6 +122,7 @@ pub(crate) fn write_verdict<S: Sink>(verdict: &Verdict, out: &mut S) -> Result<(
     match verdict {
         Verdict::Hidden(ending, published) => write_hidden(ending, *published, out),
         Verdict::Shown(first) => out.put(shown_line(first).as_slice()),
+        Verdict::PathShown(first) => out.put(step_line(first).as_slice()),
     }
 }
 
@@ -102,6 +132,6 @@ pub(crate) fn verdict_status(verdict: &Verdict) -> u8
 {
     match verdict {
         Verdict::Hidden(ending, _) => { if ending.end.is_some() { 0 } else { 3 } }
-        Verdict::Shown(_) => 1,
+        Verdict::Shown(_) | Verdict::PathShown(_) => 1,
     }
 }

@@ -1,5 +1,5 @@
-//! The program that judges by one run whether a secret shows: for every value of the secret bytes, or where first it
-//! does.
+//! The program that judges by one run whether a secret shows: by that of a core for every value of the secret bytes, by
+//! that of the instruction set for every core with the defence `delay` as well, or where first it does.
 //!
 //! Rules: none, since `main` hands its words, the host's files and the standard streams to `secrets_program`, which
 //! does all the rest.
