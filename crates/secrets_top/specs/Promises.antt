@@ -24,7 +24,7 @@ use Rattle.constant_time.specs.Certified.{ends_plainly}
 use Rattle.constant_time.specs.declared.FirstStep.{FirstStep}
 use Rattle.tool_io.specs.Outside.{Told, Wrote}
 use Rattle.run_inputs.specs.Told.{World}
-use Rattle.secret_words.specs.Words.{RunText, WantedText, core_run, path_run}
+use Rattle.secret_words.specs.Words.{RunText, core_run, path_run}
 use Rattle.secrets_top.specs.Top.{Wants, Accepted}
 use Rattle.secrets_top.specs.Verdict.{is_any_public, told_of, hidden_text, shown_line, step_line, first_of_run, first_on_path, path_of, ending_in}
 

@@ -1,5 +1,5 @@
 -- A range that isn't accepted is refused; else what is told is told of the run that is wanted.
-use Rattle.std.proofs.Common.{List, ℕ, map, sym, ap, ap₂, ◌∙◌, subst}
+use Rattle.std.proofs.Common.{List, ℕ, map, sym, ap₂, ◌∙◌, subst}
 use Rattle.run_inputs.specs.Told.{world}
 use Rattle.run_inputs.proofs.Exits.{at_exit}
 use Rattle.secret_marks.specs.declared.SecretRange.{SecretRange}

@@ -5,7 +5,7 @@ use Rattle.tool_io.proofs.Writing.{part_more, writes_part, writes_then}
 use Rattle.tool_io.specs.Outside.{Wrote, WrotePrefix}
 use Rattle.secrets_top.specs.Verdict.{last_lines, published_line}
 use Rattle.secrets_top.proofs.verdict.write_published.Goals as goal
-use Rattle.std.proofs.Common.{subst, ap, ◌∙◌}
+use Rattle.std.proofs.Common.{subst, ◌∙◌}
 
 pub returns-in_err-put : goal.returns-in_err-put
 returns-in_err-put g c =
