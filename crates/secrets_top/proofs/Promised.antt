@@ -1,5 +1,5 @@
--- A run in which nothing shows gives the trace of every secret: of a core by the law of one run for all, and of the path
--- by that of one run for every core.
+-- A run in which nothing shows gives the trace of every secret: of a core by the law of one run for all, and of the
+-- path by that of one run for every core.
 use Rattle.std.proofs.Common.{◌≡◌, ◌⊎◌, ◌≤◌, ◌==◌, ◌||◌, Bool, ℕ, List, length, true, false, Option, Some, None, Result, refl, sym, ap, ◌∙◌, inl, inr, subst, arith}
 use Rattle.std.specs.Option.{option_map, is_some}
 use Rattle.std.specs.Prelude.{if◌then◌else◌}

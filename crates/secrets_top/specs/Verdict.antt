@@ -114,8 +114,8 @@ step_line first = codes "shown " ++ decimal first.step ++ codes " " ++ what_show
 unfoldable pub published_line : ℕ → List ℕ
 published_line bytes = codes "published " ++ decimal bytes ++ codes "\n"
 
--- the last lines of a run in which nothing shows: what is published, if that is told, and how the run ended, as the last
--- line of its trace or report says it
+-- the last lines of a run in which nothing shows: what is published, if that is told, and how the run ended, as the
+-- last line of its trace or report says it
 abbrev pub last_lines : Ending → Option ℕ → List ℕ
 last_lines ending None = end_line ending
 last_lines ending (Some bytes) = published_line bytes ++ end_line ending

@@ -16,8 +16,8 @@ use secret_words::read_wanted;
 use std::alloc::Global;
 use tool_io::{Files, Sink};
 
-// Reads the words, the description, if one is named, and the image, checks the ranges, and runs and tells what shows: all
-// that the program does but for the note.
+// Reads the words, the description, if one is named, and the image, checks the ranges, and runs and tells what shows:
+// all that the program does but for the note.
 fn answer<F: Files, O: Sink>(
     alloc: Global,
     words: &[&str],
