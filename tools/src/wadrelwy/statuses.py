@@ -12,13 +12,14 @@ EXIT_VALUE = 11
 TRAPPED = 12
 VACUOUS = 13
 SAME = 14
+EVERY_CORE = 15
 REFUTED = 16
 # and the number of the signal, as shells tell it
 KILLED = 128
 INTERRUPTED = 130
 
 # of answers, the worst first: what the status of a table is
-WORST_FIRST = (REFUTED, SHOWS, CUT, TRAPPED, VACUOUS, SAME, EXIT_VALUE, PUBLISHED, HOLDS)
+WORST_FIRST = (REFUTED, SHOWS, CUT, TRAPPED, VACUOUS, SAME, EXIT_VALUE, PUBLISHED, HOLDS, EVERY_CORE)
 
 
 def worst(statuses: Iterable[int]) -> int:

@@ -455,7 +455,7 @@ class Table(unittest.TestCase):
         self.assertIn("| certified | refused K6 |", told.stdout)
 
     def test_refusals(self):
-        for words, note in [((), "no plan"), (("--programs", "a.elf"), "a table has programs, secrets and descriptions"),
+        for words, note in [((), "no plan"), (("--programs", "a.elf"), "a table has programs and secrets, and descriptions where"),
                             (("--programs", support.example("bounds_check.elf"), "--secret", "kee", "--descriptions", CORE), "no symbol `kee`"),
                             (self.words("--jobs", "0"), "at least 1"), (self.words("--set", "rob"), "KEY=VALUE")]:
             told = self.certify(*words)

@@ -4,6 +4,7 @@ under settings.
     wadrelwy certify FOLDER --programs IMAGE.. --secret SYMBOL.. --descriptions DESCRIPTION.. [--set KEY=VALUE,..].. [--defences]
                      [--public-stream N]..
     wadrelwy certify FOLDER --build SOURCES [--compilers gcc clang] [--levels 1 2] [--only NAME] --secret .. --descriptions .. [..]
+    wadrelwy certify FOLDER (--programs IMAGE.. | --build SOURCES) --secret .. [..]
     wadrelwy certify FOLDER [--json]
 
 Each program is asked under each description with each combination of the values that are set, as by wadrelwy sweep: --set
@@ -11,6 +12,10 @@ stt.model=off,spectre; --defences is the model off, and each defence under both 
 wadrelwy verdict; of several each image takes those whose symbols it has, and it has to have one. SOURCES is a folder whose Makefile
 builds each NAME.c or NAME.cpp of it, as that of examples/crypto does, into FOLDER/build/COMPILER-OLEVEL; a compiler that isn't there is left out, with a
 word on standard error. NAME is a part of a program's name.
+
+Without --descriptions each program is asked once, of every core that delays: of its run of the instruction set, with the memory that `wadrelwy isa`
+has (docs/secrets.md, "Three promises"). With --descriptions and --every-core the table has both: a column for each description and setting, and
+one for every core that delays and has the memory of the description.
 
 With --public-stream 1 or 2 (both where it stands twice) what the programs write there is public from then on (docs/secrets.md, "Make
 something public"): all cells are asked so, and one in which nothing shows says `certified for what is published`, and how many bytes these were.
@@ -22,15 +27,17 @@ first N cycles` says that the budget ended it, `certified, to a trap in cycle N`
 path loads none of the secret's bytes as they were before the run, as where it derives the key first. Else it has what shows first: an
 address, a time, where a branch or jump goes, or what a call is asked for; the source's line, or function and offset; the cycle; and, where
 the simulator is there (--program, STT_CLI), whether the instruction is on the path, or on a wrong one and behind which branch, return or
-load that passed a store. A description that is refused is a cell `refused K6`. The table is written to standard output and to FOLDER/table.md; FOLDER/table.csv has a
-row for each run. With --together all builds of a program that have the same cells are one row of the table. Where it was stopped, the
-command that began it, or `wadrelwy certify FOLDER` alone, goes on: only what is missing is asked. FOLDER has copies of all that was asked
-of. FOLDER alone is refused where an image, a description or the program isn't what it was; --copies goes on with those that the folder has.
---build builds all images anew.
+load that passed a store. Of every core that delays a cell says `certified on every core that delays`, or what shows first and in which step;
+where a trap or the budget ended the run nothing is claimed of cores, and it says `nothing shows, to a trap in step N`. A description that is refused is a cell `refused K6`. The table is written to standard output and to FOLDER/table.md; FOLDER/table.csv has a
+row for each run, and so has FOLDER/table.json, with the status of each and the sha256 of its image and description; --json writes that to
+standard output in place of the table. Where it was stopped, the command that began it, or `wadrelwy certify FOLDER` alone, goes on: only what is missing is
+asked. FOLDER has copies of all that was asked of. FOLDER alone is refused where an image, a description or the program isn't what it was;
+--copies goes on with those that the folder has. --build builds all images anew.
 
-N of --cycles is 4294967295 without it, and as many --jobs as processors. P of --secrets-program is the program that is asked: without it the
+N of --cycles is 4294967295 without it, of steps where the run is one of the instruction set, and as many --jobs as processors. P of --secrets-program is the program that is asked: without it the
 variable STT_SECRETS, else crates/stt_secrets/out/stt_secrets. The status is that of the worst cell: 0 certified, 1 something shows, 3 a
-budget ended a run or a description is refused, 12 a trap, 13 vacuous, 11 another exit value, 10 certified for what is published; 2 for a refusal, and 130 if interrupted."""
+budget ended a run or a description is refused, 12 a trap, 13 vacuous, 11 another exit value, 10 certified for what is published, 15 where all
+is certified on every core that delays and no core was asked of; 2 for a refusal, and 130 if interrupted."""
 import os
 import sys
 
@@ -52,6 +59,7 @@ def words(parser):
     parser.add_argument("--secret", nargs="+", action="extend", default=[], metavar="SYMBOL[+OFFSET][:BYTES]")
     asking.public_streams(parser)
     parser.add_argument("--descriptions", nargs="+", default=[], metavar="DESCRIPTION")
+    parser.add_argument("--every-core", action="store_true", help="with --descriptions: every core that delays is asked of, too")
     parser.add_argument("--set", action="append", default=[], metavar="KEY=VALUE,..")
     parser.add_argument("--defences", action="store_true", help=settings.TOLD)
     parser.add_argument("--cycles", type=int, default=4294967295, metavar="N")
@@ -64,8 +72,10 @@ def words(parser):
 
 def checked(asked):
     """These words, where they go together."""
-    if len({bool(asked.programs or asked.build), bool(asked.secret), bool(asked.descriptions)}) > 1:
-        raise Fault("a table has programs, secrets and descriptions")
+    if bool(asked.programs or asked.build) != bool(asked.secret) or not asked.secret and (asked.descriptions or asked.every_core):
+        raise Fault("a table has programs and secrets, and descriptions where cores are asked of")
+    if asked.secret and not asked.descriptions and (asked.set or asked.defences):
+        raise Fault(f"{'--set' if asked.set else '--defences'} is of descriptions, and there are none")
     if asked.jobs < 1 or asked.cycles < 1:
         raise Fault("jobs and cycles are at least 1")
 

@@ -7,7 +7,7 @@ image's own to begin with, whether they have one trace: two that haven't contrad
 is asked until a value with another trace than the image's own is found. The values are zeros and ones; words that are addresses within memory,
 all of them and one at a time; where a branch shows, what it compares on the path, at each place of the secret; N that are drawn; and for what
 shows the image's own with one byte changed. Where none is found, what shows may be conservative (docs/secrets.md, "What stays conservative"), or
-is met by few values only, and the line says by how few. A secret of which there are no more than N values is tried with each. A secret that
+is met by few values only, and the line says by how few. What is asked of every core that delays is of no one machine, so such a run is skipped, and told. A secret of which there are no more than N values is tried with each. A secret that
 the file has no bytes for (.bss) is skipped, and told. A line is written for each run; its NAME, of --only and --except, is a part of
 `chacha20 gcc-O2 spectre`, with the description behind the second word where there are several. The cycles are those that the run was looked at.
 
@@ -69,6 +69,7 @@ class Drawing:
 
     def __init__(self, plan, run, program, store):
         plan.check(run)
+        self.of_path = run.of_path
         self.row = certificates.row_of(plan, run, store)
         self.name = name_of(plan, run)
         self.description, self.program = plan.path(run.description), program
@@ -110,6 +111,8 @@ class Drawing:
     def tried(self, draws, seed):
         """What came of the values that are tried, and the status."""
         shown = self.row.answer.shown
+        if self.of_path:
+            return "skipped: it is of every core that delays, and of no one machine", statuses.CUT
         try:
             own = self.patches.value(self.secret)
         except Fault as fault:

@@ -17,8 +17,6 @@ from wadrelwy.verdict.loaded import Loaded, load
 from wadrelwy.view.description import FUTURISTIC, OFF, SPECTRE, read_description
 from wadrelwy.view.disassembly import Disassembler
 
-ISA_BASE, ISA_SIZE = 0x00010000, 1 << 20
-
 
 def words(parser: ArgumentParser) -> None:
     parser.add_argument("what", choices=["log", "report", "loads"])
@@ -42,7 +40,7 @@ def loads(image: Loaded, model: str, steps: int) -> Iterator[str]:
 
 def main(asked: Namespace) -> int:
     machine = read_description(asked.desc) if asked.desc else None
-    image = load(asked.image, machine) if machine else Loaded(asked.image, ISA_BASE, ISA_SIZE)
+    image = load(asked.image, machine)
     run = path.hart_of(image, asked.model)
     if asked.what == "report":
         for _ in run.run(asked.steps):

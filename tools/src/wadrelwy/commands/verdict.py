@@ -3,11 +3,14 @@
     wadrelwy verdict DESCRIPTION A B [--set NAME=VALUE].. [--json] [--cycles N] [--program P] [--secrets-program P2] [--notation abi|manual]
     wadrelwy verdict DESCRIPTION A --secret SYMBOL[+OFFSET][:BYTES].. [--public-stream N].. [--all] [..]
     wadrelwy verdict DESCRIPTION A --secret SYMBOL[+OFFSET][:BYTES].. --value HEX [..]
+    wadrelwy verdict A --secret SYMBOL[+OFFSET][:BYTES].. [--public-stream N].. [--steps N] [--desc D] [..]
 
 Says of two images under a machine description: do their codes and memories differ, and in which bytes; does the path load such a byte;
 are the premises of noninterference met (docs/theorems.md); are the traces equal, and if not, in which event they part; which
 instructions were held by taint on an operand made of these bytes, or showed one; and whether the first one's run certifies the bytes that
-differ. Of one image with --secret it says that alone: whether something shows in its run that may depend on these bytes (docs/secrets.md).
+differ. Of one image with --secret it says that alone: whether something shows in its run that may depend on these bytes (docs/secrets.md). Without a description it says that of the image's
+run of the instruction set, which is of each core that delays: stt.defence = "delay", the model spectre or futuristic, any sizes, and the memory
+of the run, which is 1 MiB from 0x00010000 on, or that of D.
 The last line is the verdict, and so is the status:
 
      0  certified  nothing shows, and the run exited with 0: proved for every value of the bytes; of two images premises not met, traces equal
@@ -20,9 +23,13 @@ The last line is the verdict, and so is the status:
                    program publishes the same; and so with each of the words of 3, 11 and 12
     11  certified, exit V                the run exited with another value than 0
     12  certified, to a trap in cycle N  a trap ended the run
+                   Of a run of the instruction set 3 and 12 are `nothing shows in the first N steps` and `nothing shows, to a trap in step N`:
+                   of cores nothing is claimed
     13  vacuous    the path loads none of the bytes as they were before the run; two images: premises met, traces equal, but nothing was
                    ever held on these bytes
     14  same       two images: premises not met, traces equal, and no certificate was asked for
+    15  certified on every core that delays  without a description: the path shows nothing, and the run exited with 0. Proved for every value
+                   of the bytes, on each such core; with --public-stream `certified for what is published on every core that delays`, which is 10
     16  refuted    two images: traces unequal that are proved equal: contradicts what is proved
      2             no verdict: a refusal, told on standard error
 
@@ -46,7 +53,7 @@ several times. Where a symbol is called as a key of descriptions is, its address
 
 --json writes one object in place of the lines, with all that they say: the verdict, the status, digests of files and programs, ends, places.
 
-N is 1000000 without --cycles. P is the simulator: without --program the variable STT_CLI, else crates/stt_cli/out/stt_cli. P2 is the program
+N is 1000000 without --cycles, and 10000000 without --steps, which is of a run of the instruction set. P is the simulator: without --program the variable STT_CLI, else crates/stt_cli/out/stt_cli. P2 is the program
 that looks for secrets: without --secrets-program the variable STT_SECRETS, else crates/stt_secrets/out/stt_secrets; where there is none, two
 images are judged without it. The notation is that of instructions: as compilers write them, or with numbers of registers and no aliases.
 docs/using.md, "Does my routine leak?", goes through an example."""
@@ -58,28 +65,45 @@ from wadrelwy.machine import words as asking
 from wadrelwy.verdict import certificate, given, judge, record, report
 from wadrelwy.view.disassembly import CALLERS, MANUAL
 
+CYCLES, STEPS = 1000000, 10000000
+
 
 def words(parser):
-    parser.add_argument("description", metavar="DESCRIPTION")
-    parser.add_argument("one", metavar="A")
-    parser.add_argument("two", metavar="B", nargs="?")
+    parser.add_argument("files", nargs="+", metavar="DESCRIPTION|IMAGE", help="DESCRIPTION A B, DESCRIPTION A, or A")
+    parser.add_argument("--desc", metavar="D", help="without DESCRIPTION: memory as this description has it")
     parser.add_argument("--secret", action="append", default=[], metavar="SYMBOL[+OFFSET][:BYTES]")
     asking.public_streams(parser)
     parser.add_argument("--all", action="store_true", help="of one image: list all that may show, without a claim")
     parser.add_argument("--value", metavar="HEX", help="a second value of the secret: A and its copy with this value are compared")
     parser.add_argument("--set", action="append", default=[], metavar="NAME=VALUE", help="a key of the description, or bytes of the images")
     parser.add_argument("--json", action="store_true", help="one object in place of the lines")
-    asking.budget(parser, default=1000000)
+    parser.add_argument("--cycles", type=asking.count, metavar="N", help=f"at most so many cycles; without it {CYCLES}")
+    parser.add_argument("--steps", type=asking.count, metavar="N", help=f"without DESCRIPTION: at most so many steps; without it {STEPS}")
     parser.add_argument("--program")
     parser.add_argument("--secrets-program")
     parser.add_argument("--notation", choices=(CALLERS, MANUAL), default=CALLERS)
 
 
-def of_one(asked, files):
-    """The verdict on one image and its secrets."""
+def secrets_program(asked):
+    """The program that is asked of secrets."""
     program = built_programs.secrets(asked.secrets_program)
     if program is None:
         raise Fault("no program stt_secrets: build it (docs/secrets.md, \"Before you ask\"), or name it with --secrets-program")
+    return program
+
+
+def of_path(asked, files):
+    """The verdict on one image and its secrets, on every core that delays."""
+    program = secrets_program(asked)
+    asked.one, asked.desc = files.images[0].copy, files.description and files.description.copy
+    case = certificate.case_of_path(program, asked)
+    tell(asked, files, case, certificate.lines(case, asked.notation), record.of_one, (program,))
+    return case.status()
+
+
+def of_one(asked, files):
+    """The verdict on one image and its secrets."""
+    program = secrets_program(asked)
     simulator = built_programs.simulator(asked.program)
     if simulator is None and (asked.all or asked.program):
         raise Fault("no simulator: build it (docs/using.md, \"Before you start\"), or name it with --program")
@@ -104,19 +128,38 @@ def tell(asked, files, case, lines, as_record, programs):
     """Writes the verdict, as lines or as an object."""
     lines = [files.told(line) for line in lines]
     if asked.json:
-        lines = [json.dumps(as_record(case, files, asked.cycles, programs, lines), indent=1)]
+        lines = [json.dumps(as_record(case, files, asked.cycles or asked.steps, programs, lines), indent=1)]
     print("\n".join(lines))
 
 
-def main(asked):
-    if (asked.two is None) != bool(asked.secret):
+def checked(asked):
+    """These words, where they go together: what of the files is the description, and which are images."""
+    if len(asked.files) > 3:
+        raise Fault("a description and two images are asked for, or one with --secret")
+    core = len(asked.files) > 1
+    asked.description, *images = asked.files if core else [None, *asked.files]
+    if (len(images) == 1) != bool(asked.secret):
         raise Fault("two images are asked for, or one with --secret")
     for name, value in (("--all", asked.all), ("--public-stream", asked.public_stream)):
-        if value and (asked.two or asked.value is not None):
+        if value and (len(images) > 1 or asked.value is not None):
             raise Fault(f"{name} is of one image and its secret")
-    if asked.two and asked.value is not None:
+    if len(images) > 1 and asked.value is not None:
         raise Fault("--value is of one image and its secret: the second image is made of the first")
-    images = [asked.one, asked.two] if asked.two else [asked.one]
+    of_core = (("--all", asked.all), ("--value", asked.value is not None), ("--cycles", asked.cycles is not None), ("--program", asked.program))
+    of_steps = (("--steps", asked.steps is not None), ("--desc", asked.desc is not None))
+    for name, value in of_steps if core else of_core:
+        if value:
+            raise Fault(f"{name} is asked of {'an image without' if core else 'a core, by'} a description")
+    if core:
+        asked.cycles = asked.cycles or CYCLES
+    else:
+        asked.steps = asked.steps or STEPS
+    return images
+
+
+def main(asked):
+    images = checked(asked)
     with tempfile.TemporaryDirectory() as folder:
-        files = given.of_words(asked.description, images, asked.set, asked.secret, asked.value, folder)
-        return given.asked(files, lambda: (of_two if len(files.images) == 2 else of_one)(asked, files))
+        files = given.of_words(asked.description or asked.desc, images, asked.set, asked.secret, asked.value, folder)
+        answer = of_two if len(files.images) == 2 else of_one if asked.description else of_path
+        return given.asked(files, lambda: answer(asked, files))

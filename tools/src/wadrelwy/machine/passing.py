@@ -131,9 +131,9 @@ def passed_on(asked: Asked, name: str) -> Heard:
 def registers_by_isa(asked: Asked, simulator: Optional[str], retired: int) -> Mapping[int, int]:
     """The registers where a run of the core ended: those of the instruction set's run, which ends alike. None where they can't be had."""
     image, description = asked.files.get("image"), asked.files.get("description")
-    if simulator is None or image is None or description is None:
+    if simulator is None or image is None:
         return {}
-    words = [simulator, "isa", image, "--steps", str(retired + 1), "--desc", description]
+    words = [simulator, "isa", image, "--steps", str(retired + 1), *(["--desc", description] if description else [])]
     said = subprocess.run(words, stdout=subprocess.PIPE, stderr=subprocess.DEVNULL, check=False).stdout
     return {int(number): int(value, 16) for number, value in REGISTER.findall(said)}
 

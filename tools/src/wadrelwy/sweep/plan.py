@@ -15,13 +15,15 @@ from . import settings
 from .kept import IMAGE_MAX, Source, check, changed, cited, content, copied, plain, sha256, source, text, write
 
 PLAN = "plan.json"
+CYCLES, STEPS = "cycles", "steps"
 GIVE_ANEW = "give the whole command again, or --copies to go on with what the folder has"
 
 
 class Run(NamedTuple):
     """A run: the program's name, its image and the file of which that is a copy; the description's name and the file made of it; what is set;
     the file of its result; what else is asked of the image; and why it is refused, if it is. Files of the plan are named within its folder.
-    `cost` is about how many instructions it takes, 0 where that isn't known; `end` is how it ends by the instruction set, if that was seen."""
+    `cost` is about how many instructions it takes, 0 where that isn't known; `end` is how it ends by the instruction set, if that was seen.
+    `unit` is what its budget counts: the steps are of a run of the instruction set, whose description gives memory alone, and may be empty."""
     program: str
     image: str
     origin: str
@@ -33,6 +35,17 @@ class Run(NamedTuple):
     refused: Optional[str] = None
     cost: int = 0
     end: Optional[str] = None
+    unit: str = CYCLES
+
+    @property
+    def of_path(self):
+        """Whether it is a run of the instruction set."""
+        return self.unit == STEPS
+
+    @property
+    def files(self):
+        """The files that it is made of."""
+        return [*([self.description] if self.description else []), self.image]
 
     @property
     def name(self):
@@ -59,7 +72,7 @@ class Plan(NamedTuple):
 
     def check(self, run):
         """What a run is made of is what was planned."""
-        check(self.folder, [self.program, run.description, run.image])
+        check(self.folder, [self.program, *run.files])
 
 
 def names_of(paths):
@@ -97,8 +110,9 @@ def described(folder, words, sets):
             yield base, values, copied(folder, "descriptions", label, ".toml", made), made
 
 
-def make(folder, simulator, words, file=PLAN, more=lambda image: []):
-    """The plan of these words, kept in this file with copies of all that it is made of. `more` has further words for an image."""
+def make(folder, simulator, words, file=PLAN, more=lambda image: [], memories=lambda sets: ()):
+    """The plan of these words, kept in this file with copies of all that it is made of. `more` has further words for an image, `memories` what
+    runs of the instruction set are asked in, each as `described` has descriptions."""
     sets, keys = sets_of(words)
     program, name = content(simulator), os.path.basename(simulator)
     images = [(name, path, content(path, IMAGE_MAX), more(path)) for name, path in zip(names_of(words.programs), words.programs)]
@@ -110,11 +124,13 @@ def make(folder, simulator, words, file=PLAN, more=lambda image: []):
     copy = copied(folder, "programs", name, "", program, executable=True)
     os.makedirs(os.path.join(folder, "results"), exist_ok=True)
     runs = []
-    for base, values, description, made in described(folder, words, sets):
-        for program_name, path, image, digest, further in images:
-            parts = [sources[0].sha256, digest, sha256(made), str(words.cycles), *further]
-            name = f"{plain(program_name.replace('/', '-'))}_{sha256(' '.join(parts).encode())[:16]}"
-            runs.append(Run(program_name, image, os.path.abspath(path), base, description, values, os.path.join("results", name), further))
+    for unit, rows in ((CYCLES, described(folder, words, sets)), (STEPS, memories(sets))):
+        for base, values, description, made in rows:
+            for program_name, path, image, digest, further in images:
+                parts = [sources[0].sha256, digest, sha256(made), str(words.cycles), *further, *([unit] if unit == STEPS else [])]
+                name = f"{plain(program_name.replace('/', '-'))}_{sha256(' '.join(parts).encode())[:16]}"
+                result = os.path.join("results", name)
+                runs.append(Run(program_name, image, os.path.abspath(path), base, description, values, result, further, unit=unit))
     return Plan(folder, words.cycles, keys, copy, cited(simulator, os.path.basename(simulator)), sources, runs)
 
 

@@ -45,6 +45,9 @@ def refusal(status, note):
 
 
 def ram_of(plan, description):
+    """The memory of a description; where there is none it is that of `isa`."""
+    if not description:
+        return None
     values = settings.parsed(kept.text(plan.path(description)), description)
     return tuple(values.get(f"ram.{key}") for key in ("base", "size", "misaligned"))
 
@@ -58,7 +61,7 @@ class Checked:
         self.plan, self.asks, self.rams, self.notes, self.screen = plan, asks, {}, {}, screen
         self.rams = {name: ram_of(plan, name) for name in {run.description for run in plan.runs}}
         with ThreadPoolExecutor(jobs) as pool:
-            self.look(pool, {run.description: run for run in reversed(plan.runs)}, DESCRIPTION)
+            self.look(pool, {run.description: run for run in reversed(plan.runs) if run.description}, DESCRIPTION)
             there = [run for run in plan.runs if run.description not in self.notes]
             self.look(pool, {self.key(run): run for run in reversed(there)}, IMAGE)
             there = {self.key(run): run for run in there if self.key(run) not in self.notes}
@@ -67,7 +70,7 @@ class Checked:
             raise Fault(f"{plan.runs[0].name}: {next(iter(self.notes.values()))} (docs/using.md, \"Refusals\")")
 
     def key(self, run):
-        return run.image, *run.words, self.rams[run.description]
+        return run.image, *run.words, run.unit, self.rams[run.description]
 
     def look(self, pool, runs, refusing):
         """Shows these runs to the program; the notes of those that are refused stand under their keys."""
@@ -80,8 +83,10 @@ class Checked:
         clear(self.screen)
 
     def refused(self, run, refusing):
-        words = [self.plan.path(self.plan.program), *self.asks.words(self.plan, run), "--cycles", "1"]
+        words = [self.plan.path(self.plan.program), *self.asks.words(self.plan, run), f"--{run.unit}", "1"]
         said, note, status = said_of(words)
+        if run.of_path and note == "words":
+            raise Fault(f"{self.plan.program} doesn't know {' '.join(words[1:])}: it is an older one, which asks of cores alone")
         if status in RAN and self.asks.kept(said) is not None or refusing == DESCRIPTION and status in (IMAGE, 2) and note:
             return None
         if status == refusing or refusing == IMAGE and status == 2 and note:
@@ -156,7 +161,7 @@ class Runner:
         if self.stopped:
             return
         self.plan.check(run)
-        words = [self.plan.path(self.plan.program), *self.asks.words(self.plan, run), "--cycles", str(self.plan.cycles)]
+        words = [self.plan.path(self.plan.program), *self.asks.words(self.plan, run), f"--{run.unit}", str(self.plan.cycles)]
         child = subprocess.Popen(words, stdout=subprocess.PIPE, stderr=subprocess.PIPE, text=True, errors="replace", start_new_session=True)
         self.children.add(child)
         said, note = child.communicate()

@@ -17,12 +17,13 @@ from .wrong_path import Fate, fate_of
 # in a cycle, of any description (docs/formats.md, "Keys")
 MOST_RETIRED = 4
 
+
 class Case(NamedTuple):
-    """An image under a description, its secret bytes as ranges, what the program says of them, and what the path does with them first; where all
-    is asked for, what else may show, and by which instructions what shows first was made of the bytes; the public streams, and what was
-    published, where the program says how much."""
-    description: str
-    machine: Description
+    """An image under a description, its secret bytes as ranges, what the program says of them, and what the path does with them first; the
+    public streams, and what was published, where the program says how much. Of a run of the instruction set the description gives memory alone,
+    and may be none."""
+    description: Optional[str]
+    machine: Optional[Description]
     image: Loaded
     secret: list
     answer: Answer
@@ -57,30 +58,60 @@ def case_of(program, asked, simulator=None):
     return case._replace(all=telling.shown, chain=telling.chain)
 
 
-def all_of(simulator, case, cycles):
-    """All instructions that take effect on a value made of these bytes, by the marks of this tool, and how what shows first was made of them."""
-    lines = Written(simulator, "trace", case.description, case.image.name, "--cycles", str(cycles))
-    marks, shown = [address for each in case.secret for address in each.addresses], case.answer.shown
-    return Telling(Trace(lines), case.image, case.machine, marks, thorough=False, watched=shown.serial if shown else -1)
+def case_of_path(program, asked):
+    """What the program says of an image's secrets in its run of the instruction set, by the words of the command."""
+    image, streams = asked.one, tuple(asked.public_stream)
+    machine = read_description(asked.desc) if asked.desc else None
+    loaded = load(image, machine)
+    secret = [ranges.named(loaded, word) for word in asked.secret]
+    answer = secrecy.ask_path(program, image, secret, asked.steps, streams, asked.desc)
+    found = touched.look(loaded, secret, steps_of(answer))
+    return Case(asked.desc, machine, loaded, secret, answer, found, streams=streams, published=published.of_answer(loaded, streams, answer))
+
+
+def all_of(simulator, description, image, machine, secret, cycles):
+    """All instructions that take effect on a value made of these bytes, by the marks of this tool: as `Telling` has them."""
+    lines = Written(simulator, "trace", description, image.name, "--cycles", str(cycles))
+    marks = [address for each in secret for address in each.addresses]
+    return Telling(Trace(lines), image, machine, marks, thorough=False).shown
 
 
 def steps_of(answer):
-    """How many steps of the path belong to the run that was looked at: where something shows, at most all that a core of this kind retires
-    up to there."""
-    return answer.shown.cycle * MOST_RETIRED if answer.shown else answer.end.retired
+    """How many steps of the path belong to the run that was looked at: where something shows in a core's run, at most all that a core of this
+    kind retires up to there."""
+    if answer.shown is None:
+        return answer.end.retired
+    return answer.shown.step if answer.of_path else answer.shown.cycle * MOST_RETIRED
+
+
+def told_run(case):
+    """What is asked of: a core, by its description; or the cores that delay, by the memory that they have."""
+    if not case.answer.of_path:
+        return "description", f"{case.description}, {case.machine.told}"
+    memory, rule = case.image, ", any address" if case.image.misaligned else ""
+    place = f"memory {memory.base:08x} to {memory.base + len(memory.memory) - 1:08x}{rule}"
+    return "cores", f"all that delay, {place}, " + (f"as {case.description} has it" if case.description else "as isa has it without a description")
+
+
+def looked_at(answer):
+    """How the run ended, or how far it was looked at."""
+    if answer.end:
+        return answer.end.text
+    unit, count = ("step", answer.shown.step) if answer.of_path else ("cycle", answer.shown.cycle)
+    return f"looked at up to {unit} {count}, in which something shows"
 
 
 def lines(case, notation=CALLERS):
     """The whole verdict, a line each."""
-    shown, end = case.answer.shown, case.answer.end
-    yield report.row("description", f"{case.description}, {case.machine.told}")
+    shown = case.answer.shown
+    yield report.row(*told_run(case))
     yield report.row("image", case.image.name)
     for number, each in enumerate(case.secret):
         yield report.row("" if number else "secret", told(case.image, each))
     if case.streams:
         yield report.row("public", published.told_streams(case.streams))
     yield report.row("path", touched.told(case.touched))
-    yield report.row("run", end.text if end else f"looked at up to cycle {shown.cycle}, in which something shows")
+    yield report.row("run", looked_at(case.answer))
     if case.published is not None:
         yield report.row("published", published.told(case.published))
     texts = Disassembler(case.image, notation)

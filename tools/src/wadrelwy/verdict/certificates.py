@@ -18,20 +18,23 @@ from wadrelwy.view.disassembly import Disassembler
 from wadrelwy.view.image import Image
 
 from . import answered, certificate, published, ranges, report, secrecy, wrong_path
-from .loaded import Loaded
+from .loaded import ISA_BASE, ISA_SIZE, Loaded
 from .touched import Touched, look
 from .wrong_path import Fate, fate_of
 
 SHORT = {secrecy.ACCESS: "address", secrecy.DIVISION: "time", secrecy.BRANCH: "branch", secrecy.CALL: "call"}
 REFUSED = "refused"
-KINDS = {statuses.CUT: "{certified} in their first cycles alone", statuses.TRAPPED: "to a trap", statuses.VACUOUS: "vacuous",
+EVERY_CORE = "every core that delays"
+# how a run of the instruction set is counted that its budget ended
+PATH_CUT = "path cut"
+KINDS = {statuses.EVERY_CORE: answered.EVERY_CORE, PATH_CUT: "in which nothing shows in the first steps", statuses.CUT: "{certified} in their first cycles alone", statuses.TRAPPED: "to a trap", statuses.VACUOUS: "vacuous",
          statuses.EXIT_VALUE: "{certified} with another exit value than 0", REFUSED: "refused"}
 
 
 class Row(NamedTuple):
     """A run that is over: the program and its folder, which is named for what built it; its secret; the setting, which names its column: the
     description, the defence and what else is set; all values that are set; the answer; the image's file; and, where streams are public, which, and
-    what was published."""
+    what was published. Of a run of the instruction set `every core that delays` stands for the defence."""
     program: str
     build: str
     secret: str
@@ -84,8 +87,8 @@ def with_fates(plan, found, simulator, jobs):
 
 
 def fate_of_run(plan, run, row, simulator):
-    """What became of what shows, as it was kept, or by a walk."""
-    if row.answer is None or row.answer.shown is None:
+    """What became of what shows in a core's run, as it was kept, or by a walk."""
+    if row.answer is None or row.answer.shown is None or run.of_path:
         return None
     path = plan.path(os.path.join("fates", f"{run.id}_{digest(simulator)[:16]}"))
     if not os.path.exists(path):
@@ -99,9 +102,11 @@ def fate_of_run(plan, run, row, simulator):
 
 
 def told_setting(plan, run):
-    """The defence of a run, and what else is set."""
-    values = settings.parsed(text(plan.path(run.description)), run.description)
+    """The defence of a run, or that it is of every core that delays, and what else is set."""
     more = [f"{key} {value}" for key, value in run.values.items() if key not in (settings.MODEL, settings.DEFENCE)]
+    if run.of_path:
+        return [EVERY_CORE, *more]
+    values = settings.parsed(text(plan.path(run.description)), run.description)
     return [settings.told(values), *more]
 
 
@@ -112,7 +117,8 @@ def row_of(plan, run, store):
               streams=streams)
     if run.refused:
         return row
-    answer, description = secrecy.read_answer(store.found[run.id], streams), plan.path(run.description)
+    read = secrecy.read_path_answer if run.of_path else secrecy.read_answer
+    answer, description = read(store.found[run.id], streams, plan.program), plan.path(run.description) if run.description else None
     found = touched_in(image, description, tuple(secrecy.secrets_in(run.words)), certificate.steps_of(answer))
     return row._replace(answer=answer, touched=found, published=published_in(image, description, streams, answer, f"{plan.folder}, {run.name}"))
 
@@ -121,26 +127,32 @@ def published_in(path, description, streams, answer, name):
     """The bytes that a run published, where the program says how many."""
     if answer.published is None:
         return None
+    return published.checked(output_of(path, memory_of(description), streams, answer.end.retired), answer, name)
+
+
+def memory_of(description):
+    """Base and size of a description's memory, and what it takes of addresses; without one those of `isa`."""
+    if description is None:
+        return ISA_BASE, ISA_SIZE
     machine = read_description(description)
-    return published.checked(output_of(path, machine.base, machine.size, machine.misaligned, streams, answer.end.retired), answer, name)
+    return machine.base, machine.size, machine.misaligned
 
 
 @cache
-def output_of(path, base, size, misaligned, streams, steps):
+def output_of(path, memory, streams, steps):
     """What so many steps publish: one walk for one memory."""
-    return published.output(Loaded(path, base, size, misaligned), streams, steps)
+    return published.output(Loaded(path, *memory), streams, steps)
 
 
 @cache
 def touched_in(path, description, words, steps):
     """What the path does first with the bytes of these words: one walk for one memory."""
-    machine = read_description(description)
-    return touched_of(path, machine.base, machine.size, machine.misaligned, words, steps)
+    return touched_of(path, memory_of(description), words, steps)
 
 
 @cache
-def touched_of(path, base, size, misaligned, words, steps):
-    image = Loaded(path, base, size, misaligned)
+def touched_of(path, memory, words, steps):
+    image = Loaded(path, *memory)
     return look(image, [ranges.named(image, word) for word in words], steps)
 
 
@@ -162,8 +174,8 @@ def record(row, keys, cited):
     shown, end, _ = row.answer or (None, None, None)
     image = image_of(row.image)
     return ({"program": row.program, "build": row.build, "secret": row.secret, "description": row.setting[0]}
-            | {key: row.values[key] for key in keys}
-            | {"defence": row.setting[1], "verdict": row.verdict(), "cycles": shown.cycle if shown else end.cycles if end else "",
+            | {key: row.values.get(key, "") for key in keys}
+            | {"defence": row.setting[1], "verdict": row.verdict(), **how_far(row.answer),
                "end": end.how if end else row.refused or "", "loaded": row.touched.loaded if row.touched else "",
                "overwritten": row.touched.overwritten if row.touched else "", "public_streams": " ".join(map(str, row.streams)),
                "published": len(row.published) if row.published is not None else "", "published_bytes": (row.published or b"").hex(),
@@ -171,6 +183,16 @@ def record(row, keys, cited):
                "address": f"{shown.pc:08x}" if shown else "", "instruction": texts_of(row.image).text(shown.pc) if shown else "",
                "symbol": image.symbol(shown.pc) if shown else "", "line": image.sources.told(shown.pc) if shown else "", "path": row.fate.kind if row.fate else "",
                "behind": f"{row.fate.pc:08x}" if row.fate and row.fate.pc is not None else "", "made_by": cited})
+
+
+def how_far(answer):
+    """In which cycle or step something shows, or how many the run had; the other is empty."""
+    if answer is None:
+        return {"cycles": "", "steps": ""}
+    shown, end = answer.shown, answer.end
+    if answer.of_path:
+        return {"cycles": "", "steps": shown.step if shown else end.retired}
+    return {"cycles": shown.cycle if shown else end.cycles, "steps": ""}
 
 
 def as_csv(found, keys, cited):
@@ -183,7 +205,8 @@ def as_csv(found, keys, cited):
 
 def as_json(plan, found):
     """The table as one object: what it was made by and how far runs went, its status, and a record a row."""
-    digests = {run.id: {"image_sha256": digest(plan.path(run.image)), "description_sha256": digest(plan.path(run.description))} for run in plan.runs}
+    digests = {run.id: {"image_sha256": digest(plan.path(run.image)),
+                        "description_sha256": digest(plan.path(run.description)) if run.description else None} for run in plan.runs}
     given = [record(row, plan.keys, plan.cited) | {"status": row.status()} | digests[row.id] for row in found]
     head = {"made_by": plan.cited, "program_sha256": digest(plan.path(plan.program)), "cycles": plan.cycles, "status": status(found),
             "summary": summary(found)}
@@ -196,7 +219,8 @@ def cell(row):
     shown = row.answer and row.answer.shown
     if shown:
         fate = wrong_path.short(row.fate, lambda pc: where(row, pc)) if row.fate else ""
-        return f"**{SHORT[shown.what]}**, `{where(row, shown.pc)}`, cycle {shown.cycle}{fate}"
+        when = f"step {shown.step}" if row.answer.of_path else f"cycle {shown.cycle}"
+        return f"**{SHORT[shown.what]}**, `{where(row, shown.pc)}`, {when}{fate}"
     over = row.touched and row.touched.overwritten
     told = f"; {report.plural(len(row.published), 'byte')} published" if row.published is not None else ""
     return row.verdict() + (f"; {over} of {row.touched.size} bytes written over" if over else "") + told
@@ -205,7 +229,7 @@ def cell(row):
 def heading(setting, several):
     """The title of a column; the description stands in it where there are several."""
     description, defence, *more = setting
-    return ", ".join(([description] if several else []) + [f"`{defence}`"] + more)
+    return ", ".join(([description] if several and description else []) + [defence if defence == EVERY_CORE else f"`{defence}`"] + more)
 
 
 def as_markdown(found, together=False):
@@ -244,7 +268,10 @@ def summary(found):
 
 def kind(row):
     """What a row is counted as: its status, or that it is refused."""
-    return REFUSED if row.refused else row.status()
+    if row.refused:
+        return REFUSED
+    found = row.status()
+    return PATH_CUT if found == statuses.CUT and row.answer.of_path else found
 
 
 def status(found):

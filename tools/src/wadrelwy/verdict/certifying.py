@@ -5,6 +5,7 @@ import os
 import shutil
 import subprocess
 import sys
+from argparse import Namespace
 
 from wadrelwy.sweep import plan, running
 from wadrelwy.view import Fault
@@ -54,13 +55,26 @@ def secrets_of(image, words):
     return found
 
 
+def memories(folder, asked, sets):
+    """The memories in which every core that delays is asked of: that of each description, with what is set of memory; where there is no
+    description, that which a run of the instruction set has without one."""
+    if not asked.descriptions:
+        yield "", {}, "", b""
+        return
+    rams = [(key, values) for key, values in sets if key.startswith("ram.")]
+    words = Namespace(descriptions=asked.descriptions, defences=False)
+    yield from plan.described(folder, words, rams)
+
+
 def make(folder, program, asked):
     """The plan of these words."""
+    every_core = asked.every_core or not asked.descriptions
     for word in asked.secret:
         if not any(has(Image(image), word) for image in asked.programs):
             ranges.named(Image(asked.programs[0]), word)
     made = plan.make(folder, program, asked, PLAN,
-                     lambda image: secrecy.words_of(secrets_of(Image(image), asked.secret), asked.public_stream))
+                     lambda image: secrecy.words_of(secrets_of(Image(image), asked.secret), asked.public_stream),
+                     lambda sets: memories(folder, asked, sets) if every_core else ())
     return plan.keep(running.Checked(made, asked.jobs, Asks(made), steps=False).checked(), PLAN)
 
 
@@ -93,12 +107,18 @@ class Asks:
         self.streams = streams_of(made)
 
     def words(self, made, run):
-        return [made.path(run.description), made.path(run.image), *run.words]
+        description = made.path(run.description) if run.description else None
+        if run.of_path:
+            return [made.path(run.image), *run.words, *secrecy.memory_words(description)]
+        return [description, made.path(run.image), *run.words]
 
     def kept(self, said):
+        """An answer, of a core or of a run of the instruction set, where it is whole."""
         text = f"{said.rstrip()}\n"
-        try:
-            secrecy.read_answer(text, self.streams)
-        except Fault:
-            return None
-        return text
+        for read in (secrecy.read_answer, secrecy.read_path_answer):
+            try:
+                read(text, self.streams)
+                return text
+            except Fault:
+                continue
+        return None

@@ -35,13 +35,13 @@ class File(NamedTuple):
 
 
 class Given(NamedTuple):
-    """The files of a verdict."""
-    description: File
+    """The files of a verdict; one that is of no core has a description for its memory, or none."""
+    description: Optional[File]
     images: "list[File]"
 
     @property
     def files(self) -> "list[File]":
-        return [self.description, *self.images]
+        return [*([self.description] if self.description else []), *self.images]
 
     def told(self, said: str) -> str:
         """A text in which each copy is named as the file that it is of."""
@@ -130,13 +130,16 @@ def second(first: File, secret: Sequence[str], value: str, copy: str) -> File:
     return File(first.named, patches.write_as(copy), first.values | {" ".join(secret): value})
 
 
-def of_words(description: str, images: Sequence[str], words: Sequence[str], secret: Sequence[str], value: Optional[str], folder: str) -> Given:
+def of_words(description: Optional[str], images: Sequence[str], words: Sequence[str], secret: Sequence[str], value: Optional[str],
+             folder: str) -> Given:
     """The files that these words ask of, copies in this folder."""
     keys, places = split(words)
+    if keys and description is None:
+        raise Fault(f"--set {next(iter(keys))}: there is no description whose value that is; --desc names one, for its memory")
     files = [imaged(path, places, os.path.join(folder, f"{number}.elf")) for number, path in enumerate(images, 1)]
     if value is not None:
         files.append(second(files[0], secret, value, os.path.join(folder, "second.elf")))
-    return Given(described(description, keys, folder), files)
+    return Given(described(description, keys, folder) if description is not None else None, files)
 
 
 def asked(given: Given, ask: Callable[[], int]) -> int:

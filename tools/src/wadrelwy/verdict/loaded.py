@@ -1,10 +1,13 @@
 """An image as the simulator loads it: besides code and symbols its entry and all of memory (docs/formats.md, "Images")."""
-from typing import Any
+from typing import Any, Optional
 
 from wadrelwy.elf import ELFFile
 from wadrelwy.view import Fault
 from wadrelwy.view.description import Description
 from wadrelwy.view.image import Image
+
+# memory where no description gives it (docs/formats.md, "Words")
+ISA_BASE, ISA_SIZE = 0x00010000, 1 << 20
 
 
 class Loaded(Image):
@@ -34,6 +37,8 @@ class Loaded(Image):
         return f"{address:08x} <{symbol}>" if symbol else f"{address:08x}"
 
 
-def load(name: str, machine: "Description") -> "Loaded":
-    """The image of a file in the memory of a description."""
+def load(name: str, machine: Optional[Description]) -> "Loaded":
+    """The image of a file in the memory of a description; without one in that of `isa`."""
+    if machine is None:
+        return Loaded(name, ISA_BASE, ISA_SIZE)
     return Loaded(name, machine.base, machine.size, bool(machine.misaligned))

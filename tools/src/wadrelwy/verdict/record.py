@@ -1,6 +1,6 @@
 """A verdict as one object (`--json`): all that its lines say, with digests of what it is of, numbers as numbers, and places with their parts.
 Addresses are eight hexadecimal digits, as in the lines; `text` has the lines themselves."""
-from typing import Any, Optional, Sequence
+from typing import Any, Optional, Sequence, Union
 
 from wadrelwy.sweep.kept import digest
 from wadrelwy.view.disassembly import Disassembler
@@ -29,14 +29,18 @@ def place(pc: int, texts: Disassembler) -> dict:
 
 
 def of_end(end: Optional[End]) -> Optional[dict]:
-    return {"end": end.how, "retired": end.retired, "cycles": end.cycles} if end else None
+    """How a run ended; one of the instruction set has no cycles."""
+    if end is None:
+        return None
+    return {"end": end.how, "retired": end.retired} | ({} if end.cycles is None else {"cycles": end.cycles})
 
 
-def of_shown(shown: Optional[secrecy.Shown], texts: Disassembler) -> Optional[dict]:
-    """What shows first: which of an instruction, in which cycle, of which entry."""
+def of_shown(shown: "Optional[Union[secrecy.Shown, secrecy.PathShown]]", texts: Disassembler) -> Optional[dict]:
+    """What shows first: which of an instruction, in which cycle, of which entry; or in which step of the instruction set."""
     if shown is None:
         return None
-    return {"kind": shown.what, "what": secrecy.WHAT[shown.what], "cycle": shown.cycle, "entry": shown.serial} | place(shown.pc, texts)
+    when = {"step": shown.step} if isinstance(shown, secrecy.PathShown) else {"cycle": shown.cycle, "entry": shown.serial}
+    return {"kind": shown.what, "what": secrecy.WHAT[shown.what]} | when | place(shown.pc, texts)
 
 
 def of_fate(fate: Optional[Fate], texts: Disassembler) -> Optional[dict]:
@@ -68,15 +72,24 @@ def of_ranges(image: Any, addresses: Sequence[int]) -> list:
 
 
 def described(case: Any, given: Given) -> dict:
+    assert given.description is not None
     return of_file(given.description) | {"model": case.machine.model, "defence": case.machine.defence}
 
 
-def of_one(case: "certificate.Case", given: Given, cycles: int, asked: Sequence[Optional[str]], lines: list) -> dict:
+def of_run(case: "certificate.Case", given: Given, most: int) -> dict:
+    """What is asked of, and how far: a core, in cycles; or a run of the instruction set, in steps, with the memory that its cores have."""
+    if not case.answer.of_path:
+        return {"cycles": most, "description": described(case, given)}
+    memory = {"base": f"{case.image.base:08x}", "bytes": len(case.image.memory), "misaligned": case.image.misaligned}
+    return {"steps": most, "memory": memory | (of_file(given.description) if given.description else {})}
+
+
+def of_one(case: "certificate.Case", given: Given, most: int, asked: Sequence[Optional[str]], lines: list) -> dict:
     """The verdict on one image and its secret."""
     texts, shown = Disassembler(case.image), case.answer.shown
     return {
         "verdict": case.word(), "status": case.status(), "goes_on": case.answer.is_cut, "meaning": answered.meaning(case.answer, case.touched),
-        "cycles": cycles, "description": described(case, given), "image": of_file(given.images[0]),
+        **of_run(case, given, most), "image": of_file(given.images[0]),
         "secret": [range_ for each in case.secret for range_ in of_ranges(case.image, each.addresses)],
         "public_streams": list(case.streams), "path": case.touched._asdict(), "run": of_end(case.answer.end),
         "published": None if case.published is None else case.published.hex(),

@@ -1,7 +1,7 @@
 """What the program stt_secrets says of secret bytes: that nothing of them shows in a run, so that it is the run of each value of theirs, or
 what shows first (docs/secrets.md)."""
 import re
-from typing import NamedTuple, Optional, Sequence
+from typing import NamedTuple, Optional, Sequence, Union
 
 from wadrelwy import built_programs
 from wadrelwy.view import Fault
@@ -18,6 +18,9 @@ WHAT = {ACCESS: "its address", DIVISION: "its time", BRANCH: "where it goes", CA
 HIDDEN = re.compile(r"hidden\n(?:published (\d+)\n)?(end .*)\n")
 SECRET, PUBLIC_STREAM = "--secret", "--public-stream"
 SHOWN = re.compile(rf"shown (\d+) ({'|'.join(WHAT)}) (\d+) ([0-9a-f]{{8}})\n")
+# of a run of the instruction set: without cycles, and without an entry
+PATH_END = re.compile(r"end (exit \d+|trap [0-7] [0-9a-f]{8}|budget) retired (\d+)")
+PATH_SHOWN = re.compile(rf"shown (\d+) ({'|'.join(WHAT)}) ([0-9a-f]{{8}})\n")
 
 
 class Shown(NamedTuple):
@@ -27,12 +30,35 @@ class Shown(NamedTuple):
     serial: int
     pc: int
 
+    @property
+    def when(self) -> str:
+        """As a line tells it."""
+        return f"in cycle {self.cycle}, entry {self.serial}"
+
+
+class PathShown(NamedTuple):
+    """What shows first of a run of the instruction set: the step, of which the first is 1, what, and the address of its instruction."""
+    step: int
+    what: str
+    pc: int
+
+    @property
+    def when(self) -> str:
+        """As a line tells it."""
+        return f"in step {self.step}"
+
 
 class Answer(NamedTuple):
-    """Either what shows, or how the run ended in which nothing did; then, where a stream is public, how many bytes it published."""
-    shown: Optional[Shown]
+    """Either what shows, or how the run ended in which nothing did; then, where a stream is public, how many bytes it published. The run is
+    that of a core, or, as its steps are counted in place of cycles, of the instruction set."""
+    shown: "Optional[Union[Shown, PathShown]]"
     end: Optional[End]
     published: Optional[int] = None
+
+    @property
+    def of_path(self) -> bool:
+        """Whether it is of a run of the instruction set."""
+        return isinstance(self.shown, PathShown) or self.end is not None and self.end.cycles is None
 
     @property
     def is_cut(self) -> bool:
@@ -82,6 +108,29 @@ def read_answer(text: str, streams: Sequence[int] = (), program: str = "the prog
     raise Fault(f"{program} doesn't answer as {built_programs.SECRETS} does: is it that program?")
 
 
+def ask_path(program: str, image: str, secret: list, steps: int, streams: Sequence[int] = (), description: Optional[str] = None) -> "Answer":
+    """What the program says of these ranges in a run of the instruction set, in the memory of a description, or in that of `isa`."""
+    words = [image, *words_of([each.word for each in secret], streams), *memory_words(description), "--steps", str(steps)]
+    return read_path_answer(simulator.run(program, *words), streams, program)
+
+
+def memory_words(description: Optional[str]) -> list:
+    """The words that name memory for a run of the instruction set."""
+    return ["--desc", description] if description else []
+
+
+def read_path_answer(text: str, streams: Sequence[int] = (), program: str = "the program") -> "Answer":
+    """An answer on a run of the instruction set, from its text."""
+    shown, hidden = PATH_SHOWN.fullmatch(text), HIDDEN.fullmatch(text)
+    if shown:
+        step, what, pc = shown.groups()
+        return Answer(PathShown(int(step), what, int(pc, 16)), None)
+    end = hidden and PATH_END.fullmatch(hidden[2])
+    if hidden and end and (hidden[1] is not None) == bool(streams):
+        return Answer(None, End(end[0], end[1], int(end[2]), None), int(hidden[1]) if streams else None)
+    raise Fault(f"{program} doesn't answer as {built_programs.SECRETS} does: is it that program, and new enough to know --steps?")
+
+
 def asked_of_pair(program: Optional[str], description: str, one: Loaded, premises: Premises, cycles: int) -> Asked:
     """What the program says of the bytes that differ between two images, as the first has them; a refusal is told, and is none of the
     verdict."""
@@ -97,6 +146,6 @@ def asked_of_pair(program: Optional[str], description: str, one: Loaded, premise
         return Asked(None, str(fault))
 
 
-def place(shown: Shown, texts: Disassembler) -> str:
+def place(shown: "Union[Shown, PathShown]", texts: Disassembler) -> str:
     """What shows, as a line: `0001001c lbu a0, 0(a5) <lookup+0x8> table.c:9: its address, in cycle 106, entry 11`."""
-    return f"{texts.place(shown.pc)}: {WHAT[shown.what]}, in cycle {shown.cycle}, entry {shown.serial}"
+    return f"{texts.place(shown.pc)}: {WHAT[shown.what]}, {shown.when}"
