@@ -27,7 +27,8 @@ REFUSED = "refused"
 EVERY_CORE = "every core that delays"
 # how a run of the instruction set is counted that its budget ended
 PATH_CUT = "path cut"
-KINDS = {statuses.EVERY_CORE: answered.EVERY_CORE, PATH_CUT: "in which nothing shows in the first steps", statuses.CUT: "{certified} in their first cycles alone", statuses.TRAPPED: "to a trap", statuses.VACUOUS: "vacuous",
+KINDS = {statuses.EVERY_CORE: answered.EVERY_CORE, PATH_CUT: "in which nothing shows in the first steps",
+         statuses.CUT: "{certified} in their first cycles alone", statuses.TRAPPED: "to a trap", statuses.VACUOUS: "vacuous",
          statuses.EXIT_VALUE: "{certified} with another exit value than 0", REFUSED: "refused"}
 
 
