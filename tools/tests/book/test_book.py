@@ -97,6 +97,7 @@ README = """# A tree
 |---|---|---|
 | It is `so` | nothing \\| little | `top`: `promise` (`Promise`) |
 | A law | nothing | `law`, `gone` |
+| A field | nothing | `Two`: `one`; `Promise`: `two` |
 
 ## The end
 """
@@ -133,7 +134,7 @@ class SmallTree(unittest.TestCase):
 
     def test_words_that_are_not_found_are_counted(self):
         book = Book(self.top)
-        self.assertEqual(sorted(text for _, text in book.unknown()), ["gone", "lost", "pair", "true", "ℕ"])
+        self.assertEqual(sorted(text for _, text in book.unknown()), ["gone", "lost", "pair", "true", "two", "ℕ"])
         self.assertIn('<span class="unknown">lost</span> in <a href="low/specs/Low.html#of_shape">of_shape</a>', pages(book)["unknown.html"])
 
     def test_definitions_are_whole(self):
@@ -162,6 +163,11 @@ class SmallTree(unittest.TestCase):
         self.assertIn('top: ensures promise { <a href="high/specs/High.html#Promise">Promise</a> (<span class="unknown">pair</span> n.now)\n        result }', page)
         self.assertIn('law: ensures { (n : <span class="unknown">ℕ</span>) → <a href="high/specs/High.html#Promise">Promise</a> n n }', page)
         self.assertIn('<span class="unknown">gone</span>', page)
+
+    def test_a_promise_names_a_field_of_the_record_before_it(self):
+        page = pages(Book(self.top))["index.html"]
+        self.assertIn('<a href="low/specs/Low.html#Two">Two</a></code>: <code><a href="low/specs/Low.html#Two.one">one</a></code>', page)
+        self.assertIn('<a href="high/specs/High.html#Promise">Promise</a></code>: <code><span class="unknown">two</span>', page)
 
     def test_every_link_has_its_place(self):
         self.assertEqual(lost_links(pages(Book(self.top))), [])

@@ -38,12 +38,15 @@ def rows(readme: str) -> list[list[str]]:
 
 
 class Reader:
-    """Reads the last column: a word is a function, a clause of the last function that was named, or a definition that this one cites."""
+    """Reads the last column: a word is a function, a clause of a function that was named, a definition of the last function's crate or the only
+    one of its name, or a field of the record that was named last."""
 
     def __init__(self, tree: Tree) -> None:
         self.tree = tree
         # the functions that were named, the last first, each with its file
         self.seen: list[tuple[str, rust.Function]] = []
+        # the definition that was named last
+        self.last: Place | None = None
 
     def named(self, text: str) -> Named:
         """What a word names."""
@@ -56,7 +59,11 @@ class Reader:
         if near:
             self.seen.insert(0, near[0])
             return Named(text, Place(near[0][0], near[0][1].full_name), near[0][1])
-        return Named(text, self.definition(text))
+        place = self.definition(text)
+        if place is None:
+            return Named(text, self.field(text))
+        self.last = place
+        return Named(text, place)
 
     def crate(self) -> str:
         """The crate of the last function."""
@@ -67,6 +74,11 @@ class Reader:
         places = [Place(it.module.replace(".", "/"), it.name) for it in self.tree.definitions() if it.name == text]
         near = [it for it in places if it.file.split("/")[0] == self.crate()]
         return near[0] if near else places[0] if len(places) == 1 else None
+
+    def field(self, text: str) -> Place | None:
+        """A field of this name, where the definition that was named last is a record that has it."""
+        record = self.tree.definition(self.last) if self.last else None
+        return self.last._replace(member=text) if self.last and record and record.kind == "record" and text in record.members else None
 
 
 def promises(tree: Tree, readme: str) -> list[Promise]:
