@@ -70,7 +70,7 @@ class Worked(unittest.TestCase):
         chain = Chain(SECRET)
         for place in range(MOST_OF_CHAIN + 3):
             chain = chain.on(CODE + 4 * place)
-        self.assertEqual((chain.byte, chain.count, len(chain.last)), (SECRET, MOST_OF_CHAIN + 3, MOST_OF_CHAIN))
+        self.assertEqual((chain.byte, chain.length, len(chain.last)), (SECRET, MOST_OF_CHAIN + 3, MOST_OF_CHAIN))
         self.assertEqual((chain.last[0], chain.last[-1]), (CODE + 4 * 3, CODE + 4 * (MOST_OF_CHAIN + 2)))
 
     def test_other_bytes(self):

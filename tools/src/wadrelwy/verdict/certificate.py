@@ -129,8 +129,8 @@ def made(case, texts):
     chain = case.chain
     if chain is None:
         return
-    left = chain.count - len(chain.last)
-    yield report.row("made", f"of {case.image.named(chain.byte)}, by {report.plural(chain.count, 'instruction')}{', the last of which are' * bool(left)}")
+    left = chain.length - len(chain.last)
+    yield report.row("made", f"of {case.image.named(chain.byte)}, by {report.plural(chain.length, 'instruction')}{', the last of which are' * bool(left)}")
     for pc in chain.last:
         yield report.row("", texts.place(pc))
 

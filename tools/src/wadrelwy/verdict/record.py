@@ -55,7 +55,7 @@ def of_chain(chain: Optional[Chain], texts: Disassembler) -> Optional[dict]:
     """How what shows first was made of a secret byte: by how many instructions, and which were the last."""
     if chain is None:
         return None
-    return {"byte": f"{chain.byte:08x}", "symbol": texts.image.symbol(chain.byte) or None, "instructions": chain.count,
+    return {"byte": f"{chain.byte:08x}", "symbol": texts.image.symbol(chain.byte) or None, "instructions": chain.length,
             "last": [place(pc, texts) for pc in chain.last]}
 
 

@@ -23,11 +23,11 @@ class Chain(NamedTuple):
     one by one; and how many they were in all. There may be other ways to the value than this one."""
     byte: int
     last: tuple = ()
-    count: int = 0
+    length: int = 0
 
     def on(self, pc):
         """It with one instruction more."""
-        return Chain(self.byte, (*self.last[1 - MOST_OF_CHAIN:], pc), self.count + 1)
+        return Chain(self.byte, (*self.last[1 - MOST_OF_CHAIN:], pc), self.length + 1)
 
 
 class Retired:
