@@ -21,6 +21,12 @@ def is_unproved(program: str) -> bool:
     return UNPROVED in os.path.basename(os.path.realpath(program))
 
 
+def refuse_unproved(program: str) -> None:
+    """Refuses an unproved program, where what is said of its answers rests on proofs."""
+    if is_unproved(program):
+        raise Fault(f"{program} is unproved, and what this command says rests on proofs; run, trace, view and sweep take it")
+
+
 def note_of(said: str) -> str:
     """The note among what a program wrote to standard error: its first line, but that which says that it is unproved."""
     return next((line for line in said.strip().split("\n") if not line.startswith(UNPROVED + ":")), "")

@@ -415,6 +415,14 @@ class Table(unittest.TestCase):
                 self.assertEqual((told.returncode, told.stdout.splitlines()[-1]), (status, f"0 certified, 0 exposed, {counted}"))
                 self.assertIn(f"| {cell} |", told.stdout)
 
+    def test_an_unproved_program_makes_no_table(self):
+        """What a program says of which nothing is proved is no certificate: it isn't asked, and nothing is kept."""
+        self.program = self.stand_in("stt_secrets-unproved", TABLE.replace("RAN", self.ran))
+        told = self.certify(*self.words())
+        self.assertEqual((told.returncode, told.stdout, told.stderr.count("\n")), (2, "", 1))
+        self.assertIn("stt_secrets-unproved is unproved, and what this command says rests on proofs", told.stderr)
+        self.assertFalse(os.path.exists(self.ran) or os.path.exists(self.folder))
+
     def test_nothing_stale(self):
         """A table is of the files that were asked of, or there is none: image, description, program and the folder's own copies."""
         image, description = self.stand_in("stale.elf", self.bytes(loading())), self.stand_in("stale.toml", material.read("examples", "core.toml"))

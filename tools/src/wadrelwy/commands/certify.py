@@ -98,6 +98,8 @@ def main(asked):
     program = built_programs.secrets(asked.secrets_program)
     if program is None and (asked.secret or asked.secrets_program):
         raise Fault("no program stt_secrets: build it (docs/secrets.md, \"Before you ask\"), or name it with --secrets-program")
+    if program is not None:
+        built_programs.refuse_unproved(program)
     made = planned(asked, program)
     try:
         asks = certifying.Asks(made)

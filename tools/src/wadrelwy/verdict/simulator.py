@@ -67,8 +67,7 @@ class Answer(NamedTuple):
 
 def started(program, words, out):
     """Runs the program for these words, what it writes going there; answers the note that it leaves where it ran."""
-    if built_programs.is_unproved(program):
-        raise Fault(f"{program} is unproved, and what this command says rests on proofs; run, trace, view and sweep take it")
+    built_programs.refuse_unproved(program)
     try:
         with Screen(" ".join([os.path.basename(program), *words[:1]])):
             ended = subprocess.run([program, *words], stdout=out, stderr=subprocess.PIPE, text=True, errors="replace", check=False)
