@@ -145,7 +145,7 @@ class Gadgets(unittest.TestCase):
     def test_refusals(self):
         image, nothing = support.example("bounds_check.elf"), support.example("nothing.elf")
         for words, note in [((image, CORE, image), "status 4, description K1"), ((CORE, image, nothing), "status 6, read image"),
-                            ((CORE, CORE, image), "status 5, image E2"), ((CORE, image, image, "--cycles", "0"), "status 2, words"),
+                            ((CORE, CORE, image), "status 5, image E2"), ((CORE, image, image, "--cycles", "0"), "--cycles: `0` is no number from 1 to 4294967295"),
                             ((CORE, image, image, "--program", "/nowhere"), "no simulator")]:
             told = command("verdict", *words)
             self.assertEqual((told.returncode, told.stdout), (2, ""), words)
