@@ -1,5 +1,6 @@
 """The one door: what it lists, the help and the refusals of each command, where the built programs are looked for, and the statuses."""
 import ast
+import itertools
 import os
 import re
 import subprocess
@@ -182,21 +183,21 @@ class Table(unittest.TestCase):
 
     def answers(self):
         """Each answer about secret bytes: its word, with N for numbers, and its status."""
-        shown = secrecy.Shown(15, "access", 6, 0x10018)
-        yield answered.word(secrecy.Answer(shown, None), None), answered.status(secrecy.Answer(shown, None), None)
-        for how in self.ENDS:
-            for published in (None, 4):
-                for loaded in (0, 1):
-                    answer = secrecy.Answer(None, End("", how, 5, 21), published)
-                    found = touched.Touched(1, loaded, 0)
-                    yield re.sub(r"\d+", "N", answered.word(answer, found)), answered.status(answer, found)
+        for shown in (secrecy.Shown(15, "access", 6, 0x10018), secrecy.PathShown(12, "access", 0x10018)):
+            yield answered.word(secrecy.Answer(shown, None), None), answered.status(secrecy.Answer(shown, None), None)
+        # of a core; and of a run of the instruction set, which has no cycles
+        for how, published, loaded, cycles in itertools.product(self.ENDS, (None, 4), (0, 1), (21, None)):
+            answer = secrecy.Answer(None, End("", how, 5, cycles), published)
+            found = touched.Touched(1, loaded, 0)
+            yield re.sub(r"\d+", "N", answered.word(answer, found)), answered.status(answer, found)
 
     def test_words(self):
         told = {word: number for number, (answers, _, _) in self.rows.items() for word in re.findall("`([^`]+)`", answers)}
         for word, status in report.STATUS.items():
             self.assertEqual(told.get(word), status, word)
         plain = {"certified", "certified for what is published", "certified in the first N cycles", "certified, exit N",
-                 "certified, to a trap in cycle N", "vacuous", "exposed"}
+                 "certified, to a trap in cycle N", "vacuous", "exposed", "certified on every core that delays",
+                 "certified on every core that delays, exit N", "nothing shows, to a trap in step N", "nothing shows in the first N steps"}
         found = {word: status for word, status in self.answers() if word in plain}
         self.assertEqual(set(found), plain)
         for word, status in found.items():
