@@ -35,7 +35,7 @@ pub struct Item<'a> {
 }
 
 impl<'a> Item<'a> {
-    /// Its lines among those of its file.
+    /// Where the lines of a run or a case stand among those of the file.
     pub(crate) fn lines<'b>(&self, lines: &'b [Line<'a>]) -> &'b [Line<'a>] {
         lines.get(self.first..self.end).unwrap_or(&[])
     }

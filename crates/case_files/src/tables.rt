@@ -51,7 +51,7 @@ pub(crate) fn part_lines<'a>(alloc: Global, lines: &[Line<'a>]) -> Result<Parted
 }
 
 impl<'a> Table<'a> {
-    // Its rows among a case's lines.
+    // Where a table's rows stand among the lines of a case.
     fn rows<'b>(&self, lines: &'b [Line<'a>]) -> &'b [Line<'a>] {
         lines.get(self.first..self.end).unwrap_or(&[])
     }
