@@ -3,9 +3,9 @@ import os
 import unittest
 
 from material import BOUND_0, CODE, CORE, DATA, RUNS, SECRET, gadget, program, support
+from wadrelwy.verdict.chain import MOST_OF_CHAIN, Chain
 from wadrelwy.verdict.loaded import load
 from wadrelwy.verdict.telling import Telling
-from wadrelwy.verdict.values import MOST_OF_CHAIN, Chain
 from wadrelwy.view import Fault
 from wadrelwy.view.description import read_description
 from wadrelwy.view.trace import Trace

@@ -6,12 +6,12 @@ from wadrelwy.view.disassembly import CALLERS, Disassembler
 from wadrelwy.view.trace import Trace
 
 from . import answered, published, ranges, report, secrecy, touched, wrong_path
+from .chain import Chain
 from .loaded import Loaded, load
 from .secrecy import Answer
 from .simulator import Written
 from .telling import Telling
 from .touched import Touched
-from .values import Chain
 from .wrong_path import Fate, fate_of
 
 # in a cycle, of any description (docs/formats.md, "Keys")

@@ -7,8 +7,8 @@ from wadrelwy.view.disassembly import Disassembler
 from wadrelwy.view.trace import End
 
 from . import answered, certificate, report, secrecy, wrong_path
+from .chain import Chain
 from .given import File, Given
-from .values import Chain
 from .wrong_path import Fate
 
 

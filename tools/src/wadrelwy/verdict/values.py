@@ -4,30 +4,13 @@ A trace has no values. But an entry computes its result from those of the writer
 and retired memory, as it issues (docs/machine.md, "Writers and roots", "Loads"): so each entry is executed with the event of its issue,
 each part of a store with its own. The run checks itself: the lines, faults, times of divisions and directions of branches that are
 computed have to be those that the trace tells."""
-from typing import NamedTuple
-
 from wadrelwy.riscv.kinds import CALL, DIVISION, JALR, LOAD
 from wadrelwy.riscv.operation import WORD, decoded_of, division_time, effect
 from wadrelwy.view import Fault
 from wadrelwy.view.pipeline import PREFETCH, Pipeline
 
+from .chain import Chain
 from .hart import JUMP_MISALIGNED, Memory, system_call
-
-
-# so many instructions of a chain are kept, its last ones
-MOST_OF_CHAIN = 12
-
-
-class Chain(NamedTuple):
-    """How a value was made of a marked byte: the byte's address; the addresses of the load of it and of the last instructions that handed it on,
-    one by one; and how many they were in all. There may be other ways to the value than this one."""
-    byte: int
-    last: tuple = ()
-    length: int = 0
-
-    def on(self, pc):
-        """It with one instruction more."""
-        return Chain(self.byte, (*self.last[1 - MOST_OF_CHAIN:], pc), self.length + 1)
 
 
 class Retired:
