@@ -3,7 +3,6 @@ import support
 from programs import EXIT, lbu, sh
 from wadrelwy.view.description import DEFENCES
 from wadrelwy.riscv.encoding import add, addi, branch, div, immediate_form, jal, lw, mul, sw
-from wadrelwy.view.description import DEFENCES
 
 REGISTERS = [5, 6, 7, 9, 10, 11]
 COUNTER = 12
@@ -43,6 +42,6 @@ def image(draw, name):
 def description(draw, name):
     """A description with bits of dependence or none, under a model and a defence, of a small, a middle or a large core."""
     sizes = draw.choice([{}, support.SMALLEST, support.LARGEST | support.LARGER])
-    keys = {"depend": draw.choice([0, 1, 2, 16, 64]), "defence": draw.choice([f'"{each}"' for each in DEFENCES]), "misaligned": draw.choice([0, 1]),
+    keys = {"depend": draw.choice([0, 1, 2, 16, 64]), "defence": f'"{draw.choice(list(DEFENCES))}"', "misaligned": draw.choice([0, 1]),
             "mshrs": draw.choice([2, 3, 8])}
     return support.description(name, draw.choice(["spectre", "futuristic", "off"]), 2, **sizes | keys | draw.choice(OTHERS))

@@ -1,8 +1,19 @@
 //! Laws of the constant-time contract: what leaks alike on the path gives one trace, under a defence that lets nothing
-//! show an operand before it is visible, as `delay` is (docs/theorems.md, "Constant time on the path").
+//! show an operand before it is visible, as `delay` does.
 //!
 //! The path of a program is its run of the instruction set. What it leaks are the addresses of its instructions, of its
-//! loads and stores, where its branches go, its dividends and what its calls are asked for (`specs/Leaks.antt`).
+//! loads and stores, where its branches go, its dividends and what its calls are asked for. So one run of the
+//! instruction set that shows nothing of a secret proves it for every core.
+//!
+//! Rules: `specs/Leaks.antt`, what the path leaks; `Waits.antt`, what a defence has to keep; `Laws.antt`, of two
+//! memories; `PathMarks.antt`, marks beside a run of the instruction set; `Certified.antt`, what such a run proves;
+//! `Worked.antt`, runs that are judged; `docs/theorems.md`, "Constant time on the path".
+//!
+//! Promises: `docs/theorems.md`, "Constant time on the path", phase by phase and for whole runs, in the general form
+//! and of `delay`; the paths of small programs show what they have to, and a cipher hides its key on every core.
+//!
+//! Clauses: `what_leaks_alike_gives_one_trace`, `phases_leak_alike`, `one_path_proves_every_core`, `paths_are_judged`,
+//! `cipher_hides_its_key_on_every_core`.
 #![tactic(auto)]
 
 ghost use Rattle.constant_time.specs.Certified.{

@@ -1,12 +1,14 @@
 //! The gate at Issue: what may not issue because it would tell of a secret, or of what may be one.
 //!
 //! Which line a load accesses shows in the cache, and how long a division takes shows in time. So a load waits while
-//! its base is tainted, and a division while an operand is. Anything else tells nothing by its issue.
+//! its base is tainted, and a division while an operand is; under the defence `delay` each waits until it is visible,
+//! too. Anything else that issues in one piece tells nothing by its issue; a store's address part asks the point by
+//! itself.
 //!
 //! Rules: `visibility/specs/Gate.antt`; `docs/machine.md`, "Issue".
 //!
 //! Promises: the answer is no exactly for a load whose first source and a division one of whose sources has a root that
-//! isn't visible.
+//! isn't visible, and under `delay` for a load or division that the point hasn't reached.
 //!
 //! Clauses: `may_transmit`.
 #![tactic(auto)]

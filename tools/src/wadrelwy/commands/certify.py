@@ -5,7 +5,7 @@ under settings.
                      [--public-stream N]..
     wadrelwy certify FOLDER --build SOURCES [--compilers gcc clang] [--levels 1 2] [--only NAME] --secret .. --descriptions .. [..]
     wadrelwy certify FOLDER (--programs IMAGE.. | --build SOURCES) --secret .. [..]
-    wadrelwy certify FOLDER [--json]
+    wadrelwy certify FOLDER [--together] [--json]
 
 Each program is asked under each description with each combination of the values that are set, as by wadrelwy sweep: --set
 stt.model=off,spectre; --defences is the model off, and each defence under both models that protect. A secret is named as for
@@ -30,9 +30,10 @@ the simulator is there (--program, STT_CLI), whether the instruction is on the p
 load that passed a store. Of every core that delays a cell says `certified on every core that delays`, or what shows first and in which step;
 where a trap or the budget ended the run nothing is claimed of cores, and it says `nothing shows, to a trap in step N`. A description that is refused is a cell `refused K6`. The table is written to standard output and to FOLDER/table.md; FOLDER/table.csv has a
 row for each run, and so has FOLDER/table.json, with the status of each and the sha256 of its image and description; --json writes that to
-standard output in place of the table. Where it was stopped, the command that began it, or `wadrelwy certify FOLDER` alone, goes on: only what is missing is
-asked. FOLDER has copies of all that was asked of. FOLDER alone is refused where an image, a description or the program isn't what it was;
---copies goes on with those that the folder has. --build builds all images anew.
+standard output in place of the table. With --together all builds of a program that have the same cells are one row of the table. Where it
+was stopped, the command that began it, or `wadrelwy certify FOLDER` alone, goes on: only what is missing is asked. FOLDER has copies of all
+that was asked of. FOLDER alone is refused where an image, a description or the program isn't what it was; --copies goes on with those that
+the folder has. --build builds all images anew.
 
 N of --cycles is 4294967295 without it, of steps where the run is one of the instruction set, and as many --jobs as processors. P of --secrets-program is the program that is asked: without it the
 variable STT_SECRETS, else crates/stt_secrets/out/stt_secrets. The status is that of the worst cell: 0 certified, 1 something shows, 3 a
@@ -66,6 +67,7 @@ def words(parser):
     parser.add_argument("--jobs", type=int, default=len(os.sched_getaffinity(0)), metavar="N")
     parser.add_argument("--secrets-program", metavar="P")
     parser.add_argument("--program", metavar="P")
+    parser.add_argument("--together", action="store_true", help="one row for all builds of a program that have the same cells")
     parser.add_argument("--json", action="store_true", help="one object in place of the table")
     parser.add_argument("--copies", action="store_true", help="go on with the folder's copies, whatever became of the files")
 
@@ -113,7 +115,7 @@ def main(asked):
     except results.Refuted as refuted:
         print(f"wadrelwy certify: refuted: {refuted}", file=sys.stderr)
         return statuses.REFUTED
-    table = f"{certificates.as_markdown(found)}\nBy {made.cited}.\n"
+    table = f"{certificates.as_markdown(found, asked.together)}\nBy {made.cited}.\n"
     as_object = certificates.as_json(made, found)
     for path, text in zip(certificates.files(asked.folder), (table, certificates.as_csv(found, made.keys, made.cited), as_object)):
         write(path, text.encode())

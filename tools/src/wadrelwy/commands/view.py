@@ -8,7 +8,7 @@ from typing import IO, Any, Generator, Iterator
 
 from wadrelwy import Fault, Unwritten
 from wadrelwy.view import annotate, compare, difference, drawing, index, konata, listing, numbers, o3, page, stack, stats, whole as whole_run, why
-from wadrelwy.view.description import read_description
+from wadrelwy.view.description import defence_beside, read_description
 from wadrelwy.view.disassembly import CALLERS, KINDS, MANUAL, Disassembler
 from wadrelwy.view.image import Image
 from wadrelwy.view.items import NEVER
@@ -206,7 +206,9 @@ def lines_of_picture(words: argparse.Namespace, inputs: Inputs) -> Iterator[str]
 def facts_of(inputs: Inputs, side: int, replay: Replay, last: int) -> list:
     """What a page says of where a trace is from, and where it doesn't reach to the end how the run ended, and what shows more of it."""
     image, path = inputs.of(inputs.words.image, side), inputs.of(inputs.words.description, side)
-    found = [f"image {os.path.basename(image)}, description {os.path.basename(path)}, {inputs.of(inputs.descriptions, side).told}"]
+    description = inputs.of(inputs.descriptions, side)
+    defence = defence_beside(description.model, description.defence)
+    found = [f"image {os.path.basename(image)}, description {os.path.basename(path)}, model {description.model}{defence}"]
     end = None if replay.trace.end else end_of(inputs.names[side])
     return found + ([f"the whole run: {end.text}; --from {last + 1} shows what follows"] if end else [])
 

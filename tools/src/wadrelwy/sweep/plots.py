@@ -10,8 +10,8 @@ from . import results, settings
 
 # a colour and a dash for each defence: where curves lie on one another, each is seen in the gaps of the next
 ORDER = [settings.told(values) for values in settings.DEFENCES]
-COLOURS = ["#555555", "#2e86c1", "#c0392b", "#7fb3d5", "#e6a49c", "#1e8449", "#b9770e", "#82c9a0", "#e5c07b"]
-DASHES = ["none", "none", "9 6", "3 4", "9 4 2 4", "12 4", "2 3", "6 3 2 3 2 3", "1 5"]
+COLOURS = ["#555555", "#2e86c1", "#c0392b", "#7fb3d5", "#e6a49c", "#1b4f72", "#7b241c", "#1e8449", "#b9770e"]
+DASHES = ["none", "none", "9 6", "3 4", "9 4 2 4", "14 5", "1 3", "6 3 2 3 2 3", "2 6"]
 HEIGHT, LEFT, TOP, BOTTOM, RIGHT = 190, 58, 46, 44, 16
 MOST_PANELS = 100
 FILES = re.compile(r"bars\.svg|curve-.*\.svg")

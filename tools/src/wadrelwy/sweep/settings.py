@@ -9,7 +9,7 @@ MODEL, DEFENCE = "stt.model", "stt.defence"
 # a number of 32 bits has ten digits at most
 VALUE = re.compile(r"[0-9]{1,10}|[A-Za-z_][A-Za-z0-9_]*")
 # nothing protected; then each defence under each model
-DEFENCES = [{MODEL: OFF, DEFENCE: STT}, *({MODEL: model, DEFENCE: name} for name in NAMES for model in (SPECTRE, FUTURISTIC))]
+DEFENCES = [{MODEL: OFF, DEFENCE: STT}] + [{MODEL: model, DEFENCE: defence} for defence in NAMES for model in (SPECTRE, FUTURISTIC)]
 # what --defences means, as a help says it
 TOLD = f"{OFF}, and each of {', '.join(NAMES)} under {SPECTRE} and {FUTURISTIC}"
 # why a protected run may be the shorter one
@@ -22,8 +22,8 @@ def told(values):
     """A model and a defence as a table tells them: `off`, `spectre`, `spectre+hold`."""
     if MODEL not in values:
         raise Fault(f"a description without {MODEL}")
-    model, defence = values[MODEL], values.get(DEFENCE, STT)
-    return model if model == OFF or defence == STT else f"{model}+{defence}"
+    defence = values.get(DEFENCE, STT)
+    return values[MODEL] + ("" if defence == STT or values[MODEL] == OFF else f"+{defence}")
 
 
 def parsed(text, name):

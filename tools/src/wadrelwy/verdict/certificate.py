@@ -1,7 +1,7 @@
 """The verdict on one image and its secret bytes, as text."""
 from typing import NamedTuple, Optional
 
-from wadrelwy.view.description import Description, read_description
+from wadrelwy.view.description import Description, defence_beside, read_description
 from wadrelwy.view.disassembly import CALLERS, Disassembler
 from wadrelwy.view.trace import Trace
 
@@ -19,9 +19,9 @@ MOST_RETIRED = 4
 
 
 class Case(NamedTuple):
-    """An image under a description, its secret bytes as ranges, what the program says of them, and what the path does with them first; the
-    public streams, and what was published, where the program says how much. Of a run of the instruction set the description gives memory alone,
-    and may be none."""
+    """An image under a description, its secret bytes as ranges, what the program says of them, and what the path does with them first; where all
+    is asked for, what else may show, and by which instructions what shows first was made of the bytes; the public streams, and what was
+    published, where the program says how much. Of a run of the instruction set the description gives memory alone, and may be none."""
     description: Optional[str]
     machine: Optional[Description]
     image: Loaded
@@ -69,11 +69,11 @@ def case_of_path(program, asked):
     return Case(asked.desc, machine, loaded, secret, answer, found, streams=streams, published=published.of_answer(loaded, streams, answer))
 
 
-def all_of(simulator, description, image, machine, secret, cycles):
-    """All instructions that take effect on a value made of these bytes, by the marks of this tool: as `Telling` has them."""
-    lines = Written(simulator, "trace", description, image.name, "--cycles", str(cycles))
-    marks = [address for each in secret for address in each.addresses]
-    return Telling(Trace(lines), image, machine, marks, thorough=False).shown
+def all_of(simulator, case, cycles):
+    """All instructions that take effect on a value made of these bytes, by the marks of this tool, and how what shows first was made of them."""
+    lines = Written(simulator, "trace", case.description, case.image.name, "--cycles", str(cycles))
+    marks, shown = [address for each in case.secret for address in each.addresses], case.answer.shown
+    return Telling(Trace(lines), case.image, case.machine, marks, thorough=False, watched=shown.serial if shown else -1)
 
 
 def steps_of(answer):
@@ -87,7 +87,7 @@ def steps_of(answer):
 def told_run(case):
     """What is asked of: a core, by its description; or the cores that delay, by the memory that they have."""
     if not case.answer.of_path:
-        return "description", f"{case.description}, {case.machine.told}"
+        return "description", f"{case.description}, model {case.machine.model}{defence_beside(case.machine.model, case.machine.defence)}"
     memory, rule = case.image, ", any address" if case.image.misaligned else ""
     place = f"memory {memory.base:08x} to {memory.base + len(memory.memory) - 1:08x}{rule}"
     return "cores", f"all that delay, {place}, " + (f"as {case.description} has it" if case.description else "as isa has it without a description")

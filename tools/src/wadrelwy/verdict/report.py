@@ -3,7 +3,7 @@ from typing import NamedTuple
 
 from wadrelwy import statuses
 from wadrelwy.view import difference
-from wadrelwy.view.description import OFF, Description
+from wadrelwy.view.description import OFF, Description, defence_beside
 from wadrelwy.view.disassembly import CALLERS, Disassembler
 from wadrelwy.view.replay import Replay
 from wadrelwy.view.trace import Trace
@@ -79,7 +79,7 @@ class Case(NamedTuple):
 def lines(case, notation=CALLERS):
     """The whole verdict, a line each."""
     texts = [Disassembler(image, notation) for image in (case.one, case.two)]
-    yield row("description", f"{case.description}, {case.machine.told}")
+    yield row("description", f"{case.description}, model {case.machine.model}{defence_beside(case.machine.model, case.machine.defence)}")
     yield row("A", f"{case.one.name}: {case.pair.ends[0].text}")
     yield row("B", f"{case.two.name}: {case.pair.ends[1].text}")
     yield row("memory", differing(case.one, case.premises.memory))

@@ -6,6 +6,8 @@ import tempfile
 from typing import NamedTuple, Optional
 
 from wadrelwy import built_programs
+from wadrelwy.machine import notes
+from wadrelwy.machine.passing import Screen
 from wadrelwy.view import Fault
 from wadrelwy.view.trace import read_end
 

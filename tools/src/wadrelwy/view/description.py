@@ -8,8 +8,10 @@ from typing import NamedTuple, Optional
 from . import Fault
 
 SPECTRE, FUTURISTIC, OFF = "spectre", "futuristic", "off"
-STT, HOLD = "stt", "hold"
-MODELS, DEFENCES = (SPECTRE, FUTURISTIC, OFF), (STT, HOLD)
+STT, HOLD, DELAY = "stt", "hold", "delay"
+MODELS = (SPECTRE, FUTURISTIC, OFF)
+# each defence, and what it does to an instruction that it lets wait, in words
+DEFENCES = {STT: "held by taint", HOLD: "held back", DELAY: "delayed"}
 # the most bytes of a description (docs/formats.md, "Words")
 DESCRIPTION_MAX = 65536
 
@@ -58,11 +60,6 @@ class Description(NamedTuple):
     second_latency: int
     prefetch: int
     defence: str
-
-    @property
-    def told(self) -> str:
-        """Model and defence, as `model spectre, defence hold`; without the defence where it is the usual one."""
-        return f"model {self.model}" + (f", defence {self.defence}" if self.defence != STT else "")
 
 
 def defence_beside(model: str, defence: str) -> str:
