@@ -73,9 +73,12 @@ def description(name, model, version=1, **changes):
 
 
 def descriptions(version=1, models=("spectre", "futuristic"), **more):
-    """The example description of a version, a small and a large one, each under these models; with more keys where they are given."""
+    """The example description of a version, a small and a large one, each under these models; with more keys where they are given.
+
+    A file's name has the values of those keys, so that two descriptions never share one."""
+    settings = [f"{key}_{str(value).strip(chr(34))}" for key, value in more.items()]
     changes = {"example": {}, "smallest": SMALLEST, "largest": LARGEST if version == 1 else LARGEST | LARGER}
-    return [description("_".join([name, *more]), model, version, **changes[name] | more)
+    return [description("_".join([name, *settings]), model, version, **changes[name] | more)
             for name in changes for model in models]
 
 
