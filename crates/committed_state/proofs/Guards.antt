@@ -73,9 +73,11 @@ module _ (d : Desc) where
   pub guarded_fetch : (code : Code) (x : Machine) → W x.window → W (fetch d code x).machine.window
   guarded_fetch code = fetch_keep d P code (λ x pc q r h. h)
 
+-- a cycle keeps that what has issued had untainted operands
 pub guarded_cycle : CycleGuards
 guarded_cycle d code x h =
     cycle_keep d (P d) code (guarded_issue d) (guarded_rename d) (guarded_fetch d code) (guarded_resolve d) (guarded_clear d) (guarded_retire d) (λ x h. h) (guarded_fill d) (guarded_complete d) x h
 
+-- in every state of a run what has issued had untainted operands
 pub guarded_at : RunGuards
 guarded_at d code entry ram k = run_keep d (P d) code (guarded_cycle d code) k (opening d entry ram) tt

@@ -185,6 +185,7 @@ module _ (d : Desc) (code : Code) (x : Machine) (b : List Entry) (e : Entry) (h 
 
 -- ---- the window after Issue
 
+-- an entry as Issue leaves it, by what stands before it
 abbrev pub issued : Desc → Machine → List Entry → Entry → Entry
 issued d x b e = (issue_entry d (around x) b e).entry
 

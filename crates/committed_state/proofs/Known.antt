@@ -61,6 +61,7 @@ value_if : (w k : Bool) (e : Entry) (o : Option Entry) → (is_done e.state ≡ 
 value_if true k e o p q t = p t
 value_if false k e o p q t = q t
 
+-- a source whose writer has executed is given by a writer that has a value, or by the retired registers
 pub has_value : (d : Desc) (code : Code) (s : Bank) (now : ℕ) (b : List Entry) (r : ℕ) → Behind (EntryInvariant d code s now) b → list_all goes_through b ≡ true → executed b r ≡ true → HasValue (writer b r)
 has_value d code s now [] r h t k = tt
 has_value d code s now (e ∷ b) r h t k =
@@ -91,6 +92,7 @@ module _ (d : Desc) (code : Code) (s : Bank) (now : ℕ) (n : length s.regs ≡ 
   pub replayed_head : (e : Entry) → EntryInvariant d code s now [] e → all_issued e ≡ true → ComesTo e.outcome (replayed s e)
   replayed_head e st a = subst (ComesTo e.outcome) (known_all e.item.kind (has_address e) (has_data e) (is_issued e) (replayed s e) a) ((replayed_behind (e ∷ []) (st, tt)).0 refl)
 
+-- in a consistent state each issued entry has the outcome of its replay
 pub issued_is_replayed : IssuedIsReplayed
 issued_is_replayed d code x h = replayed_behind d code (bank_in (hart_of x)) (x.cycle + 1) h.registers (reverse x.window) (behind_of (EntryInvariant d code (bank_in (hart_of x)) (x.cycle + 1)) [] x.window h.entries tt)
 
@@ -103,5 +105,6 @@ all_clear_from : (d : Desc) (code : Code) (s : Bank) (now : ℕ) (b w : List Ent
 all_clear_from d code s now b [] h q = refl
 all_clear_from d code s now b (e ∷ w) h q = ap (λ c. c && list_all is_clear w) (clear_so (loads_pass d) e h.0.clearing q) ∙ all_clear_from d code s now (e ∷ b) w h.1 q
 
+-- in a consistent state each store is cleared, unless loads may pass stores
 pub all_clear : AllClearUnlessPassing
 all_clear d code x h q = all_clear_from d code (bank_in (hart_of x)) (x.cycle + 1) [] x.window h.entries q

@@ -46,5 +46,6 @@ reason d code s now pc [] [] h q k = absurd (let n = ap is_some k in cc)
 reason d code s now pc [] (i ∷ is) h q k = queue_stops code (Some pc) i is q k
 reason d code s now pc (e ∷ es) queue h q k = window_stops d code s now [] (Some pc) e es queue h q k
 
+-- where there is no pc to fetch from, an entry or an item stops the fetch
 pub nowhere_has_reason : NowhereHasReason
 nowhere_has_reason d code x h n = reason d code _ _ x.pc x.window x.queue h.entries h.items (subst (Chain (Some x.pc) (links x.window x.queue)) n h.chain)

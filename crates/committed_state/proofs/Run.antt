@@ -101,5 +101,6 @@ consistent_opening code d entry ram = record { entries = tt; items = tt; chain =
 pub run_commits : RunCommits
 run_commits d code entry ram k al = from_none code (start entry ram) (at d code entry ram k) (pieces d code k (opening d entry ram)) (run_from code d al k (opening d entry ram) (consistent_opening code d entry ram) refl).commits
 
+-- every state of a run is consistent
 pub consistent_at : RunKeeps
 consistent_at d code entry ram k al = (run_from code d al k (opening d entry ram) (consistent_opening code d entry ram) refl).keeps

@@ -86,9 +86,11 @@ shares_byte l e a i h = ap (λ f. not f && list_any (λ a. covers a e) (range (a
 -- ---- how a store stands before a load, by whether it is one, its address, whether it was passed, whether it is cleared, whether they
 -- share a byte, and its data
 
+-- a store keeps out of a load: it is passed and not cleared, shares no byte, or has its data and isn't passed
 abbrev pub apart_of : Bool → Bool → Bool → Bool → Bool
 apart_of p c sh d = (p && not c) || not sh || (d && not p)
 
+-- what stands before a load is no store, or keeps out where its address is known, or isn't cleared
 abbrev pub before_of : Bool → Bool → Bool → Bool → Bool → Bool → Bool
 before_of st h p c sh d = not st || (if h then apart_of p c sh d else not c)
 

@@ -23,6 +23,7 @@ steps_are code from x pieces m n e c = subst (λ n. Committed code from n x piec
 pub from_none : (code : Code) (from : Hart) (x : Machine) (pieces : List (List ℕ)) → Leads code from 0 x pieces → Committed code from x.retired x pieces
 from_none code from x pieces c = steps_are code from x pieces c.steps x.retired (omega (arith, c.counted)) (record { runs = c.runs; trap = c.trap })
 
+-- where steps lead on from what has retired, a cycle commits as many as it retires
 pub as_retired : (code : Code) (x y : Machine) (piece : List ℕ) → Leads code (hart_of x) x.retired y (with_piece piece []) → Commits code x y piece
 as_retired code x y piece c = record {
   rises = omega (arith, c.counted);
@@ -34,6 +35,7 @@ pub record Retires (now : ℕ) (d : Desc) (code : Code) (x : Machine) (r : Retir
   pub committed : Leads code (hart_of x) x.retired r.machine (with_piece r.piece [])
   pub holds : ConsistentIn now d code r.machine
 
+-- a step that goes on, and then so many, are one step more, with what it put out before
 pub prepend : (code : Code) (s s2 : Hart) (piece : List ℕ) (n : ℕ) (r : Run) → isa_step code s ≡ Goes s2 piece → isa code s2 n ≡ r → isa code s (suc n) ≡ record r { pieces = with_piece piece r.pieces; steps = suc r.steps }
 prepend code s s2 piece n r h k = ap (λ t. after s t (run (isa_step code) n)) h ∙ ap (λ (r : Run). let t : Run = record r { pieces = with_piece piece r.pieces; steps = r.steps + 1 } in t) k
     ∙ ap (λ m. let t : Run = record r { pieces = with_piece piece r.pieces; steps = m } in t) one

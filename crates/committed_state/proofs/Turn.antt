@@ -38,9 +38,11 @@ abbrev pub head_ram : Kind → Ram → Entry → Option Outcome → Ram
 head_ram Store m e o = with_bytes m (addr_of o) (to_le (byte_count e) (stored_of o))
 head_ram _ m e o = m
 
+-- the retired state behind a head that leaves with this outcome
 abbrev pub hart_with : Hart → Entry → Option Outcome → Hart
 hart_with s e o = record { pc = next_of o; regs = with_reg s.regs (writes_of e.item.instr) (value_of o); ram = head_ram e.item.kind s.ram e o }
 
+-- the retired state behind a head that leaves with its own outcome
 abbrev pub head_hart : Hart → Entry → Hart
 head_hart s e = hart_with s e e.outcome
 
@@ -64,6 +66,7 @@ item_eq i pc j p a k = ap (λ n. made n i.instr i.kind i) (sym p) ∙ ap (λ u. 
 abbrev hart_item : Hart → Item → Outcome → Hart
 hart_item s i o = hart_after s (of_item i) o
 
+-- a step that goes on without output, or traps where there is a fault
 abbrev pub steps : Option Cause → Hart → Step
 steps None t = Goes t []
 steps (Some cause) t = Traps cause
@@ -111,6 +114,7 @@ link_next false e c o h f p = p refl ∙ ap (λ c. Some (next_of c)) (sym h)
 
 -- ---- what is known of a head that may leave
 
+-- a head that may leave is Done, and a store of it is cleared
 pub leave_parts : (a b c : Bool) → (a && (not b || c)) ≡ true → (a ≡ true) × (c ≡ false → b ≡ false)
 leave_parts true false c h = (refl, λ k. refl)
 leave_parts true true true h = (refl, λ k. absurd (cc))

@@ -30,6 +30,7 @@ pub record Adds (most : ℕ) (x : Machine) (a : After) : Type 0 where
   pub serials : a.machine.next_serial ≡ x.next_serial
   pub retired : a.machine.retired ≡ x.retired
 
+-- two lists of events, each with at most so many, have together at most the sum
 pub joined : (m n : ℕ) (a c : List Event) → length a ≤ m → length c ≤ n → length (a ++ c) ≤ m + n
 joined m n a c p q = let l = length-append a c in omega arith
 
@@ -122,12 +123,14 @@ pub record Renames (n : ℕ) (x : Machine) (a : After) : Type 0 where
   pub serials : a.machine.next_serial ≤ x.next_serial + n
   pub retired : a.machine.retired ≡ x.retired
 
+-- Rename makes at most as many entries as the description fetches in a cycle, each with the next serial
 pub rename_renames : (d : Desc) (x : Machine) → Renames d.core_fetch_width x (rename d x)
 rename_renames d x =
     rename_by d Renames (λ n x. record { events = omega arith; cycle = refl; serials = omega arith; retired = refl })
     (λ n x i rest q f more.
     record { events = let j = joined 1 n (rename_one d i rest x).events (rename_up_to d n (rename_one d i rest x).machine).events (omega arith) more.events in omega (arith, j); cycle = more.cycle; serials = omega (arith, more.serials); retired = more.retired }) x
 
+-- Fetch has at most an event for each item that a cycle may fetch, and makes no serial
 pub fetch_adds : (d : Desc) (code : Code) (x : Machine) → Adds d.core_fetch_width x (fetch d code x)
 fetch_adds d code x =
     fetch_by d code Adds (λ n x. record { events = omega arith; cycle = refl; serials = refl; retired = refl })

@@ -137,5 +137,6 @@ module _ (d : Desc) where
       cycle_keep d (FitCheckpoints d) code checkpoints_issue checkpoints_rename (checkpoints_fetch code) checkpoints_resolve (checkpoints_clear d) checkpoints_retire
       (λ x h. record { next = h.next; entries = h.entries; items = h.items }) (λ x h. record { next = h.next; entries = h.entries; items = h.items }) checkpoints_complete x h
 
+-- history and stack fit the description in every state of a run
 pub checkpoints_at : (d : Desc) (code : Code) (entry : ℕ) (ram : Ram) (k : ℕ) → FitCheckpoints d (at d code entry ram k)
 checkpoints_at d code entry ram k = run_keep d (FitCheckpoints d) code (checkpoints_cycle d code) k (opening d entry ram) (checkpoints_opening d entry ram)

@@ -87,6 +87,7 @@ module _ (d : Desc) (x : Machine) (f : Fits d x) (p : Place) (t : Cleared d x p)
     registers = f.registers;
   })
 
+-- Clear keeps the sizes of the state
 pub sized_clear : (d : Desc) (x : Machine) → IsDesc d → Sized d x → Sized d (clear d x).machine
 sized_clear d x i =
     clear_keep d (Sized d) (λ x p t s. sized_clears d x (parts d x s) p t) (λ x p q t u s. sized_violates d x (parts d x s) p t q u) x
@@ -142,6 +143,7 @@ clear_each P f d =
     clear_keep d (λ x. Each P x.window) (λ x p t h. each_cleared P d x p t (f p.entry) h p.younger (λ k. k))
     (λ x p q t u h. each_cleared P d x p t (f p.entry) h (reverse q.before) (each_between P p q u))
 
+-- Clear leaves each store waiting or Done
 pub clear_settles : (d : Desc) (x : Machine) → Each WaitsOrDone x.window → Each WaitsOrDone (clear d x).machine.window
 clear_settles = clear_each WaitsOrDone (λ e k. k)
 
@@ -150,6 +152,7 @@ clear_settles = clear_each WaitsOrDone (λ e k. k)
 abbrev EntryFits : Desc → Entry → Type 0
 EntryFits d e = FitsCheckpoint d e.item.checkpoint
 
+-- history and stack fit the description behind Clear as before it
 pub checkpoints_clear : (d : Desc) (x : Machine) → FitCheckpoints d x → FitCheckpoints d (clear d x).machine
 checkpoints_clear d =
     clear_keep d (FitCheckpoints d)

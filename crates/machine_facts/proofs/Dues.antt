@@ -40,9 +40,11 @@ due_later past cycle longest (Busy due) h = (h.0, omega (arith, h.1))
 due_later past cycle longest Waiting h = tt
 due_later past cycle longest Done h = tt
 
+-- a busy entry that becomes Done soon does so in the next cycle, too
 pub dues_later : (d : Desc) (past cycle : ℕ) (w : List Entry) → Each (IsDue d past cycle) w → Each (IsDue d past (cycle + 1)) w
 dues_later d past cycle w h = each_then (IsDue d past cycle) (IsDue d past (cycle + 1)) (λ e. due_later past cycle (latency e.item.kind d) e.state) w h
 
+-- a miss that ends soon does so in the next cycle, too
 pub misses_later : (d : Desc) (past cycle : ℕ) (ms : List Miss) → Each (IsPending d past cycle) ms → Each (IsPending d past (cycle + 1)) ms
 misses_later d past cycle ms h = each_then (IsPending d past cycle) (IsPending d past (cycle + 1)) (λ m s. (s.0, omega (arith, s.1))) ms h
 
@@ -55,6 +57,7 @@ left_miss : (d : Desc) (past cycle : ℕ) (m : Miss) (ms : List Miss) (b : Bool)
 left_miss d past cycle m ms true h q s k = k
 left_miss d past cycle m ms false h q s k = ((not_this past cycle m.due h q s.0, s.1), k)
 
+-- the misses that are left once those of this cycle have ended end in a later one
 pub misses_left : (d : Desc) (past cycle : ℕ) (ms : List Miss) → cycle ≡ past + 1 → Each (IsPending d past cycle) ms → Each (IsPending d cycle cycle) (filter (λ m. not (is_due cycle m)) ms)
 misses_left d past cycle [] q h = tt
 misses_left d past cycle (m ∷ ms) q h = left_miss d past cycle m _ (is_due cycle m) refl q h.0 (misses_left d past cycle ms q h.1)
@@ -71,6 +74,7 @@ completed_due d past cycle q e h = by_due (completes cycle e) refl
     by_due true k = tt
     by_due false k = left_due d past cycle (latency e.item.kind d) e.state k q h
 
+-- the entries that are busy once those due in this cycle are Done become Done in a later one
 pub dues_left : (d : Desc) (past cycle : ℕ) (w : List Entry) → cycle ≡ past + 1 → Each (IsDue d past cycle) w → Each (IsDue d cycle cycle) (map (completed cycle) w)
 dues_left d past cycle w q h = each_map (IsDue d cycle cycle) (completed cycle) w (each_then (IsDue d past cycle) (λ e. IsDue d cycle cycle (completed cycle e)) (completed_due d past cycle q) w h)
 
@@ -80,6 +84,7 @@ dues_left d past cycle w q h = each_map (IsDue d cycle cycle) (completed cycle) 
 time_in : (regs : List ℕ) (b : List Entry) (e : Entry) → (0 < time_of regs b e) × (time_of regs b e ≤ longest_division)
 time_in regs b e = (omega arith, omega arith)
 
+-- no division takes longer than the longest, and one takes as long
 pub one_is_longest : OneDivisionIsLongest
 unfolding lib.Count.count_leading_zeros
 one_is_longest = (λ op a. omega arith, refl)
@@ -186,6 +191,7 @@ part_later : (cycle : ℕ) (o : Option ℕ) → PartDue cycle o → PartDue (cyc
 part_later cycle None h = tt
 part_later cycle (Some due) h = omega (arith, h)
 
+-- a part that is known in the next cycle at the latest is so a cycle later, too
 pub parts_later : (cycle : ℕ) (w : List Entry) → Each (PartsDue cycle) w → Each (PartsDue (cycle + 1)) w
 parts_later cycle = each_then (PartsDue cycle) (PartsDue (cycle + 1)) (λ e h. (part_later cycle e.addr_due h.0, part_later cycle e.data_due h.1))
 
@@ -196,6 +202,7 @@ completed_parts past cycle e h = by_due (completes cycle e)
     by_due true = h
     by_due false = h
 
+-- an entry that becomes Done keeps when its parts are known
 pub parts_left : (past cycle : ℕ) (w : List Entry) → Each (PartsDue past) w → Each (PartsDue past) (map (completed cycle) w)
 parts_left past cycle w h = each_map (PartsDue past) (completed cycle) w (each_then (PartsDue past) (λ e. PartsDue past (completed cycle e)) (completed_parts past cycle) w h)
 
@@ -210,6 +217,7 @@ gone_parts_due now b e true false h = (omega arith, h.1)
 gone_parts_due now b e false true h = (h.0, omega arith)
 gone_parts_due now b e false false h = h
 
+-- a part that Issue begins is known in the next cycle at the latest
 pub parts_issued : (d : Desc) (now : Around) (b es : List Entry) → Each (PartsDue now.cycle) es → Each (PartsDue now.cycle) (map (λ (t : Begun). t.entry) (each_from (issue_entry d now) b es))
 parts_issued d now b [] h = tt
 parts_issued d now b (e ∷ es) h =
@@ -224,6 +232,7 @@ completed_cleared d cycle e h = by_due (completes cycle e)
     by_due true = h
     by_due false = h
 
+-- an entry that becomes Done stays cleared where it needs no clearing
 pub cleared_left : (d : Desc) (cycle : ℕ) (w : List Entry) → Each (StaysCleared d) w → Each (StaysCleared d) (map (completed cycle) w)
 cleared_left d cycle w h = each_map (StaysCleared d) (completed cycle) w (each_then (StaysCleared d) (λ e. StaysCleared d (completed cycle e)) (completed_cleared d cycle) w h)
 
@@ -238,17 +247,20 @@ gone_cleared d now b e true false h = h
 gone_cleared d now b e false true h = h
 gone_cleared d now b e false false h = h
 
+-- an entry that issues stays cleared where it needs no clearing
 pub cleared_issued : (d : Desc) (now : Around) (b es : List Entry) → Each (StaysCleared d) es → Each (StaysCleared d) (map (λ (t : Begun). t.entry) (each_from (issue_entry d now) b es))
 cleared_issued d now b [] h = tt
 cleared_issued d now b (e ∷ es) h =
     (by_issue d now b e (StaysCleared d) h.0 (λ s m. begun_cleared d e _ (begin_comes e.item.kind d now b e) h.0) (λ s a c g k. gone_cleared d now b e a c h.0), cleared_issued d now (e ∷ b) es h.1)
 
+-- the divider is free within the longest division, whichever division begins
 pub divider_soon : (x : Machine) (o : Option Place) → x.divider.free_from ≤ x.cycle + longest_division → (divider_after x o).free_from ≤ x.cycle + longest_division
 divider_soon x None h = h
 divider_soon x (Some p) h = let n = time_in x.regs p.before p.entry in omega (arith, n.1)
 
 -- ---- new entries end soon
 
+-- a renamed entry isn't busy
 pub due_new : (d : Desc) (past cycle serial : ℕ) (i : Item) → IsDue d past cycle (renamed d serial i)
 due_new d past cycle serial i = by_kind (at_once i.kind)
   where
@@ -262,6 +274,7 @@ apart_if : (b : Bool) (m : Miss) (ms : List Miss) → Each (λ (n : Miss). m.lin
 apart_if true m ms p q = (p, q)
 apart_if false m ms p q = q
 
+-- the misses that a test leaves have still a register each for a line
 pub apart_filter : (t : Miss → Bool) (ms : List Miss) → Apart ms → Apart (filter t ms)
 apart_filter t [] h = tt
 apart_filter t (m ∷ ms) h = apart_if (t m) m (filter t ms) (each_filter (λ (n : Miss). m.line ≢ n.line) t ms h.0) (apart_filter t ms h.1)
@@ -309,6 +322,7 @@ pub record MissesSoon (d : Desc) (cycle : ℕ) (ms : List Miss) : Type 0 where
   pub misses : Each (IsPending d cycle cycle) ms
   pub lines : Apart ms
 
+-- behind an access each miss ends soon, and no line has two
 pub taken_soon : (d : Desc) (now : Around) → IsDesc d → length now.second ≡ d.cache_second_sets → MissesSoon d now.cycle now.misses → (b : List Entry) (e : Entry) →
     MissesSoon d now.cycle (misses_after (access_of d now b e) d now.cycle now.misses)
 taken_soon d now i sets h =

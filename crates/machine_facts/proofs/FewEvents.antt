@@ -71,6 +71,7 @@ after_adds d code None x =
 
 -- ---- a cycle as a whole
 
+-- no cycle has more than 232 events
 pub few_events : (d : Desc) (code : Code) (x : Machine) → IsDesc d → Sized d x → length (cycle d code x).row.events ≤ 232
 unfolding cycle
 few_events d code x i s =

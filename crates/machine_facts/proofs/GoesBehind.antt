@@ -31,6 +31,7 @@ no_bit (suc n) h = absurd (cc)
 pub not_passing : (d : Desc) → d.version ≡ 1 → loads_pass d ≡ false
 not_passing d one = no_bit d.predictor_depend (no_bits (nat_le 2 d.version) d.predictor_depend _ (ap (λ v. nat_le 2 v) one) d.stands.depend.1)
 
+-- in version 1 no load passes a store
 pub passes_none : (d : Desc) (now : Around) (e : Entry) → d.version ≡ 1 → passes_stores d now e ≡ false
 passes_none d now e one = ap (λ p. p && not (waits_for_stores d now.dependence e.item.pc)) (not_passing d one)
 

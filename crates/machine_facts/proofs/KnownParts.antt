@@ -45,6 +45,7 @@ module _ (d : Desc) (cycle : ℕ) where
   retire_due : (x : Machine) → Due x.window → Due (retire d x).machine.window
   retire_due = retire_keep d (λ x. Due x.window) (head_drops Due (λ e rest h. h.1) d) (λ x end h. h)
 
+-- in every cycle of a run what has issued of a store is known as Resolve, Clear, Retire and Issue begin
 pub issued_is_known : IssuedIsKnown
 issued_is_known d code entry ram k i =
     let x = at d code entry ram k in

@@ -100,6 +100,7 @@ look_if d now left other true c o p q e s = rw q refl
 look_if d now left other false c (Some m) p q e s = rw (q, e) refl
 look_if d now left other false c None p q e s = rw (q, e, s) refl
 
+-- what an access leaves of one line changes no look-up of another
 pub others_stay : OthersStay
 others_stay d now line other apart =
     let l = look_up d now line in
@@ -182,6 +183,7 @@ module _ (d : Desc) (now : Around) (low : ℕ) where
       ap (λ (ms : List Miss). now.misses ++ ms) (map_append (register d now.cycle) (option_to_list (request_by lower)) (asked more))
       ∙ (sym (append_assoc now.misses (map (register d now.cycle) (option_to_list (request_by lower))) _) ∙ upper_misses more)
 
+-- an access leaves what its lines leave one after the other, and then the line that is prefetched
 pub leave_in_turn : AccessesLeaveInTurn
 leave_in_turn d now low up =
     let t = in_turn d now low up in
@@ -236,5 +238,6 @@ module _ (d : Desc) (now : Around) (low : ℕ) (up : Option ℕ) (are : OneOrTwo
       ap₂ (λ (k : ℕ) (answer : Access). if nat_le k d.cache_mshrs then answer else Waits) (sym registers_left)
       (ap₂ (λ (ls : Lines) (ahead : Option Request). Looks ls ahead) (sym found_alike) ahead_alike)
 
+-- the lines of an access come to the same at once as one after the other
 pub accesses_in_turn : AccessesGoInTurn
 accesses_in_turn d now a n some = access_alike d now (line_of d a) (upper_line d a n) (lines_are d a n some)

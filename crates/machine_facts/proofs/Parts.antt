@@ -40,9 +40,11 @@ pub record LevelFits (count most : ℕ) (level : List (List ℕ)) : Type 0 where
   pub sets : length level ≡ count
   pub ways : Each (λ lines. length lines ≤ most) level
 
+-- the cache has the sets of the description, each with at most its ways
 abbrev pub CacheFits : Desc → List (List ℕ) → Type 0
 CacheFits d cache = LevelFits d.cache_sets d.cache_ways cache
 
+-- the second level has the sets of the description, each with at most its ways
 abbrev pub SecondFits : Desc → List (List ℕ) → Type 0
 SecondFits d second = LevelFits d.cache_second_sets d.cache_second_ways second
 
@@ -62,6 +64,7 @@ each_entry : (d : Desc) (ram : Ram) (w : List Entry) → Each (λ (e : Entry). H
 each_entry d ram [] k m o p t = tt
 each_entry d ram (e ∷ w) k m o p t = (record { kind = k.0; memory = m.0; outcome = o.0; parts = p.0; together = t.0 }, each_entry d ram w k.1 m.1 o.1 p.1 t.1)
 
+-- a state that has its sizes fits the description part by part
 pub parts : (d : Desc) (x : Machine) → Sized d x → Fits d x
 parts d x s = record {
   window = record { entries = s.entries; loads_fit = s.loads_fit; stores_fit = s.stores_fit; waiting_fit = s.waiting_fit; call_alone = s.call_alone };

@@ -33,6 +33,7 @@ pub last_map : (f : Entry → Entry) → ((e : Entry) → is_last e ≡ true →
 last_map f k b b2 i [] h = i h
 last_map f k b b2 i (e ∷ es) h = last_map f k (is_last e) (is_last (f e)) (k e) es h
 
+-- items behind which nothing is fetched stay so, whatever more stands before them
 pub items_more : (b b2 : Bool) → (b ≡ true → b2 ≡ true) → (is : List Item) → last_item_from b is ≡ true → last_item_from b2 is ≡ true
 items_more b b2 i [] h = i h
 items_more b b2 i (j ∷ js) h = h
@@ -42,6 +43,7 @@ pub last_more : (b b2 : Bool) → (b ≡ true → b2 ≡ true) → (es : List En
 last_more b b2 i [] h = i h
 last_more b b2 i (e ∷ es) h = h
 
+-- of two lists of entries, one behind the other, the second decides unless it is empty
 pub last_join : (b : Bool) (a c : List Entry) → last_from b (a ++ c) ≡ last_from (last_from b a) c
 last_join b [] c = refl
 last_join b (e ∷ a) c = last_join (is_last e) a c
@@ -62,6 +64,7 @@ done_last true t f h = refl
 done_last false true f h = h
 done_last false false f h = absurd (cc)
 
+-- nothing is fetched behind an entry that becomes Done where nothing was before
 pub last_completed : (cycle : ℕ) (e : Entry) → is_last e ≡ true → is_last (completed cycle e) ≡ true
 last_completed cycle e h = by_due (completes cycle e)
   where
@@ -84,6 +87,7 @@ last_begins d now b e p h =
     last_by (is_stop e.item.kind) (is_done e.state) (is_faulty e) (is_stop r.item.kind) (is_done r.state) (is_faulty r)
     (ap (λ (i : Item). is_stop i.kind) (sym (issue_goes d now b e).item)) (λ t. ap is_last (issued_stays d now b e p (done_waits e.state t)) ∙ h) h
 
+-- nothing is fetched behind entries that issue where nothing was before
 pub last_issued : (d : Desc) (now : Around) (b : List Entry) (n n2 : Bool) → (n ≡ true → n2 ≡ true) → (es : List Entry) → Each HasParts es → last_from n es ≡ true → last_from n2 (map (λ (t : Begun). t.entry) (each_from (issue_entry d now) b es)) ≡ true
 last_issued d now b n n2 i [] p h = i h
 last_issued d now b n n2 i (e ∷ es) p h = last_issued d now (e ∷ b) (is_last e) (is_last (issue_entry d now b e).entry) (last_begins d now b e p.0) es p.1 h
@@ -98,6 +102,7 @@ not_faulty : (o : Option Cause) → o ≡ None → is_some o ≡ false
 not_faulty None h = refl
 not_faulty (Some c) h = absurd (cc)
 
+-- an entry that doesn't trap isn't one behind which nothing is fetched
 pub not_last : (e : Entry) → trap_of e ≡ None → is_last e ≡ false
 not_last e h =
     let n = no_trap e.item.kind e h in
@@ -111,6 +116,7 @@ last_rest e rest q n t h =
 
 -- ---- what is renamed and fetched
 
+-- nothing is fetched behind a renamed entry exactly where it is a stop
 pub last_new : (d : Desc) (serial : ℕ) (i : Item) → is_last (renamed d serial i) ≡ is_stop i.kind
 last_new d serial i = by (is_stop i.kind) (is_done (renamed d serial i).state)
   where

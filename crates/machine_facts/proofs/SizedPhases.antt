@@ -240,6 +240,7 @@ rename_item d x i rest q r s =
       registers = f.registers;
     })
 
+-- Rename keeps the sizes of the state
 pub sized_rename : (d : Desc) (x : Machine) → IsDesc d → Sized d x → Sized d (rename d x).machine
 sized_rename d x i s = rename_keep d (Sized d) (rename_item d) x s
 

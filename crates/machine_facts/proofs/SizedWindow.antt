@@ -55,6 +55,7 @@ station_room : (b r : Bool) (n m : ℕ) → (b || r) ≡ true → (r ≡ true �
 station_room true r n m h k s = omega arith
 station_room false r n m h k s = let l = k h in omega arith
 
+-- where there is room for an item, the window fits the description with its entry
 pub renamed_fits : (d : Desc) (w : List Entry) (i : Item) (serial : ℕ) → fits d w i ≡ true → WindowFits d w → WindowFits d (w ++ renamed d serial i ∷ [])
 renamed_fits d w i serial f h =
     let new = renamed d serial i in

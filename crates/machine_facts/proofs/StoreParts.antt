@@ -100,6 +100,7 @@ issued_stays d now b e p w =
 issue_stands : (d : Desc) (now : Around) (b : List Entry) (e : Entry) → StoreInvariant now.ram e → StoreInvariant now.ram (issue_entry d now b e).entry
 issue_stands d now b e h = by_issue d now b e (StoreInvariant now.ram) h (λ s m. begun_stands now.ram e _ (begin_goes e.item.kind d now b e).item s h) (λ s a c g k. gone_stands now b e a c h)
 
+-- Issue keeps what is known of each entry's parts, outcome and fault
 pub issue_sizes : (d : Desc) (now : Around) (b : List Entry) (e : Entry) → IsEntry d now.ram e → IsEntry d now.ram (issue_entry d now b e).entry
 issue_sizes d now b e h =
     let s = issue_stands d now b e (stands d now.ram e h) in

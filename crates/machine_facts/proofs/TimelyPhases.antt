@@ -198,6 +198,7 @@ module _ (d : Desc) where
     zero = h.zero;
   }
 
+-- Retire keeps that all under way ends soon
 pub timely_retire : (d : Desc) (x : Machine) → IsDesc d → Timely d x → Timely d (retire d x).machine
 timely_retire d x i h = heads_keep d (Timely d) (λ x e rest w l t k. leaves d x e rest w t k) (ends d) x h
 
@@ -243,6 +244,7 @@ rename_item d x j rest q f h = record {
   zero = h.zero;
 }
 
+-- Rename keeps that all under way ends soon
 pub timely_rename : (d : Desc) (x : Machine) → IsDesc d → Timely d x → Timely d (rename d x).machine
 timely_rename d x i h = rename_keep d (Timely d) (rename_item d) x h
 
@@ -259,5 +261,6 @@ fetch_item d code x pc q r h = record {
   zero = h.zero;
 }
 
+-- Fetch keeps that all under way ends soon
 pub timely_fetch : (d : Desc) (code : Code) (x : Machine) → IsDesc d → Timely d x → Timely d (fetch d code x).machine
 timely_fetch d code x i h = fetch_keep d (Timely d) code (fetch_item d code) x h
