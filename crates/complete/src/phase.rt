@@ -40,7 +40,7 @@ fn is_due_at(rob: &RobRing, i: u32, cycle: u64) -> bool
     is_due(rob.lend(i).state, cycle)
 }
 
-// Whether an entry in this state is.
+// Whether an entry in this state is Busy until this cycle.
 fn is_due(state: Progress, cycle: u64) -> bool
     ensures { result ≡ completes_at cycle state }
 {
