@@ -18,15 +18,15 @@ neither true b h = absurd (cc)
 neither false b h = (refl, h)
 
 -- an entry that awaits no serial of a group isn't changed by a serial of it
-strike_other : (serial : ℕ) (a : Option ℕ) → is_in (serial % 64) a ≡ false → strike serial a ≡ a
+strike_other : (serial : ℕ) (a : Option ℕ) → is_in (serial % 256) a ≡ false → strike serial a ≡ a
 strike_other serial None h = refl
 strike_other serial (Some s) h =
     ⊎_elim
-    (λ same. absurd (let t : (s % 64 == serial % 64) ≡ true = eq-eqb (s % 64) (serial % 64) (ap (λ n. n % 64) same.1) in cc))
+    (λ same. absurd (let t : (s % 256 == serial % 256) ≡ true = eq-eqb (s % 256) (serial % 256) (ap (λ n. n % 256) same.1) in cc))
     (λ other. ap (λ b. if b then None else Some s) other.0)
     (eqb_tells s serial)
 
-woken_other : (serial : ℕ) (o : Occupant) → awaits_in (serial % 64) o ≡ false → woken serial o ≡ o
+woken_other : (serial : ℕ) (o : Occupant) → awaits_in (serial % 256) o ≡ false → woken serial o ≡ o
 woken_other serial o h =
     let none = neither _ _ h in
     ap₂ (λ a b. record o { first = a; second = b }) (strike_other serial o.first none.0) (strike_other serial o.second none.1)
@@ -109,18 +109,18 @@ module _ (serial : ℕ) (places : List Occupant) (place : ℕ) (o : Occupant) (l
 -- the places are woken up to one from which on they are as they were
 module _ (serial : ℕ) (old places : List Occupant) (waiters : List ℕ) (from room : ℕ) (long : room ≡ length places) (m : NotesWaiters places waiters)
     (woken_so_far : (p : ℕ) → p < from → get_or places p nobody ≡ woken serial (get_or old p nobody)) (rest : (p : ℕ) → from ≤ p → get_or places p nobody ≡ get_or old p nobody) where
-  unnoted : (p : ℕ) → (p < room → bit_at (get_or waiters (serial % 64) 0) p ≡ 0) → awaits_in (serial % 64) (get_or places p nobody) ≡ false
+  unnoted : (p : ℕ) → (p < room → bit_at (get_or waiters (serial % 256) 0) p ≡ 0) → awaits_in (serial % 256) (get_or places p nobody) ≡ false
   unnoted p none =
       ⊎_elim
-      (λ (h : awaits_in (serial % 64) (get_or places p nobody) ≡ true).
-      absurd (let lt = in_place (serial % 64) p places h in let one = m (serial % 64) p h in let zero = none (omega (arith, lt, long)) in omega (arith, one, zero)))
+      (λ (h : awaits_in (serial % 256) (get_or places p nobody) ≡ true).
+      absurd (let lt = in_place (serial % 256) p places h in let one = m (serial % 256) p h in let zero = none (omega (arith, lt, long)) in omega (arith, one, zero)))
       (λ h. h)
-      (cases_Bool (awaits_in (serial % 64) (get_or places p nobody)))
+      (cases_Bool (awaits_in (serial % 256) (get_or places p nobody)))
 
-  as_it_was : (p : ℕ) → from ≤ p → (p < room → bit_at (get_or waiters (serial % 64) 0) p ≡ 0) → get_or places p nobody ≡ woken serial (get_or old p nobody)
-  as_it_was p low none = rest p low ∙ sym (woken_other serial (get_or old p nobody) (sym (ap (awaits_in (serial % 64)) (rest p low)) ∙ unnoted p none))
+  as_it_was : (p : ℕ) → from ≤ p → (p < room → bit_at (get_or waiters (serial % 256) 0) p ≡ 0) → get_or places p nobody ≡ woken serial (get_or old p nobody)
+  as_it_was p low none = rest p low ∙ sym (woken_other serial (get_or old p nobody) (sym (ap (awaits_in (serial % 256)) (rest p low)) ∙ unnoted p none))
 
-  pub woken_one : (places2 : List Occupant) (place : ℕ) → IsFirstBit (bit_at (get_or waiters (serial % 64) 0)) from room place →
+  pub woken_one : (places2 : List Occupant) (place : ℕ) → IsFirstBit (bit_at (get_or waiters (serial % 256) 0)) from room place →
       get_or places2 place nobody ≡ woken serial (get_or places place nobody) → ((p : ℕ) → p ≢ place → get_or places2 p nobody ≡ get_or places p nobody) →
       (p : ℕ) → p < place + 1 → get_or places2 p nobody ≡ woken serial (get_or old p nobody)
   woken_one places2 place next here others p lt = elim (cases_eq p place) [
@@ -132,7 +132,7 @@ module _ (serial : ℕ) (old places : List Occupant) (waiters : List ℕ) (from 
     ]
   ]
 
-  pub woken_rest : ((p : ℕ) → from ≤ p → p < room → bit_at (get_or waiters (serial % 64) 0) p ≡ 0) → (p : ℕ) → get_or places p nobody ≡ woken serial (get_or old p nobody)
+  pub woken_rest : ((p : ℕ) → from ≤ p → p < room → bit_at (get_or waiters (serial % 256) 0) p ≡ 0) → (p : ℕ) → get_or places p nobody ≡ woken serial (get_or old p nobody)
   woken_rest none p = elim (cases_lt p from) [
     | inl before ↦ woken_so_far p before
     | inr low ↦ as_it_was p low (none p low)

@@ -46,10 +46,10 @@ meets test (Some s) = test s
 abbrev pub is_youngest : (Station → Bool) → List Station → Bool
 is_youngest test held = meets test (slice_get held (length held - 1))
 
--- a source awaits a serial of this group: those with one remainder by 64
+-- a source awaits a serial of this group: those with one remainder by 256
 abbrev pub is_in : ℕ → Option ℕ → Bool
 is_in group None = false
-is_in group (Some serial) = serial % 64 == group
+is_in group (Some serial) = serial % 256 == group
 
 -- the entry awaits a serial of this group
 abbrev pub awaits_in : ℕ → Occupant → Bool

@@ -32,7 +32,7 @@ fn is_in(awaited: Option<u64>, group: u64) -> bool
     ensures { result ≡ is_in group awaited }
 {
     match awaited {
-        Some(serial) => serial % 64 == group,
+        Some(serial) => serial % 256 == group,
         None => false,
     }
 }

@@ -9,7 +9,7 @@ use crate::wants::Wants;
 use word_bits::{next_wide_bit, with_wide_bit};
 
 /// How many groups of serials there are: a serial's group is its remainder by this number.
-pub(crate) const GROUPS: usize = 64;
+pub(crate) const GROUPS: usize = 256;
 
 // A place is noted for what one source of its entry awaits.
 fn note_awaited(waiters: &mut [u128; GROUPS], place: u32, awaited: Option<u64>)
@@ -19,7 +19,7 @@ fn note_awaited(waiters: &mut [u128; GROUPS], place: u32, awaited: Option<u64>)
         → bit_at (slice_index waiters.new group) p ≡ 1 }
 {
     if let Some(serial) = awaited {
-        let group = (serial % 64) as usize;
+        let group = (serial % 256) as usize;
         let word = waiters[group];
         waiters[group] = with_wide_bit(word, place, true);
     }
@@ -90,7 +90,7 @@ fn wake_at(
 {
     places[place as usize].wake(serial);
     *waiting = with_wide_bit(*waiting, place, !places[place as usize].is_able());
-    let group = serial % 64;
+    let group = serial % 256;
     if !places[place as usize].awaits_in(group) {
         let word = waiters[group as usize];
         waiters[group as usize] = with_wide_bit(word, place, false);
@@ -130,7 +130,7 @@ pub(crate) fn wake_all(
     ensures waiting { NotesWaiting places.new.items waiting.new }
 {
     let room = places.len() as u32;
-    let group = (serial % 64) as usize;
+    let group = (serial % 256) as usize;
     if waiters[group] == 0 {
         return;
     }

@@ -14,11 +14,11 @@ returns-then-not-awaits_in-clause-noted c =
     let woke : c.wake.new.self ≡ woken c.args.serial (get_or places c.args.place nobody) =
     c.wake.ensures ∙ ap (woken c.args.serial) (c.index_mut.ensures.value ∙ get_or_default places c.args.place _ nobody within) in
     let now : c.index-2.result.now ≡ c.wake.new.self = c.index-2.ensures ∙ get_or-set_same places c.args.place c.wake.new.self _ within in
-    let none : awaits_in (c.args.serial % 64) c.wake.new.self ≡ false =
-    sym (c.awaits_in.ensures ∙ ap (awaits_in (c.args.serial % 64)) now) ∙ c.if-not-awaits_in.true in
+    let none : awaits_in (c.args.serial % 256) c.wake.new.self ≡ false =
+    sym (c.awaits_in.ensures ∙ ap (awaits_in (c.args.serial % 256)) now) ∙ c.if-not-awaits_in.true in
     let few : length places ≤ 128 = omega (arith, c.requires.few, c.args.places.now.ok.0) in
-    let long : length c.args.waiters.now ≡ 64 = simp length-set at c.with_wide_bit-then-not-awaits_in.array_long in
-    noted_out c.args.serial places c.args.place c.wake.new.self within woke c.args.waiters.now (c.args.serial % 64)
+    let long : length c.args.waiters.now ≡ 256 = simp length-set at c.with_wide_bit-then-not-awaits_in.array_long in
+    noted_out c.args.serial places c.args.place c.wake.new.self within woke c.args.waiters.now (c.args.serial % 256)
     c.with_wide_bit-then-not-awaits_in.result (omega (arith, long)) few none c.with_wide_bit-then-not-awaits_in.ensures.others c.requires.noted
 
 pub returns-then-not-awaits_in-clause-waiting : goal.returns-then-not-awaits_in-clause-waiting
