@@ -1,6 +1,7 @@
 -- What the program reads, and why it may be refused (docs/theorems.md, "What is read"): a description, if one is named,
 -- and then images in their order, each read and loaded before the next is read.
-use Rattle.std.specs.Prelude.{◌≡◌, ◌⊎◌, ℕ, IsUtf8, Bool, false, List, [], ◌∷◌, take, slice_get, Option, Some, None, Ok, Err}
+use Rattle.std.specs.Prelude.{◌≡◌, ◌⊎◌, ◌<◌, ◌^◌, ℕ, IsUtf8, Bool, false, List, [], ◌∷◌, take, slice_get, Option, Some, None, Ok, Err, All}
+use Rattle.elf_loader.specs.Faults.{header_fault}
 use Rattle.elf_loader.specs.Image.{ImageText, image_of}
 use Rattle.elf_loader.specs.declared.faults.ElfFault.{ElfFault}
 use Rattle.gen_image.specs.Generated.{generated_image}
@@ -118,9 +119,22 @@ pub record HasFault (known : Known) (desc : Option Desc) (from : ImageFrom) (fau
   pub content : HasBytes known from file
   pub refused : image_of file (base_of desc) (size_of desc) (misaligned_of desc) ≡ Err fault
 
+-- the bytes of an image may need memory: those of a file to be copied, and others to be made
+abbrev pub BytesWant : Shelf → ImageFrom → Type 0
+BytesWant shelf (from_file name) = HasToCopy (shelf.content name) image_max
+BytesWant shelf (from_seed seed blocks) = Unit {0}
+
+-- an image may need memory: for its bytes, or, where their headers have no fault, to be loaded
+abbrev pub ImageWants : Shelf → ImageFrom → Type 0
+ImageWants shelf from = BytesWant shelf from ⊎ ((file : List ℕ) × HasBytes (MayGive shelf) from file × (header_fault file ≡ None))
+
 -- an image is too long, or has a fault
 abbrev pub IsFaultyImage : Known → Option Desc → ImageFrom → Type 0
 IsFaultyImage known desc from = HasTooMany known from ⊎ ((fault : ElfFault) × HasFault known desc from fault)
+
+-- an image's memory holds bytes
+abbrev pub HoldsBytes : ImageText → Type 0
+HoldsBytes image = All (λ b. b < 2 ^ 8) image.ram.bytes
 
 -- ---- One after the other
 
@@ -131,10 +145,11 @@ AreImages known desc (from ∷ rest) (image ∷ images) = IsImage known desc fro
 AreImages known desc [] (image ∷ images) = ⊥
 AreImages known desc (from ∷ rest) [] = ⊥
 
--- a description and images were read, and no count of the files rose
+-- a description and images were read, in memories that hold bytes, and no count of the files rose
 pub record IsRead (old new : Shelf) (name : Option (List ℕ)) (sources : List ImageFrom) (desc : Option Desc) (images : List ImageText) : Type 0 where
   pub described : HasDesc (MayGive old) name desc
   pub are_images : AreImages (MayGive old) desc sources images
+  pub hold_bytes : All HoldsBytes images
   pub counts : SameCounts old new
 
 -- the image at a place is refused for this cause; the description and the images before it aren't
@@ -147,10 +162,16 @@ pub record RefusedAt (old : Shelf) (name : Option (List ℕ)) (sources : List Im
   pub there : slice_get sources place ≡ Some from
   pub cause : Cause desc from
 
--- why reading is refused: for the description before any image, and for an image before any behind it
+-- what is read may need memory: the description, or an image behind a description and images without fault
+abbrev pub InputsWant : Option (List ℕ) → List ImageFrom → Shelf → Type 0
+InputsWant name sources old =
+    ((n : List ℕ) × (name ≡ Some n) × DescriptionWants old n) ⊎ ((place : ℕ) × RefusedAt old name sources place (λ desc from. ImageWants old from))
+
+-- why reading is refused: for the description before any image, and for an image before any behind it; and memory may
+-- be wanting for what needs it alone
 abbrev pub Refuses : Option (List ℕ) → List ImageFrom → Shelf → Shelf → Refusal → Type 0
 Refuses name sources old new (ReadImage which) = RefusedAt old name sources (place_of which) (λ desc from. FailsToRead old new from)
 Refuses name sources old new (ImageTooLong which) = RefusedAt old name sources (place_of which) (λ desc from. HasTooMany (MayGive old) from) × SameCounts old new
 Refuses name sources old new (NoImage which fault) = RefusedAt old name sources (place_of which) (λ desc from. HasFault (MayGive old) desc from fault) × SameCounts old new
-Refuses name sources old new Memory = SameCounts old new
+Refuses name sources old new Memory = InputsWant name sources old × SameCounts old new
 Refuses name sources old new refusal = NamedRefused name old new refusal

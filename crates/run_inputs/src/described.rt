@@ -35,7 +35,10 @@ pub fn read_described<F: Files>(
     ensures fits { IfOk result (λ i. Fits i.desc i.image.ram) }
     ensures stays { SameContents (F.shelf files.old) (F.shelf files.new) }
 {
-    let desc = read_description(alloc, description, files)?;
+    let desc = match read_description(alloc, description, files) {
+        Ok(desc) => desc,
+        Err(refusal) => return Err(refusal),
+    };
     let image = read_image(alloc, source, Which::First, Some(desc), files)?;
     Ok(Described { desc, image })
 }

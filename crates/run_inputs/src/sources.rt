@@ -1,10 +1,10 @@
 //! The images of a command: where each comes from, its bytes, and the image that is loaded from them.
-ghost use Rattle.std.specs.Prelude.{◌≡◌, Ok, Result, MatchResult, IfOk, length};
+ghost use Rattle.std.specs.Prelude.{◌≡◌, ◌<◌, ◌^◌, Ok, Result, MatchResult, IfOk, All, length};
 ghost use Rattle.elf_loader.specs.Image.{image_of};
 ghost use Rattle.run_inputs.specs.Loaded.{loaded};
 ghost use Rattle.tool_io.specs.Outside.{SameContents};
 ghost use Rattle.run_inputs.specs.inner.Input.{image_from, ReadsBytes, ReadsImage, LoadRefused, refusal_of};
-ghost use Rattle.run_inputs.specs.Input.{base_of, size_of, misaligned_of};
+ghost use Rattle.run_inputs.specs.Input.{base_of, size_of, misaligned_of, HoldsBytes};
 
 use crate::reading::{IMAGE_MAX, Unread, read_file};
 use crate::refusal::{Refusal, Which};
@@ -80,6 +80,11 @@ fn image_in(alloc: Global, file: &[u8], which: Which, region: Region) -> Result<
     }
 }
 
+// Bytes are bytes, each below 2^8. It reads none: it lends the proof what their type says.
+fn are_bytes(bytes: &[u8])
+    ensures { All (λ b. b < 2 ^ 8) bytes.now }
+{}
+
 // The image of a file in the memory of a run.
 fn load_image(
     alloc: Global,
@@ -87,11 +92,18 @@ fn load_image(
     which: Which,
     desc: Option<Desc>,
 ) -> Result<Image, Refusal>
-    ensures { MatchResult result
+    ensures loads { MatchResult result
         (λ i. image_of file.now (base_of desc) (size_of desc) (misaligned_of desc) ≡ Ok (loaded i))
         (λ e. LoadRefused which file.now (base_of desc) (size_of desc) (misaligned_of desc) e) }
+    ensures bytes { IfOk result (λ i. HoldsBytes (loaded i)) }
 {
-    image_in(alloc, file, which, Region::of(desc))
+    match image_in(alloc, file, which, Region::of(desc)) {
+        Ok(image) => {
+            are_bytes(image.ram.bytes());
+            Ok(image)
+        }
+        Err(refusal) => Err(refusal),
+    }
 }
 
 /// The image from there, in the memory of this description.
@@ -105,6 +117,7 @@ pub fn read_image<F: Files>(
     ensures answer { ReadsImage which desc (image_from source.entry) (F.shelf files.old) (F.shelf files.new) result }
     ensures base { IfOk result (λ i. i.ram.base ≡ base_of desc) }
     ensures size { IfOk result (λ i. length i.ram.bytes ≡ size_of desc) }
+    ensures bytes { IfOk result (λ i. HoldsBytes (loaded i)) }
     ensures stays { SameContents (F.shelf files.old) (F.shelf files.new) }
 {
     let file = bytes_of(alloc, source, which, files)?;

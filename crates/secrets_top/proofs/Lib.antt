@@ -1,3 +1,4 @@
+pub mod OtherSecrets
 pub mod Outcomes
 pub mod Promised
 pub mod Statuses

@@ -1,17 +1,17 @@
 -- How the program ends, from what its parts do.
-use Rattle.std.proofs.Common.{◌≡◌, ℕ, List, [], Option, Some, None, Result, Ok, Err, refl, ap, ◌∙◌}
-use Rattle.tool_io.specs.Outside.{Told, Shelf}
+use Rattle.std.proofs.Common.{◌≡◌, ℕ, List, [], Option, Some, None, Result, Ok, Err, refl, ap, ◌∙◌, inl, inr}
+use Rattle.tool_io.specs.Outside.{Told, Shelf, SameCounts}
 use Rattle.run_inputs.specs.declared.refusal.Refusal.{Refusal}
 use Rattle.run_inputs.specs.declared.refusal.Refusal.TheVariants.{Words, Write, Memory}
 use Rattle.run_inputs.specs.Input.{NamedRefused}
-use Rattle.run_inputs.specs.Told.{world}
+use Rattle.run_inputs.specs.Told.{World, world}
 use Rattle.secret_words.specs.Words.{WantedText, wanted_of}
 use Rattle.secret_words.proofs.Secrets.{no_words_no_wish}
 use Rattle.secrets_top.specs.declared.ranges.FaultyRange.{FaultyRange}
 use Rattle.secrets_top.specs.declared.refusal.Unjudged.{Unjudged}
 use Rattle.secrets_top.specs.declared.refusal.Unjudged.TheVariants.{Range, Refused}
 use Rattle.secrets_top.specs.declared.verdict.Verdict.{Verdict}
-use Rattle.secrets_top.specs.Top.{named, Inputs, RefusedInputs, Accepted, fault_in, Ends}
+use Rattle.secrets_top.specs.Top.{named, Inputs, RefusedInputs, Accepted, fault_in, WishWants, WishEnds, Ends}
 use Rattle.secrets_top.specs.inner.Top.{Performs}
 
 -- words that want something aren't none
@@ -28,23 +28,34 @@ no_write None old new h = h
 no_write (Some name) old new h = h
 
 -- what is read is refused
-pub inputs_refused : (words : List (List ℕ)) (old new : Shelf) (out : Told) (wanted : WantedText) (e : Refusal) → wanted_of words ≡ Some wanted
-    → RefusedInputs wanted old new e → Ends words (world old out) (world new out) (Err (Refused e))
-inputs_refused words old new out wanted Words k c = absurd (no_words (named wanted.run) old new c)
-inputs_refused words old new out wanted Write k c = absurd (no_write (named wanted.run) old new c)
-inputs_refused words old new out wanted Memory k c = (not_empty words wanted k, c, refl)
-inputs_refused words old new out wanted _ k c = ((wanted, k, c), refl)
+pub inputs_refused : (wanted : WantedText) (old new : Shelf) (out : Told) (e : Refusal) → RefusedInputs wanted old new e → WishEnds wanted (world old out) (world new out) (Err (Refused e))
+inputs_refused wanted old new out Write c = absurd (no_write (named wanted.run) old new c)
+inputs_refused wanted old new out Memory c = (inl c, refl)
+inputs_refused wanted old new out _ c = (c, refl)
 
--- the program ends as it has to where a range of secret bytes is refused
-pub range_refused : (words : List (List ℕ)) (old new : Shelf) (out : Told) (wanted : WantedText) (inputs : Inputs wanted old new) (f : FaultyRange) → wanted_of words ≡ Some wanted
-    → fault_in wanted inputs.image ≡ Some f → Ends words (world old out) (world new out) (Err (Range f))
-range_refused words old new out wanted inputs f k e = ((wanted, k, (inputs, e)), refl)
+-- a range of secret bytes is refused
+pub range_refused : (wanted : WantedText) (old new : Shelf) (out : Told) (inputs : Inputs wanted old new) (f : FaultyRange) → fault_in wanted inputs.image ≡ Some f
+    → WishEnds wanted (world old out) (world new out) (Err (Range f))
+range_refused wanted old new out inputs f e = (inputs, e, refl)
 
--- the program ends as it has to where the run that is wanted is told
-pub told_end : (words : List (List ℕ)) (old new : Shelf) (out out' : Told) (wanted : WantedText) (a : Accepted wanted old new) (r : Result Verdict Unjudged) → wanted_of words ≡ Some wanted
-    → Performs a.verdict out out' r → Ends words (world old out) (world new out') r
-told_end words old new out out' wanted a (Ok told) k p = (wanted, k, (a, p.0, p.1))
-told_end words old new out out' wanted a (Err (Range f)) k p = absurd p
-told_end words old new out out' wanted a (Err (Refused Write)) k p = (wanted, k, (a, p))
-told_end words old new out out' wanted a (Err (Refused Memory)) k p = (not_empty words wanted k, a.inputs.read.counts, p)
-told_end words old new out out' wanted a (Err (Refused _)) k p = absurd p
+-- the run that is wanted is told
+pub told_end : (wanted : WantedText) (old new : Shelf) (out out' : Told) (a : Accepted wanted old new) (r : Result Verdict Unjudged) → Performs a.verdict out out' r
+    → WishEnds wanted (world old out) (world new out') r
+told_end wanted old new out out' a (Ok told) p = (a, p.0, p.1)
+told_end wanted old new out out' a (Err (Range f)) p = absurd p
+told_end wanted old new out out' a (Err (Refused Write)) p = (a, p)
+told_end wanted old new out out' a (Err (Refused Memory)) p = (inr a, p)
+told_end wanted old new out out' a (Err (Refused _)) p = absurd p
+
+-- want of memory leaves the counts of all files
+wants_alone : (wanted : WantedText) (old new : Shelf) → WishWants wanted old new → SameCounts old new
+wants_alone wanted old new (inl refused) = refused.1
+wants_alone wanted old new (inr a) = a.inputs.read.counts
+
+-- the program ends as what its words want
+pub wish_end : (words : List (List ℕ)) (old new : World) (wanted : WantedText) (r : Result Verdict Unjudged) → wanted_of words ≡ Some wanted → WishEnds wanted old new r → Ends words old new r
+wish_end words old new wanted (Ok told) k w = (wanted, k, w)
+wish_end words old new wanted (Err (Range f)) k w = (wanted, k, w)
+wish_end words old new wanted (Err (Refused Words)) k w = absurd (no_words (named wanted.run) old.files new.files w.0)
+wish_end words old new wanted (Err (Refused Memory)) k w = (not_empty words wanted k, wants_alone wanted old.files new.files w.0, w.1)
+wish_end words old new wanted (Err (Refused _)) k w = (wanted, k, w)

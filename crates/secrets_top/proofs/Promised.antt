@@ -1,7 +1,8 @@
 -- A run in which nothing shows gives the trace of every secret: of a core by the law of one run for all, and of the
 -- path by that of one run for every core.
-use Rattle.std.proofs.Common.{◌≡◌, ◌⊎◌, ◌≤◌, ◌==◌, ◌||◌, Bool, ℕ, List, length, true, false, Option, Some, None, Result, refl, sym, ap, ◌∙◌, inl, inr, subst, arith}
+use Rattle.std.proofs.Common.{◌≡◌, ◌⊎◌, ◌≤◌, ◌==◌, ◌||◌, Bool, ℕ, List, [], length, true, false, Option, Some, None, Result, refl, sym, ap, ◌∙◌, inl, inr, subst, arith}
 use Rattle.std.specs.Option.{option_map, is_some}
+use Rattle.std.proofs.lemmas.List.Elements.{All-head}
 use Rattle.std.specs.Prelude.{if◌then◌else◌}
 use Rattle.rv_types.specs.Isa.{isa_step, start}
 use Rattle.rv_types.specs.Memory.{Code, Ram}
@@ -17,6 +18,7 @@ use Rattle.tool_io.specs.Outside.{Shelf, Told, Wrote}
 use Rattle.secret_marks.specs.declared.FirstShown.{FirstShown}
 use Rattle.secret_marks.specs.declared.PublicStreams.{PublicStreams}
 use Rattle.secret_marks.specs.declared.SecretRange.{SecretRange}
+use Rattle.secret_marks.specs.Alike.{AgreeBut}
 use Rattle.secret_marks.specs.Laws.{PublishesSame}
 use Rattle.secret_marks.specs.Marks.{Marks}
 use Rattle.secret_marks.specs.Published.{Public, published_by, published_in}
@@ -34,6 +36,7 @@ use Rattle.constant_time.specs.declared.FirstStep.{FirstStep}
 use Rattle.constant_time.specs.PathMarks.{first_marks, path_shows}
 use Rattle.constant_time.proofs.PathMarks.{first_shows as first_step_shows}
 use Rattle.constant_time.proofs.PlainEnds.{one_run_for_every_core}
+use Rattle.run_inputs.specs.Input.{HoldsBytes}
 use Rattle.run_inputs.specs.Told.{World}
 use Rattle.secret_words.specs.Words.{RunText, WantedText, core_run, path_run}
 use Rattle.secrets_top.specs.declared.refusal.Unjudged.{Unjudged}
@@ -41,8 +44,20 @@ use Rattle.secrets_top.specs.declared.verdict.Verdict.{Verdict}
 use Rattle.secrets_top.specs.Verdict.{is_any_public, told_of, verdict, path_verdict, path_of, ending_in, verdict_text, hidden_text, hidden_status, verdict_status, first_of_run, first_on_path}
 use Rattle.secrets_top.specs.Refused.{status_of}
 use Rattle.secrets_top.specs.Top.{Inputs, Ends, Statuses, judged}
-use Rattle.secrets_top.specs.Promises.{OneTrace, Hides, Tells, Promises, PublishesAlike, published_of, StepsPublishAlike, OneTraceOnEveryCore, Certifies, TellsStep, HidesIn, TellsIn, path_published_of}
+use Rattle.secrets_top.specs.Promises.{HasOtherSecret, OneTrace, Hides, Tells, Promises, PublishesAlike, published_of, StepsPublishAlike, OneTraceOnEveryCore, Certifies, TellsStep, HidesIn, TellsIn, path_published_of}
+use Rattle.secrets_top.proofs.OtherSecrets.{agree_but}
 use Rattle.secrets_top.proofs.Statuses.{statuses_at}
+
+-- ---- Images and other secrets
+
+-- what is known of an image that is read: its instructions stand at multiples of 4, and its memory holds bytes
+record IsLoaded (image : ImageText) : Type 0 where
+  aligned : Aligned image.code
+  bytes : HoldsBytes image
+
+-- a memory with another secret is equal to the image's but for secret bytes
+differs : (image : ImageText) (secret : List SecretRange) (m : Ram) → IsLoaded image → HasOtherSecret image secret m → AgreeBut (secret_in secret) image.ram m
+differs image secret m l other = agree_but (secret_in secret) image.ram m other l.bytes
 
 -- ---- One run in which nothing shows
 
@@ -79,15 +94,15 @@ publishes public d image n m h = by_any (is_any_public public) refl
         let k = (trace_of d image n).retired in
         none_published (public_in public) image.code k (start image.entry m) none ∙ sym (none_published (public_in public) image.code k (start image.entry image.ram) none)
 
-one_trace : (public : PublicStreams) (d : Desc) (image : ImageText) (secret : List SecretRange) (n k : ℕ) → Aligned image.code → first_of_run d image secret public n ≡ None → k ≤ n
+one_trace : (public : PublicStreams) (d : Desc) (image : ImageText) (secret : List SecretRange) (n k : ℕ) → IsLoaded image → first_of_run d image secret public n ≡ None → k ≤ n
     → OneTrace public d image secret n k
-one_trace public d image secret n k al e le =
-    λ m agree alike. one_output (public_in public) d image.code image.entry (secret_in secret) image.ram m n k al agree (no_secret public d image secret n e) (publishes public d image n m alike) le
+one_trace public d image secret n k l e le =
+    λ m other alike. one_output (public_in public) d image.code image.entry (secret_in secret) image.ram m n k l.aligned (differs image secret m l other) (no_secret public d image secret n e) (publishes public d image n m alike) le
 
-longer : (public : PublicStreams) (d : Desc) (image : ImageText) (secret : List SecretRange) (n k : ℕ) (end : End) → Aligned image.code → first_of_run d image secret public n ≡ None
+longer : (public : PublicStreams) (d : Desc) (image : ImageText) (secret : List SecretRange) (n k : ℕ) (end : End) → IsLoaded image → first_of_run d image secret public n ≡ None
     → (trace_of d image n).end ≡ Some end → n ≤ k → OneTrace public d image secret n k
-longer public d image secret n k end al e f le =
-    λ m agree alike. ended_output (public_in public) d image.code image.entry (secret_in secret) image.ram m n k end al agree (no_secret public d image secret n e) (publishes public d image n m alike) f le
+longer public d image secret n k end l e f le =
+    λ m other alike. ended_output (public_in public) d image.code image.entry (secret_in secret) image.ram m n k end l.aligned (differs image secret m l other) (no_secret public d image secret n e) (publishes public d image n m alike) f le
 
 -- ---- One path on which nothing shows
 
@@ -109,10 +124,10 @@ steps_publish public image n m h = by_any (is_any_public public) refl
         let none = none_of public.first public.second e in
         none_published (public_in public) image.code n (start image.entry m) none ∙ sym (none_published (public_in public) image.code n (start image.entry image.ram) none)
 
-every_core : (public : PublicStreams) (image : ImageText) (secret : List SecretRange) (n : ℕ) → Aligned image.code → first_on_path image secret public n ≡ None
+every_core : (public : PublicStreams) (image : ImageText) (secret : List SecretRange) (n : ℕ) → IsLoaded image → first_on_path image secret public n ≡ None
     → ends_plainly (path_of image n).ended ≡ true → OneTraceOnEveryCore public image secret n
-every_core public image secret n al e plain =
-    λ m agree alike d k protected delayed. one_run_for_every_core (public_in public) image.code image.entry (secret_in secret) image.ram m n al agree plain
+every_core public image secret n l e plain =
+    λ m other alike d k protected delayed. one_run_for_every_core (public_in public) image.code image.entry (secret_in secret) image.ram m n l.aligned (differs image secret m l other) plain
     (no_step public image secret n e) (steps_publish public image n m alike) d k protected delayed
 
 -- ---- How many bytes are published
@@ -143,15 +158,15 @@ module _ (public : PublicStreams) (d : Desc) (image : ImageText) (secret : List 
   abbrev told : Option FirstShown → Verdict
   told o = verdict (ending_of (trace_of d image n)) (told_of public (length (published_by (public_in public) d image.code n (opening d image.entry image.ram)))) o
 
-  hides : (o : Option FirstShown) → first_of_run d image secret public n ≡ o → Aligned image.code → (status ≡ 0) ⊎ (status ≡ 3)
+  hides : (o : Option FirstShown) → first_of_run d image secret public n ≡ o → IsLoaded image → (status ≡ 0) ⊎ (status ≡ 3)
       → status ≡ verdict_status (told o) → Wrote (verdict_text (told o)) out out' → Hides public d image secret n status out out'
   unfolding counted
-  hides None e al h s w = record {
-    text = subst (λ p. Wrote (hidden_text (ending_of (trace_of d image n)) p) out out') (same_count public d image n al) w;
-    one_trace = λ k le. one_trace public d image secret n k al e le;
-    longer = λ z k le. let f = ended (trace_of d image n).end status s z in longer public d image secret n k f.0 al e f.1 le;
+  hides None e l h s w = record {
+    text = subst (λ p. Wrote (hidden_text (ending_of (trace_of d image n)) p) out out') (same_count public d image n l.aligned) w;
+    one_trace = λ k le. one_trace public d image secret n k l e le;
+    longer = λ z k le. let f = ended (trace_of d image n).end status s z in longer public d image secret n k f.0 l e f.1 le;
   }
-  hides (Some first) e al h s w = let one : status ≡ 1 = s in absurd (omega (arith, h, one))
+  hides (Some first) e l h s w = let one : status ≡ 1 = s in absurd (omega (arith, h, one))
 
   tells : (o : Option FirstShown) → first_of_run d image secret public n ≡ o → status ≡ 1
       → status ≡ verdict_status (told o) → Wrote (verdict_text (told o)) out out' → Tells public d image secret n out out'
@@ -163,10 +178,10 @@ module _ (public : PublicStreams) (image : ImageText) (secret : List SecretRange
   abbrev told_step : Option FirstStep → Verdict
   told_step o = path_verdict (ending_in (path_of image n)) (path_published_of public image n) o
 
-  certifies : (o : Option FirstStep) → first_on_path image secret public n ≡ o → Aligned image.code → (status ≡ 0) ⊎ (status ≡ 3)
+  certifies : (o : Option FirstStep) → first_on_path image secret public n ≡ o → IsLoaded image → (status ≡ 0) ⊎ (status ≡ 3)
       → status ≡ verdict_status (told_step o) → Wrote (verdict_text (told_step o)) out out' → Certifies public image secret n out out'
-  certifies None e al h s w = record { text = w; every_core = every_core public image secret n al e }
-  certifies (Some first) e al h s w = let one : status ≡ 1 = s in absurd (omega (arith, h, one))
+  certifies None e l h s w = record { text = w; every_core = every_core public image secret n l e }
+  certifies (Some first) e l h s w = let one : status ≡ 1 = s in absurd (omega (arith, h, one))
 
   tells_step : (o : Option FirstStep) → first_on_path image secret public n ≡ o → status ≡ 1
       → status ≡ verdict_status (told_step o) → Wrote (verdict_text (told_step o)) out out' → TellsStep public image secret n out out'
@@ -183,18 +198,18 @@ no_verdict : {v : Verdict} → None ≡ Some v → ⊥
 no_verdict p = cc
 
 module _ (image : ImageText) (secret : List SecretRange) (public : PublicStreams) (status : ℕ) (out out' : Told) (v : Verdict) (w : Wrote (verdict_text v) out out') (s : status ≡ verdict_status v) where
-  hides_in : (run : RunText) (desc : Option Desc) → judged run desc image secret public ≡ Some v → Aligned image.code → (status ≡ 0) ⊎ (status ≡ 3)
+  hides_in : (run : RunText) (desc : Option Desc) → judged run desc image secret public ≡ Some v → IsLoaded image → (status ≡ 0) ⊎ (status ≡ 3)
       → HidesIn run desc image secret public status out out'
-  hides_in (core_run name n) (Some d) e al h =
+  hides_in (core_run name n) (Some d) e l h =
       let same = one_verdict e refl in (
         d,
         refl,
-        hides public d image secret n out out' status (first_of_run d image secret public n) refl al h (s ∙ ap verdict_status same) (subst (λ t. Wrote (verdict_text t) out out') same w),
+        hides public d image secret n out out' status (first_of_run d image secret public n) refl l h (s ∙ ap verdict_status same) (subst (λ t. Wrote (verdict_text t) out out') same w),
       )
-  hides_in (core_run name n) None e al h = absurd (no_verdict e)
-  hides_in (path_run name n) desc e al h =
+  hides_in (core_run name n) None e l h = absurd (no_verdict e)
+  hides_in (path_run name n) desc e l h =
       let same = one_verdict e refl in
-      certifies public image secret n out out' status (first_on_path image secret public n) refl al h (s ∙ ap verdict_status same) (subst (λ t. Wrote (verdict_text t) out out') same w)
+      certifies public image secret n out out' status (first_on_path image secret public n) refl l h (s ∙ ap verdict_status same) (subst (λ t. Wrote (verdict_text t) out out') same w)
 
   tells_in : (run : RunText) (desc : Option Desc) → judged run desc image secret public ≡ Some v → status ≡ 1 → TellsIn run desc image secret public out out'
   tells_in (core_run name n) (Some d) e h =
@@ -208,9 +223,12 @@ module _ (image : ImageText) (secret : List SecretRange) (public : PublicStreams
       let same = one_verdict e refl in
       tells_step public image secret n out out' status (first_on_path image secret public n) refl h (s ∙ ap verdict_status same) (subst (λ t. Wrote (verdict_text t) out out') same w)
 
--- an image that is read has its instructions at multiples of 4
-aligned : (wanted : WantedText) (old new : Shelf) (i : Inputs wanted old new) → Aligned i.image.code
-aligned wanted old new i = at_words i.read.are_images.0.file _ _ _ i.image i.read.are_images.0.loads
+-- an image that is read has its instructions at multiples of 4, and bytes in its memory
+loaded : (wanted : WantedText) (old new : Shelf) (i : Inputs wanted old new) → IsLoaded i.image
+loaded wanted old new i = record {
+  aligned = at_words i.read.are_images.0.file _ _ _ i.image i.read.are_images.0.loads;
+  bytes = All-head HoldsBytes i.image [] i.read.hold_bytes;
+}
 
 hidden_status_is : (status : ℕ) → (status ≡ 0) ⊎ (status ≡ 3) → (status ≡ 0) ⊎ (status ≡ 1) ⊎ (status ≡ 3)
 hidden_status_is status h = elim h [ inl a ↦ inl a | inr a ↦ inr (inr a) ]
@@ -224,7 +242,7 @@ promises words old new status s = record {
     (
       a,
       hides_in a.inputs.image t.0.secret t.0.public status old.out new.out a.verdict t.2.1 t.2.2 t.0.run a.inputs.desc a.told
-          (aligned t.0 old.files new.files a.inputs) h,
+          (loaded t.0 old.files new.files a.inputs) h,
     ),
   );
   shown = λ h. let t = s.told (inr (inl h)) in let a = t.2.0 in (

@@ -23,7 +23,7 @@ use Rattle.secrets_top.specs.declared.verdict.Verdict.TheVariants.{Hidden, Shown
 use Rattle.secrets_top.specs.Verdict.{hidden_status, verdict_text, verdict_status}
 use Rattle.secrets_top.specs.Refused.{status_of}
 use Rattle.secrets_top.proofs.Outcomes.{not_empty}
-use Rattle.secrets_top.specs.Top.{Wants, named, Inputs, Accepted, RefusedInputs, fault_in, verdict_in, Ends, Statuses, IsTold}
+use Rattle.secrets_top.specs.Top.{Wants, named, Inputs, Accepted, RefusedInputs, fault_in, verdict_in, WishEnds, Ends, Statuses, IsTold}
 
 -- words that want something don't want nothing
 clash : {o : Option WantedText} {w : WantedText} → o ≡ Some w → o ≡ None → ⊥
@@ -96,7 +96,7 @@ module _ (words : List (List ℕ)) (old new : World) where
   two : (r : Result Verdict Unjudged) → Ends words old new r → status_of r ≡ 2 → (wanted_of words ≡ None)
       ⊎ Wants words (λ wanted. (inputs : Inputs wanted old.files new.files) × (faulty : FaultyRange) × (fault_in wanted inputs.image ≡ Some faulty))
   two (Ok v) e h = absurd (other_status v 2 (λ k. omega arith) h)
-  two (Err (Range f)) e h = let a = e.0 in inr (a.0, a.1, (a.2.0, f, a.2.1))
+  two (Err (Range f)) e h = inr (e.0, e.1, (e.2.0, f, e.2.1))
   two (Err (Refused Words)) e h = inl e.0
   two (Err (Refused _)) e h = absurd (omega arith)
 
@@ -105,12 +105,12 @@ module _ (words : List (List ℕ)) (old new : World) where
   four (Ok v) e h = absurd (other_status v 4 (λ k. omega arith) h)
   four (Err (Range f)) e h = absurd (omega arith)
   four (Err (Refused DescriptionTooLong)) e h =
-      let a = e.0 in
-      let n = refused_name (named a.0.run) old.files new.files DescriptionTooLong a.2 in
+      let a = e in
+      let n = refused_name (named a.0.run) old.files new.files DescriptionTooLong a.2.0 in
       (a.0, a.1, (n.0, n.1, inl n.2.0))
   four (Err (Refused (Description f))) e h =
-      let a = e.0 in
-      let n = refused_name (named a.0.run) old.files new.files (Description f) a.2 in
+      let a = e in
+      let n = refused_name (named a.0.run) old.files new.files (Description f) a.2.0 in
       (a.0, a.1, (n.0, n.1, inr (f, n.2.0)))
   four (Err (Refused _)) e h = absurd (omega arith)
 
@@ -118,8 +118,8 @@ module _ (words : List (List ℕ)) (old new : World) where
       → Wants words (λ wanted. (desc : Option Desc) × HasDesc (MayGive old.files) (named wanted.run) desc × IsFaultyImage (MayGive old.files) desc (from_file wanted.image))
   five (Ok v) e h = absurd (other_status v 5 (λ k. omega arith) h)
   five (Err (Range f)) e h = absurd (omega arith)
-  five (Err (Refused (ImageTooLong which))) e h = let a = e.0 in let r = too_long a.0 which a.2 in (a.0, a.1, (r.0, r.1, inl r.2))
-  five (Err (Refused (Image which f))) e h = let a = e.0 in let r = at_fault a.0 which f a.2 in (a.0, a.1, (r.0, r.1, inr (f, r.2)))
+  five (Err (Refused (ImageTooLong which))) e h = let a = e in let r = too_long a.0 which a.2.0 in (a.0, a.1, (r.0, r.1, inl r.2))
+  five (Err (Refused (Image which f))) e h = let a = e in let r = at_fault a.0 which f a.2.0 in (a.0, a.1, (r.0, r.1, inr (f, r.2)))
   five (Err (Refused _)) e h = absurd (omega arith)
 
   six : (r : Result Verdict Unjudged) → Ends words old new r → status_of r ≡ 6
@@ -127,8 +127,8 @@ module _ (words : List (List ℕ)) (old new : World) where
       ⊎ ((desc : Option Desc) × HasDesc (MayGive old.files) (named wanted.run) desc × NameFailed wanted.image old.files new.files))
   six (Ok v) e h = absurd (other_status v 6 (λ k. omega arith) h)
   six (Err (Range f)) e h = absurd (omega arith)
-  six (Err (Refused ReadDescription)) e h = let a = e.0 in (a.0, a.1, inl (refused_name (named a.0.run) old.files new.files ReadDescription a.2))
-  six (Err (Refused (ReadImage which))) e h = let a = e.0 in (a.0, a.1, inr (unread a.0 which a.2))
+  six (Err (Refused ReadDescription)) e h = let a = e in (a.0, a.1, inl (refused_name (named a.0.run) old.files new.files ReadDescription a.2.0))
+  six (Err (Refused (ReadImage which))) e h = let a = e in (a.0, a.1, inr (unread a.0 which a.2.0))
   six (Err (Refused _)) e h = absurd (omega arith)
 
   seven : (r : Result Verdict Unjudged) → Ends words old new r → status_of r ≡ 7
@@ -142,24 +142,24 @@ module _ (words : List (List ℕ)) (old new : World) where
 
   not_six : (r : Result Verdict Unjudged) → Ends words old new r → (status_of r ≡ 6 → ⊥) → SameCounts old.files new.files
   not_six (Ok v) e h = e.2.0.inputs.read.counts
-  not_six (Err (Range f)) e h = e.0.2.0.read.counts
+  not_six (Err (Range f)) e h = e.2.0.read.counts
   not_six (Err (Refused Words)) e h = e.1
   not_six (Err (Refused ReadDescription)) e h = absurd (h refl)
-  not_six (Err (Refused DescriptionTooLong)) e h = (refused_name (named e.0.0.run) old.files new.files DescriptionTooLong e.0.2).2.1
-  not_six (Err (Refused (Description f))) e h = (refused_name (named e.0.0.run) old.files new.files (Description f) e.0.2).2.1
+  not_six (Err (Refused DescriptionTooLong)) e h = (refused_name (named e.0.run) old.files new.files DescriptionTooLong e.2.0).2.1
+  not_six (Err (Refused (Description f))) e h = (refused_name (named e.0.run) old.files new.files (Description f) e.2.0).2.1
   not_six (Err (Refused (ReadImage which))) e h = absurd (h refl)
-  not_six (Err (Refused (ImageTooLong which))) e h = e.0.2.1
-  not_six (Err (Refused (Image which f))) e h = e.0.2.1
+  not_six (Err (Refused (ImageTooLong which))) e h = e.2.0.1
+  not_six (Err (Refused (Image which f))) e h = e.2.0.1
   not_six (Err (Refused Write)) e h = e.2.0.inputs.read.counts
   not_six (Err (Refused Memory)) e h = e.1
 
   -- no cause but a failed write leaves anything written
   wrote_nothing : (c : Unjudged) → Ends words old new (Err c) → (status_of (Err c) ≡ 7 → ⊥) → new.out ≡ old.out
-  wrote_nothing (Range f) e h = e.1
+  wrote_nothing (Range f) e h = e.2.2
   wrote_nothing (Refused Words) e h = e.2
   wrote_nothing (Refused Write) e h = absurd (h refl)
   wrote_nothing (Refused Memory) e h = e.2
-  wrote_nothing (Refused _) e h = e.1
+  wrote_nothing (Refused _) e h = e.2.1
 
   not_seven : (r : Result Verdict Unjudged) → Ends words old new r → (status_of r ≡ 7 → ⊥) → new.out.faults ≡ old.out.faults
   not_seven (Ok v) e h = e.2.1.count
@@ -177,7 +177,7 @@ module _ (words : List (List ℕ)) (old new : World) where
   no_wish (Err (Refused Words)) e h = inl refl
   no_wish (Err (Refused Write)) e h = absurd (clash e.1 h)
   no_wish (Err (Refused Memory)) e h = inr refl
-  no_wish (Err (Refused _)) e h = absurd (clash e.0.1 h)
+  no_wish (Err (Refused _)) e h = absurd (clash e.1 h)
 
   -- without words every outcome has status 2
   no_words : (r : Result Verdict Unjudged) → Ends words old new r → words ≡ [] → status_of r ≡ 2
@@ -186,7 +186,7 @@ module _ (words : List (List ℕ)) (old new : World) where
   no_words (Err (Refused Words)) e h = refl
   no_words (Err (Refused Write)) e h = absurd (not_empty words e.0 e.1 h)
   no_words (Err (Refused Memory)) e h = absurd (e.0 h)
-  no_words (Err (Refused _)) e h = absurd (not_empty words e.0.0 e.0.1 h)
+  no_words (Err (Refused _)) e h = absurd (not_empty words e.0 e.1 h)
 
   -- what each status says of what the words want
   module _ (wanted : WantedText) (k : wanted_of words ≡ Some wanted) where
@@ -197,10 +197,14 @@ module _ (words : List (List ℕ)) (old new : World) where
     cut e = of_wish words (λ w. (a : Accepted w old.files new.files) × WrotePrefix (verdict_text a.verdict) old.out new.out) wanted k e
 
     its_fault : (f : FaultyRange) → Ends words old new (Err (Range f)) → (inputs : Inputs wanted old.files new.files) × (fault_in wanted inputs.image ≡ Some f)
-    its_fault f e = of_wish words (λ w. (inputs : Inputs w old.files new.files) × (fault_in w inputs.image ≡ Some f)) wanted k e.0
+    its_fault f e = let r = of_wish words (λ w. WishEnds w old new (Err (Range f))) wanted k e in (r.0, r.1)
 
-    its_refusal : (c : Refusal) → Wants words (λ w. RefusedInputs w old.files new.files c) → RefusedInputs wanted old.files new.files c
-    its_refusal c a = of_wish words (λ w. RefusedInputs w old.files new.files c) wanted k a
+    -- the words want something of which what is read is refused for this cause, and nothing is written
+    abbrev IsRefused : Refusal → Type 0
+    IsRefused c = Wants words (λ w. RefusedInputs w old.files new.files c × (new.out ≡ old.out))
+
+    its_refusal : (c : Refusal) → IsRefused c → RefusedInputs wanted old.files new.files c
+    its_refusal c a = (of_wish words (λ w. RefusedInputs w old.files new.files c × (new.out ≡ old.out)) wanted k a).0
 
     -- what each status says where a description is wanted that has a fault
     module _ (name : List ℕ) (is : named wanted.run ≡ Some name) (x : IsFaultyDescription (Gives old.files) name) where
@@ -217,9 +221,9 @@ module _ (words : List (List ℕ)) (old new : World) where
       faulty_description (Err (Refused (Description f))) e = inl refl
       faulty_description (Err (Refused (ReadImage which))) e = inr (inl refl)
       faulty_description (Err (Refused (ImageTooLong which))) e =
-          let r = too_long wanted which (its_refusal (ImageTooLong which) e.0) in absurd (not_described r.0 r.1)
+          let r = too_long wanted which (its_refusal (ImageTooLong which) e) in absurd (not_described r.0 r.1)
       faulty_description (Err (Refused (Image which f))) e =
-          let r = at_fault wanted which f (its_refusal (Image which f) e.0) in absurd (not_described r.0 r.1)
+          let r = at_fault wanted which f (its_refusal (Image which f) e) in absurd (not_described r.0 r.1)
       faulty_description (Err (Refused Write)) e = let i = (cut e).0.inputs in absurd (not_described i.desc i.read.described)
       faulty_description (Err (Refused Memory)) e = inr (inr refl)
 
@@ -228,10 +232,10 @@ module _ (words : List (List ℕ)) (old new : World) where
       same_desc : (desc' : Option Desc) → HasDesc (MayGive old.files) (named wanted.run) desc' → desc' ≡ desc
       same_desc desc' h = told_desc old.files (named wanted.run) desc desc' described h
 
-      described_longer : Wants words (λ w. RefusedInputs w old.files new.files DescriptionTooLong) → ⊥
+      described_longer : IsRefused DescriptionTooLong → ⊥
       described_longer a = not_longer old.files new.files (named wanted.run) desc described (its_refusal DescriptionTooLong a)
 
-      described_faulty : (f : DescFault) → Wants words (λ w. RefusedInputs w old.files new.files (Description f)) → ⊥
+      described_faulty : (f : DescFault) → IsRefused (Description f) → ⊥
       described_faulty f a = not_refused old.files new.files (named wanted.run) desc f described (its_refusal (Description f) a)
 
       no_image : (i : Inputs wanted old.files new.files) → IsFaultyImage (Gives old.files) desc (from_file wanted.image) → ⊥
@@ -245,8 +249,8 @@ module _ (words : List (List ℕ)) (old new : World) where
       faulty_image (Err (Range f)) e x = absurd (no_image (its_fault f e).0 x)
       faulty_image (Err (Refused Words)) e x = absurd (clash k e.0)
       faulty_image (Err (Refused ReadDescription)) e x = inr (inl refl)
-      faulty_image (Err (Refused DescriptionTooLong)) e x = absurd (described_longer e.0)
-      faulty_image (Err (Refused (Description f))) e x = absurd (described_faulty f e.0)
+      faulty_image (Err (Refused DescriptionTooLong)) e x = absurd (described_longer e)
+      faulty_image (Err (Refused (Description f))) e x = absurd (described_faulty f e)
       faulty_image (Err (Refused (ReadImage which))) e x = inr (inl refl)
       faulty_image (Err (Refused (ImageTooLong which))) e x = inl refl
       faulty_image (Err (Refused (Image which f))) e x = inl refl
@@ -265,12 +269,12 @@ module _ (words : List (List ℕ)) (old new : World) where
         same_fault : (i : Inputs wanted old.files new.files) (o : Option FaultyRange) → fault_in wanted i.image ≡ o → fault_in wanted image ≡ o
         same_fault i o e = ap (fault_in wanted) (sym (same_image i)) ∙ e
 
-        not_long : (which : Which) → Wants words (λ w. RefusedInputs w old.files new.files (ImageTooLong which)) → ⊥
+        not_long : (which : Which) → IsRefused (ImageTooLong which) → ⊥
         not_long which a =
             let r = too_long wanted which (its_refusal (ImageTooLong which) a) in
             not_too_many old.files desc (from_file wanted.image) image there r.2
 
-        not_at_fault : (which : Which) (f : ElfFault) → Wants words (λ w. RefusedInputs w old.files new.files (Image which f)) → ⊥
+        not_at_fault : (which : Which) (f : ElfFault) → IsRefused (Image which f) → ⊥
         not_at_fault which f a =
             let r = at_fault wanted which f (its_refusal (Image which f) a) in
             no_fault old.files desc r.0 (from_file wanted.image) image f (same_desc r.0 r.1) there r.2
@@ -281,11 +285,11 @@ module _ (words : List (List ℕ)) (old new : World) where
         faulty_range (Err (Range f)) e faulty x = inl refl
         faulty_range (Err (Refused Words)) e faulty x = inl refl
         faulty_range (Err (Refused ReadDescription)) e faulty x = inr (inl refl)
-        faulty_range (Err (Refused DescriptionTooLong)) e faulty x = absurd (described_longer e.0)
-        faulty_range (Err (Refused (Description f))) e faulty x = absurd (described_faulty f e.0)
+        faulty_range (Err (Refused DescriptionTooLong)) e faulty x = absurd (described_longer e)
+        faulty_range (Err (Refused (Description f))) e faulty x = absurd (described_faulty f e)
         faulty_range (Err (Refused (ReadImage which))) e faulty x = inr (inl refl)
-        faulty_range (Err (Refused (ImageTooLong which))) e faulty x = absurd (not_long which e.0)
-        faulty_range (Err (Refused (Image which f))) e faulty x = absurd (not_at_fault which f e.0)
+        faulty_range (Err (Refused (ImageTooLong which))) e faulty x = absurd (not_long which e)
+        faulty_range (Err (Refused (Image which f))) e faulty x = absurd (not_at_fault which f e)
         faulty_range (Err (Refused Write)) e faulty x = let a = (cut e).0 in absurd (no_clash x (same_fault a.inputs None a.ranges))
         faulty_range (Err (Refused Memory)) e faulty x = inr (inr refl)
 
@@ -307,13 +311,13 @@ module _ (words : List (List ℕ)) (old new : World) where
         complete (Err (Range f)) e verdict is none a b c = let i = its_fault f e in absurd (no_clash (same_fault i.0 (Some f) i.1) none)
         complete (Err (Refused Words)) e verdict is none a b c = absurd (clash k e.0)
         complete (Err (Refused ReadDescription)) e verdict is none a b c =
-            let n = refused_name (named wanted.run) old.files new.files ReadDescription (its_refusal ReadDescription e.0) in
+            let n = refused_name (named wanted.run) old.files new.files ReadDescription (its_refusal ReadDescription e) in
             absurd (a n.0 n.1 n.2.rose)
-        complete (Err (Refused DescriptionTooLong)) e verdict is none a b c = absurd (described_longer e.0)
-        complete (Err (Refused (Description f))) e verdict is none a b c = absurd (described_faulty f e.0)
-        complete (Err (Refused (ReadImage which))) e verdict is none a b c = absurd (b (unread wanted which (its_refusal (ReadImage which) e.0)).2.rose)
-        complete (Err (Refused (ImageTooLong which))) e verdict is none a b c = absurd (not_long which e.0)
-        complete (Err (Refused (Image which f))) e verdict is none a b c = absurd (not_at_fault which f e.0)
+        complete (Err (Refused DescriptionTooLong)) e verdict is none a b c = absurd (described_longer e)
+        complete (Err (Refused (Description f))) e verdict is none a b c = absurd (described_faulty f e)
+        complete (Err (Refused (ReadImage which))) e verdict is none a b c = absurd (b (unread wanted which (its_refusal (ReadImage which) e)).2.rose)
+        complete (Err (Refused (ImageTooLong which))) e verdict is none a b c = absurd (not_long which e)
+        complete (Err (Refused (Image which f))) e verdict is none a b c = absurd (not_at_fault which f e)
         complete (Err (Refused Write)) e verdict is none a b c = absurd (c (cut e).1.rose)
         complete (Err (Refused Memory)) e verdict is none a b c = inl (refl, e.2)
 

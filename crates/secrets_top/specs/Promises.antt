@@ -2,9 +2,9 @@
 -- with which the program publishes the same; of a core for that core, and of the path, where it ends plainly, for every
 -- core with the defence `delay` (docs/theorems.md, "Secrets that are loaded", "Secrets that are published", "Constant
 -- time on the path").
-use Rattle.std.specs.Prelude.{◌≡◌, ◌≤◌, ◌⊎◌, ℕ, true, List, length, Option, Some}
+use Rattle.std.specs.Prelude.{◌≡◌, ◌≤◌, ◌⊎◌, ℕ, true, not, List, filter, length, Option, Some}
 use Rattle.rv_types.specs.Isa.{start}
-use Rattle.rv_types.specs.Memory.{Ram}
+use Rattle.rv_types.specs.Memory.{Ram, Agree, range}
 use Rattle.elf_loader.specs.Image.{ImageText}
 use Rattle.machine_desc.specs.declared.Desc.{Desc}
 use Rattle.window_model.specs.Cycle.{trace}
@@ -16,7 +16,6 @@ use Rattle.secret_marks.specs.declared.FirstShown.{FirstShown}
 use Rattle.secret_marks.specs.declared.PublicStreams.{PublicStreams}
 use Rattle.secret_marks.specs.declared.SecretRange.{SecretRange}
 use Rattle.secret_marks.specs.Ranges.{secret_in}
-use Rattle.secret_marks.specs.Alike.{AgreeBut}
 use Rattle.secret_marks.specs.Laws.{PublishesSame}
 use Rattle.secret_marks.specs.Published.{published_in}
 use Rattle.secret_marks.specs.Streams.{public_in}
@@ -27,6 +26,17 @@ use Rattle.run_inputs.specs.Told.{World}
 use Rattle.secret_words.specs.Words.{RunText, core_run, path_run}
 use Rattle.secrets_top.specs.Top.{Wants, Accepted}
 use Rattle.secrets_top.specs.Verdict.{is_any_public, told_of, hidden_text, shown_line, step_line, first_of_run, first_on_path, path_of, ending_in}
+
+-- ---- Of other secrets
+
+-- the addresses of a memory whose bytes aren't secret
+abbrev pub unsecret : List SecretRange → Ram → List ℕ
+unsecret secret m = filter (λ a. not (secret_in secret a)) (range m.base (length m.bytes))
+
+-- a memory differs from the image's in the secret bytes alone: it has its shape, holds bytes, and has the image's byte at
+-- each other address. Nothing is asked of the image's own memory
+abbrev pub HasOtherSecret : ImageText → List SecretRange → Ram → Type 0
+HasOtherSecret image secret m = Agree image.ram m (unsecret secret image.ram)
 
 -- ---- Of the run of a core
 
@@ -43,7 +53,7 @@ PublishesAlike public d image n m = is_any_public public ≡ true → PublishesS
 -- every memory that differs from the image's in the secret bytes alone, and with which as many steps publish the same
 -- as in the run of n cycles, gives the trace of the image, of at most k cycles
 abbrev pub OneTrace : PublicStreams → Desc → ImageText → List SecretRange → ℕ → ℕ → Type 0
-OneTrace public d image secret n k = (m : Ram) → AgreeBut (secret_in secret) image.ram m → PublishesAlike public d image n m
+OneTrace public d image secret n k = (m : Ram) → HasOtherSecret image secret m → PublishesAlike public d image n m
     → trace d image.code image.entry m k ≡ trace d image.code image.entry image.ram k
 
 -- with status 0 or 3 what is written is that nothing shows, how many bytes are published, where a stream is public, and
@@ -76,7 +86,7 @@ StepsPublishAlike public image n m = is_any_public public ≡ true
 -- publish the same, gives the trace of the image, of any number of cycles, on every core with a model that protects and
 -- the defence `delay`
 abbrev pub OneTraceOnEveryCore : PublicStreams → ImageText → List SecretRange → ℕ → Type 0
-OneTraceOnEveryCore public image secret n = (m : Ram) → AgreeBut (secret_in secret) image.ram m → StepsPublishAlike public image n m
+OneTraceOnEveryCore public image secret n = (m : Ram) → HasOtherSecret image secret m → StepsPublishAlike public image n m
     → (d : Desc) (k : ℕ) → protects d.stt_model ≡ true → delays d.stt_defence ≡ true → trace d image.code image.entry m k ≡ trace d image.code image.entry image.ram k
 
 -- with status 0 or 3 what is written is that nothing shows, how many bytes are published, where a stream is public, and

@@ -62,16 +62,25 @@ pub record Accepted (wanted : WantedText) (old new : Shelf) : Type 0 where
 abbrev pub RefusedInputs : WantedText → Shelf → Shelf → Refusal → Type 0
 RefusedInputs wanted old new refusal = Refuses (named wanted.run) (from_file wanted.image ∷ []) old new refusal
 
--- how the program ends: what is told is written whole, or in part where the sink failed; or the words want nothing,
--- there are some and there was no memory, what is read or a range of it is refused, and nothing is written
+-- a wish may need memory: for what is read, or, once that is accepted, for the run
+abbrev pub WishWants : WantedText → Shelf → Shelf → Type 0
+WishWants wanted old new = RefusedInputs wanted old new Memory ⊎ Accepted wanted old new
+
+-- how a wish ends, once the words were read: what is told is written whole, or in part where the sink failed; or there
+-- was no memory where it needs some, or what is read or a range of it is refused, and nothing is written
+abbrev pub WishEnds : WantedText → World → World → Result Verdict Unjudged → Type 0
+WishEnds wanted old new (Ok told) = (a : Accepted wanted old.files new.files) × Wrote (verdict_text a.verdict) old.out new.out × (told ≡ a.verdict)
+WishEnds wanted old new (Err (Range faulty)) = (inputs : Inputs wanted old.files new.files) × (fault_in wanted inputs.image ≡ Some faulty) × (new.out ≡ old.out)
+WishEnds wanted old new (Err (Refused Write)) = (a : Accepted wanted old.files new.files) × WrotePrefix (verdict_text a.verdict) old.out new.out
+WishEnds wanted old new (Err (Refused Memory)) = WishWants wanted old.files new.files × (new.out ≡ old.out)
+WishEnds wanted old new (Err (Refused refusal)) = RefusedInputs wanted old.files new.files refusal × (new.out ≡ old.out)
+
+-- how the program ends: the words want nothing, or there are some and there was no memory, which may be for the words
+-- themselves; or they want something, and the program ends as that does
 abbrev pub Ends : List (List ℕ) → World → World → Result Verdict Unjudged → Type 0
-Ends words old new (Ok told) = Wants words (λ wanted. (a : Accepted wanted old.files new.files) × Wrote (verdict_text a.verdict) old.out new.out × (told ≡ a.verdict))
-Ends words old new (Err (Range faulty)) =
-    Wants words (λ wanted. (inputs : Inputs wanted old.files new.files) × (fault_in wanted inputs.image ≡ Some faulty)) × (new.out ≡ old.out)
-Ends words old new (Err (Refused Write)) = Wants words (λ wanted. (a : Accepted wanted old.files new.files) × WrotePrefix (verdict_text a.verdict) old.out new.out)
 Ends words old new (Err (Refused Words)) = (wanted_of words ≡ None) × SameCounts old.files new.files × (new.out ≡ old.out)
 Ends words old new (Err (Refused Memory)) = (words ≢ []) × SameCounts old.files new.files × (new.out ≡ old.out)
-Ends words old new (Err (Refused refusal)) = Wants words (λ wanted. RefusedInputs wanted old.files new.files refusal) × (new.out ≡ old.out)
+Ends words old new outcome = Wants words (λ wanted. WishEnds wanted old new outcome)
 
 -- an outcome of the program, its status, and what the note gets of it
 abbrev pub EndsWith : List (List ℕ) → World → World → Told → Told → ℕ → Type 0

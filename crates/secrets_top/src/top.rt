@@ -4,7 +4,8 @@
 ghost use Rattle.std.specs.Prelude.{map};
 ghost use Rattle.tool_io.specs.Outside.{SameContents};
 ghost use Rattle.run_inputs.specs.Told.{world};
-ghost use Rattle.secrets_top.specs.Top.{Ends, EndsWith, Statuses};
+ghost use Rattle.secret_words.specs.inner.Words.{wanted_text};
+ghost use Rattle.secrets_top.specs.Top.{WishEnds, Ends, EndsWith, Statuses};
 ghost use Rattle.secrets_top.specs.Promises.{Promises};
 
 use crate::performing::perform;
@@ -12,12 +13,28 @@ use crate::ranges::check_ranges;
 use crate::refusal::{Unjudged, note_line, status_of};
 use crate::task::read_task;
 use crate::verdict::Verdict;
-use secret_words::read_wanted;
+use secret_words::{Wanted, read_wanted};
 use std::alloc::Global;
 use tool_io::{Files, Sink};
 
-// Reads the words, the description, if one is named, and the image, checks the ranges, and runs and tells what shows:
-// all that the program does but for the note.
+// What the words want: reads the description, if one is named, and the image, checks the ranges, and runs and tells what
+// shows. What is read and the ranges come first, so a fault of them is never answered by want of memory for the run.
+fn answer_wish<F: Files, O: Sink>(
+    alloc: Global,
+    wanted: Wanted<'_>,
+    files: &mut F,
+    out: &mut O,
+) -> Result<Verdict, Unjudged>
+    ensures ends { WishEnds (wanted_text wanted)
+        (world (F.shelf files.old) (O.told out.old)) (world (F.shelf files.new) (O.told out.new)) result }
+    ensures stays { SameContents (F.shelf files.old) (F.shelf files.new) }
+{
+    let task = read_task(alloc, wanted.image, wanted.run, files)?;
+    check_ranges(task.image(), wanted.secret.as_slice())?;
+    perform(alloc, task, wanted.secret.as_slice(), wanted.public, out)
+}
+
+// Reads the words, and does what they want: all that the program does but for the note.
 fn answer<F: Files, O: Sink>(
     alloc: Global,
     words: &[&str],
@@ -29,9 +46,7 @@ fn answer<F: Files, O: Sink>(
     ensures stays { SameContents (F.shelf files.old) (F.shelf files.new) }
 {
     let wanted = read_wanted(alloc, words)?;
-    let task = read_task(alloc, wanted.image, wanted.run, files)?;
-    check_ranges(task.image(), wanted.secret.as_slice())?;
-    perform(alloc, task, wanted.secret.as_slice(), wanted.public, out)
+    answer_wish(alloc, wanted, files, out)
 }
 
 /// Does all that the program does, and answers its status. `words` are those after the program's name: they ask of the

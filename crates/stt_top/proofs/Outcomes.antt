@@ -1,5 +1,5 @@
 -- How a task ends, and with it the program, from what the parts do.
-use Rattle.std.proofs.Common.{◌≡◌, ℕ, List, [], Option, Some, None, Result, Ok, Err, refl, ap, ◌∙◌, subst}
+use Rattle.std.proofs.Common.{◌≡◌, ℕ, List, [], Option, Some, None, Result, Ok, Err, refl, ap, ◌∙◌, subst, inl, inr}
 use Rattle.rv_types.specs.Memory.{Code, Ram}
 use Rattle.elf_loader.specs.Image.{ImageText}
 use Rattle.machine_desc.specs.declared.Desc.{Desc}
@@ -9,7 +9,7 @@ use Rattle.pair_run.specs.inner.Images.{Images}
 use Rattle.run_inputs.specs.Loaded.{loaded}
 use Rattle.pair_run.specs.declared.answer.PairAnswer.{PairAnswer}
 use Rattle.pair_run.specs.Comparison.{comparison}
-use Rattle.tool_io.specs.Outside.{Told, Shelf, Wrote, WrotePrefix}
+use Rattle.tool_io.specs.Outside.{Told, Shelf, Wrote, WrotePrefix, SameCounts}
 use Rattle.trace_text.specs.TraceText.{trace_text}
 use Rattle.window_model.specs.State.{Machine}
 use Rattle.window_model.specs.Cycle.{trace_from}
@@ -25,8 +25,8 @@ use Rattle.stt_top.specs.Running.{opening_of}
 use Rattle.stt_top.specs.inner.Running.{Starts}
 use Rattle.stt_top.specs.Work.{TaskText, report_task, trace_task, pair_task, run_work, trace_work, pair_work}
 use Rattle.stt_top.specs.inner.Work.{Performs}
-use Rattle.run_inputs.specs.Told.{world}
-use Rattle.stt_top.specs.Top.{Runs, CommandRefused, description_name, Ends}
+use Rattle.run_inputs.specs.Told.{World, world}
+use Rattle.stt_top.specs.Top.{Runs, CommandRefused, CommandWants, CommandEnds, description_name, Ends}
 
 -- ---- Tasks, and what is written
 
@@ -79,18 +79,28 @@ no_wrong_words : (name : Option (List ℕ)) (old new : Shelf) → NamedRefused n
 no_wrong_words None old new h = h
 no_wrong_words (Some name) old new h = h
 
--- a refusal of what the command reads ends the program with that refusal
-pub command_refused : (words : List (List ℕ)) (old new : Shelf) (out : Told) (command : CommandText) (e : Refusal) → command_of words ≡ Some command
-    → CommandRefused command old new e → Ends words (world old out) (world new out) (Err e)
-command_refused words old new out command Words k c = absurd (no_wrong_words (description_name command) old new c)
-command_refused words old new out command Write k c = absurd (no_write (description_name command) old new c)
-command_refused words old new out command Memory k c = (not_empty words command k, c, refl)
-command_refused words old new out command _ k c = ((command, k, c), refl)
+-- a refusal of what the command reads ends it with that refusal
+pub command_refused : (command : CommandText) (old new : Shelf) (out : Told) (e : Refusal) → CommandRefused command old new e → CommandEnds command (world old out) (world new out) (Err e)
+command_refused command old new out Write c = absurd (no_write (description_name command) old new c)
+command_refused command old new out Memory c = (inl c, refl)
+command_refused command old new out _ c = (c, refl)
 
--- what the words ask for is done, once their task is performed
-pub task_end : (words : List (List ℕ)) (old new : Shelf) (out out' : Told) (command : CommandText) (task : TaskText) (r : Result Ended Refusal) → command_of words ≡ Some command
-    → Runs command old new task → Performs task out out' r → Ends words (world old out) (world new out') r
-task_end words old new out out' command task (Ok ended) k c p = (command, k, (record { task = task; runs = c; work = p.0; comes_to = p.1 }, p.2, p.3))
-task_end words old new out out' command task (Err Write) k c p = (command, k, (record { task = task; runs = c; work = p.0; comes_to = p.1 }, p.2))
-task_end words old new out out' command task (Err Memory) k c p = (not_empty words command k, c.read.counts, p)
-task_end words old new out out' command task (Err _) k c p = absurd p
+-- the command is done, once its task is performed
+pub task_end : (command : CommandText) (old new : Shelf) (out out' : Told) (task : TaskText) (r : Result Ended Refusal) → Runs command old new task → Performs task out out' r
+    → CommandEnds command (world old out) (world new out') r
+task_end command old new out out' task (Ok ended) c p = (record { task = task; runs = c; work = p.0; comes_to = p.1 }, p.2, p.3)
+task_end command old new out out' task (Err Write) c p = (record { task = task; runs = c; work = p.0; comes_to = p.1 }, p.2)
+task_end command old new out out' task (Err Memory) c p = (inr (task, c), p)
+task_end command old new out out' task (Err _) c p = absurd p
+
+-- want of memory leaves the counts of all files
+wants_alone : (command : CommandText) (old new : Shelf) → CommandWants command old new → SameCounts old new
+wants_alone command old new (inl refused) = refused.1
+wants_alone command old new (inr read) = read.1.read.counts
+
+-- the program ends as the command that its words ask for
+pub command_end : (words : List (List ℕ)) (old new : World) (command : CommandText) (r : Result Ended Refusal) → command_of words ≡ Some command → CommandEnds command old new r → Ends words old new r
+command_end words old new command (Ok ended) k c = (command, k, c)
+command_end words old new command (Err Words) k c = absurd (no_wrong_words (description_name command) old.files new.files c.0)
+command_end words old new command (Err Memory) k c = (not_empty words command k, wants_alone command old.files new.files c.0, c.1)
+command_end words old new command (Err _) k c = (command, k, c)

@@ -1,7 +1,7 @@
 -- A machine's run keeps its promises: by the laws of committed state, progress, noninterference and the constant-time
 -- contract.
-use Rattle.std.proofs.Common.{◌≡◌, ◌≤◌, ℕ, List, Some, None, Result, sym, ap, ◌∙◌, subst}
-use Rattle.rv_types.specs.Memory.{Code}
+use Rattle.std.proofs.Common.{◌≡◌, ◌≤◌, ℕ, List, [], Some, None, Result, sym, ap, ◌∙◌, subst}
+use Rattle.rv_types.specs.Memory.{Code, Ram, Agree}
 use Rattle.rv_types.specs.Isa.{Run, start}
 use Rattle.elf_loader.specs.Image.{ImageText}
 use Rattle.elf_loader.proofs.Images.{at_words}
@@ -13,7 +13,9 @@ use Rattle.committed_state.proofs.Run.{run_commits}
 use Rattle.progress.specs.Laws.{Allows}
 use Rattle.progress.proofs.Run.{retires_within_bound, retires_in_budget}
 use Rattle.noninterference.proofs.Runs.{same_trace}
+use Rattle.constant_time.specs.Laws.{any_byte_at}
 use Rattle.constant_time.proofs.Delayed.{contract_under_delay}
+use Rattle.secret_marks.specs.Alike.{AgreeBut}
 use Rattle.report_text.specs.Report.{report_text}
 use Rattle.trace_text.specs.TraceText as text
 use Rattle.tool_io.specs.Outside.{Told, Wrote}
@@ -28,6 +30,7 @@ use Rattle.stt_top.specs.declared.outcome.Ended.{Ended}
 use Rattle.run_inputs.specs.declared.refusal.Refusal.{Refusal}
 use Rattle.stt_top.specs.Outcome.{status_of}
 use Rattle.stt_top.specs.Work.{TaskText, isa_task, report_task, trace_task, pair_task, Work, ComesTo, run_work}
+use Rattle.run_inputs.specs.Input.{HoldsBytes}
 use Rattle.run_inputs.specs.Told.{World}
 use Rattle.stt_top.specs.Top.{Ends, Statuses}
 use Rattle.stt_top.specs.Promises.{Commits, MovesOn, Hides, Compares, Keeps, Promises, TracesAgree, retired_run}
@@ -66,11 +69,22 @@ moves_on d image n allows = record {
 
 -- ---- Noninterference of two runs
 
-hides : (d : Desc) (image : ImageText) (n : ℕ) (out out' : Told) → Aligned image.code → Wrote (text.trace_text (trace_of d image n)) out out' → Hides d image n out out'
-hides d image n out out' al w = record {
+-- a memory of the image's shape that holds bytes may differ in every byte
+any_memory : (image : ImageText) (m : Ram) → HoldsBytes image → Agree image.ram m [] → AgreeBut any_byte_at image.ram m
+any_memory image m holds agree = record {
+  base = agree.base;
+  size = agree.size;
+  misaligned = agree.misaligned;
+  bytes = holds;
+  bytes2 = agree.bytes;
+  same = λ i e. absurd (cc);
+}
+
+hides : (d : Desc) (image : ImageText) (n : ℕ) (out out' : Told) → Aligned image.code → HoldsBytes image → Wrote (text.trace_text (trace_of d image n)) out out' → Hides d image n out out'
+hides d image n out out' al b w = record {
   agreeing = λ protected m agree. subst (λ t. Wrote (text.trace_text t) out out') (sym (same_trace d image.code image.entry image.ram m n protected al agree)) w;
   leaking = λ protected delayed m agree leaks.
-      subst (λ t. Wrote (text.trace_text t) out out') (sym (contract_under_delay d image.code image.entry image.ram m n protected delayed al agree leaks)) w;
+      subst (λ t. Wrote (text.trace_text t) out out') (sym (contract_under_delay d image.code image.entry image.ram m n protected delayed al (any_memory image m b agree) leaks)) w;
 }
 
 -- a file's image and any other with its entry and code, whose memories agree on what the path loads, have one trace
@@ -96,7 +110,7 @@ compares d one two n answer out out' al a w = record {
 keeps : (task : TaskText) (work : Work) (out out' : Told) → SuitedTask task → ComesTo task work → Wrote work.text out out' → Keeps task out out'
 keeps (isa_task image steps) work out out' s c w = tt
 keeps (report_task d image n) work out out' s c w = (commits d image n out out' s.aligned (subst (λ (k : Work). Wrote k.text out out') c w), moves_on d image n s.allows)
-keeps (trace_task d image n) work out out' s c w = (hides d image n out out' s.aligned (subst (λ (k : Work). Wrote k.text out out') c w), moves_on d image n s.allows)
+keeps (trace_task d image n) work out out' s c w = (hides d image n out out' s.aligned s.bytes (subst (λ (k : Work). Wrote k.text out out') c w), moves_on d image n s.allows)
 keeps (pair_task d one two n) work out out' s c w = compares d one two n c.0 out out' s.aligned c.1 (subst (λ (k : Work). Wrote k.text out out') c.2 w)
 
 -- with the status of a text that is written whole

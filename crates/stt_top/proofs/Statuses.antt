@@ -84,12 +84,12 @@ module _ (words : List (List ℕ)) (old new : World) where
       → Asks words (λ command. (name : List ℕ) × (description_name command ≡ Some name) × IsFaultyDescription (MayGive old.files) name)
   four (Ok ended) e h = absurd (other_status ended 4 (λ k. omega arith) h)
   four (Err DescriptionTooLong) e h =
-      let a = e.0 in
-      let n = named (description_name a.0) old.files new.files DescriptionTooLong a.2 in
+      let a = e in
+      let n = named (description_name a.0) old.files new.files DescriptionTooLong a.2.0 in
       (a.0, a.1, (n.0, n.1, inl n.2.0))
   four (Err (Description f)) e h =
-      let a = e.0 in
-      let n = named (description_name a.0) old.files new.files (Description f) a.2 in
+      let a = e in
+      let n = named (description_name a.0) old.files new.files (Description f) a.2.0 in
       (a.0, a.1, (n.0, n.1, inr (f, n.2.0)))
   four (Err _) e h = absurd (omega arith)
 
@@ -97,12 +97,12 @@ module _ (words : List (List ℕ)) (old new : World) where
       → Asks words (λ command. (which : Which) × ImageRefusedAt command old.files (place_of which) (IsFaultyImage (MayGive old.files)))
   five (Ok ended) e h = absurd (other_status ended 5 (λ k. omega arith) h)
   five (Err (ImageTooLong which)) e h =
-      let a = e.0 in
-      let wider = refused_for old.files (description_name a.0) (sources a.0) (place_of which) (λ desc from. HasTooMany (MayGive old.files) from) (IsFaultyImage (MayGive old.files)) (λ desc from m. inl m) a.2.0 in
+      let a = e in
+      let wider = refused_for old.files (description_name a.0) (sources a.0) (place_of which) (λ desc from. HasTooMany (MayGive old.files) from) (IsFaultyImage (MayGive old.files)) (λ desc from m. inl m) a.2.0.0 in
       (a.0, a.1, (which, wider))
   five (Err (Image which f)) e h =
-      let a = e.0 in
-      let wider = refused_for old.files (description_name a.0) (sources a.0) (place_of which) (λ desc from. HasFault (MayGive old.files) desc from f) (IsFaultyImage (MayGive old.files)) (λ desc from m. inr (f, m)) a.2.0 in
+      let a = e in
+      let wider = refused_for old.files (description_name a.0) (sources a.0) (place_of which) (λ desc from. HasFault (MayGive old.files) desc from f) (IsFaultyImage (MayGive old.files)) (λ desc from m. inr (f, m)) a.2.0.0 in
       (a.0, a.1, (which, wider))
   five (Err _) e h = absurd (omega arith)
 
@@ -110,8 +110,8 @@ module _ (words : List (List ℕ)) (old new : World) where
       → Asks words (λ command. ((name : List ℕ) × (description_name command ≡ Some name) × NameFailed name old.files new.files)
       ⊎ ((which : Which) × ImageRefusedAt command old.files (place_of which) (λ desc from. FailsToRead old.files new.files from)))
   six (Ok ended) e h = absurd (other_status ended 6 (λ k. omega arith) h)
-  six (Err ReadDescription) e h = let a = e.0 in (a.0, a.1, inl (named (description_name a.0) old.files new.files ReadDescription a.2))
-  six (Err (ReadImage which)) e h = let a = e.0 in (a.0, a.1, inr (which, a.2))
+  six (Err ReadDescription) e h = let a = e in (a.0, a.1, inl (named (description_name a.0) old.files new.files ReadDescription a.2.0))
+  six (Err (ReadImage which)) e h = let a = e in (a.0, a.1, inr (which, a.2.0))
   six (Err _) e h = absurd (omega arith)
 
   seven : (r : Result Ended Refusal) → Ends words old new r → status_of r ≡ 7
@@ -126,11 +126,11 @@ module _ (words : List (List ℕ)) (old new : World) where
   not_six (Ok ended) e h = e.2.0.runs.read.counts
   not_six (Err Words) e h = e.1
   not_six (Err ReadDescription) e h = absurd (h refl)
-  not_six (Err DescriptionTooLong) e h = (named (description_name e.0.0) old.files new.files DescriptionTooLong e.0.2).2.1
-  not_six (Err (Description f)) e h = (named (description_name e.0.0) old.files new.files (Description f) e.0.2).2.1
+  not_six (Err DescriptionTooLong) e h = (named (description_name e.0) old.files new.files DescriptionTooLong e.2.0).2.1
+  not_six (Err (Description f)) e h = (named (description_name e.0) old.files new.files (Description f) e.2.0).2.1
   not_six (Err (ReadImage which)) e h = absurd (h refl)
-  not_six (Err (ImageTooLong which)) e h = e.0.2.1
-  not_six (Err (Image which f)) e h = e.0.2.1
+  not_six (Err (ImageTooLong which)) e h = e.2.0.1
+  not_six (Err (Image which f)) e h = e.2.0.1
   not_six (Err Write) e h = e.2.0.runs.read.counts
   not_six (Err Memory) e h = e.1
 
@@ -139,7 +139,7 @@ module _ (words : List (List ℕ)) (old new : World) where
   wrote_nothing Words e h = e.2
   wrote_nothing Write e h = absurd (h refl)
   wrote_nothing Memory e h = e.2
-  wrote_nothing _ e h = e.1
+  wrote_nothing _ e h = e.2.1
 
   not_seven : (r : Result Ended Refusal) → Ends words old new r → (status_of r ≡ 7 → ⊥) → new.out.faults ≡ old.out.faults
   not_seven (Ok ended) e h = e.2.1.count
@@ -156,7 +156,7 @@ module _ (words : List (List ℕ)) (old new : World) where
   no_command (Err Words) e h = inl refl
   no_command (Err Write) e h = absurd (clash e.1 h)
   no_command (Err Memory) e h = inr refl
-  no_command (Err _) e h = absurd (clash e.0.1 h)
+  no_command (Err _) e h = absurd (clash e.1 h)
 
   -- without words every outcome has status 2
   no_words : (r : Result Ended Refusal) → Ends words old new r → words ≡ [] → status_of r ≡ 2
@@ -164,7 +164,7 @@ module _ (words : List (List ℕ)) (old new : World) where
   no_words (Err Words) e h = refl
   no_words (Err Write) e h = absurd (not_empty words e.0 e.1 h)
   no_words (Err Memory) e h = absurd (e.0 h)
-  no_words (Err _) e h = absurd (not_empty words e.0.0 e.0.1 h)
+  no_words (Err _) e h = absurd (not_empty words e.0 e.1 h)
 
   -- what an outcome says of the command that the words give
   module _ (command : CommandText) (k : command_of words ≡ Some command) where
@@ -174,8 +174,8 @@ module _ (words : List (List ℕ)) (old new : World) where
     cut : Ends words old new (Err Write) → (done : Done command old new) × WrotePrefix done.work.text old.out new.out
     cut a = of_command words (λ c. (done : Done c old new) × WrotePrefix done.work.text old.out new.out) command k a
 
-    its_refusal : (e : Refusal) → Asks words (λ c. CommandRefused c old.files new.files e) → CommandRefused command old.files new.files e
-    its_refusal e a = of_command words (λ c. CommandRefused c old.files new.files e) command k a
+    its_refusal : (e : Refusal) → Asks words (λ c. CommandRefused c old.files new.files e × (new.out ≡ old.out)) → CommandRefused command old.files new.files e
+    its_refusal e a = (of_command words (λ c. CommandRefused c old.files new.files e × (new.out ≡ old.out)) command k a).0
 
     faulty_description : (r : Result Ended Refusal) → Ends words old new r → (name : List ℕ) → description_name command ≡ Some name
         → IsFaultyDescription (Gives old.files) name → (status_of r ≡ 4) ⊎ ((status_of r ≡ 6) ⊎ (status_of r ≡ 8))
@@ -188,10 +188,10 @@ module _ (words : List (List ℕ)) (old new : World) where
     faulty_description (Err (Description f)) e name m x = inl refl
     faulty_description (Err (ReadImage which)) e name m x = inr (inl refl)
     faulty_description (Err (ImageTooLong which)) e name m x =
-        let r = its_refusal (ImageTooLong which) e.0 in
+        let r = its_refusal (ImageTooLong which) e in
         absurd (no_desc old.files (description_name command) r.0.desc name m r.0.described x)
     faulty_description (Err (Image which f)) e name m x =
-        let r = its_refusal (Image which f) e.0 in
+        let r = its_refusal (Image which f) e in
         absurd (no_desc old.files (description_name command) r.0.desc name m r.0.described x)
     faulty_description (Err Write) e name m x =
         let d = (cut e).0 in
@@ -213,9 +213,9 @@ module _ (words : List (List ℕ)) (old new : World) where
       faulty_image (Err Words) e place from a x = absurd (clash k e.0)
       faulty_image (Err ReadDescription) e place from a x = inr (inl refl)
       faulty_image (Err DescriptionTooLong) e place from a x =
-          absurd (not_longer old.files new.files (description_name command) desc told (its_refusal DescriptionTooLong e.0))
+          absurd (not_longer old.files new.files (description_name command) desc told (its_refusal DescriptionTooLong e))
       faulty_image (Err (Description f)) e place from a x =
-          absurd (not_refused old.files new.files (description_name command) desc f told (its_refusal (Description f) e.0))
+          absurd (not_refused old.files new.files (description_name command) desc f told (its_refusal (Description f) e))
       faulty_image (Err (ReadImage which)) e place from a x = inr (inl refl)
       faulty_image (Err (ImageTooLong which)) e place from a x = inl refl
       faulty_image (Err (Image which f)) e place from a x = inl refl
@@ -252,18 +252,18 @@ module _ (words : List (List ℕ)) (old new : World) where
             inr (d.0.work, c, ap (λ x. status_of (Ok x)) d.2, d.1)
         complete (Err Words) e task m files sink = absurd (clash k e.0)
         complete (Err ReadDescription) e task m files sink =
-            let n = named (description_name command) old.files new.files ReadDescription (its_refusal ReadDescription e.0) in
+            let n = named (description_name command) old.files new.files ReadDescription (its_refusal ReadDescription e) in
             absurd (files n.0 (inl n.1) n.2.rose)
         complete (Err DescriptionTooLong) e task m files sink =
-            absurd (not_longer old.files new.files (description_name command) desc told (its_refusal DescriptionTooLong e.0))
+            absurd (not_longer old.files new.files (description_name command) desc told (its_refusal DescriptionTooLong e))
         complete (Err (Description f)) e task m files sink =
-            absurd (not_refused old.files new.files (description_name command) desc f told (its_refusal (Description f) e.0))
+            absurd (not_refused old.files new.files (description_name command) desc f told (its_refusal (Description f) e))
         complete (Err (ReadImage which)) e task m files sink =
-            let r = its_refusal (ReadImage which) e.0 in
+            let r = its_refusal (ReadImage which) e in
             let n = filed old.files new.files r.from r.cause in
             absurd (files n.0 (inr (place_of which, r.there ∙ ap Some n.1)) n.2.rose)
-        complete (Err (ImageTooLong which)) e task m files sink = absurd (none_too_long which (its_refusal (ImageTooLong which) e.0).0)
-        complete (Err (Image which f)) e task m files sink = absurd (no_faulty which f (its_refusal (Image which f) e.0).0)
+        complete (Err (ImageTooLong which)) e task m files sink = absurd (none_too_long which (its_refusal (ImageTooLong which) e).0)
+        complete (Err (Image which f)) e task m files sink = absurd (no_faulty which f (its_refusal (Image which f) e).0)
         complete (Err Write) e task m files sink = absurd (sink (cut e).1.rose)
         complete (Err Memory) e task m files sink = inl (refl, e.2)
 

@@ -1,6 +1,6 @@
 -- What may be relied on of a machine's run besides its text: what it has retired, how soon, and what it shows
 -- (docs/theorems.md, "Committed state", "Progress", "Noninterference", "Constant time on the path").
-use Rattle.std.specs.Prelude.{◌≡◌, ℕ, ◌+◌, ◌*◌, ◌<◌, ◌≤◌, List, true, Some, None, Ok, IsTrue}
+use Rattle.std.specs.Prelude.{◌≡◌, ℕ, ◌+◌, ◌*◌, ◌<◌, ◌≤◌, List, [], true, Some, None, Ok, IsTrue}
 use Rattle.rv_types.specs.Isa.{Run, start}
 use Rattle.rv_types.specs.Memory.{Ram, Agree}
 use Rattle.elf_loader.specs.Image.{ImageText, image_of}
@@ -12,8 +12,6 @@ use Rattle.window_model.specs.Delay.{delays}
 use Rattle.window_model.specs.Path.{path, reads_of_trace}
 use Rattle.window_model.specs.Taint.{protects}
 use Rattle.window_model.specs.Committed.{exit_of, TrapsNext}
-use Rattle.secret_marks.specs.Alike.{AgreeBut}
-use Rattle.constant_time.specs.Laws.{any_byte_at}
 use Rattle.constant_time.specs.Leaks.{LeakAlike}
 use Rattle.report_text.specs.Report.{report_text}
 use Rattle.trace_text.specs.TraceText as trace
@@ -62,7 +60,7 @@ with_memory image m = record image { ram = m }
 -- image's, whatever it loads
 pub record Hides (d : Desc) (image : ImageText) (n : ℕ) (out out' : Told) : Type 0 where
   pub agreeing : protects d.stt_model ≡ true → (m : Ram) → Agree image.ram m (reads_of_trace d image.code image.entry image.ram n) → Wrote (trace.trace_text (trace_of d (with_memory image m) n)) out out'
-  pub leaking : protects d.stt_model ≡ true → delays d.stt_defence ≡ true → (m : Ram) → AgreeBut any_byte_at image.ram m
+  pub leaking : protects d.stt_model ≡ true → delays d.stt_defence ≡ true → (m : Ram) → Agree image.ram m []
       → LeakAlike (path d.stt_model) image.code ((trace_of d image n).retired + d.core_rob) (start image.entry image.ram) (start image.entry m)
       → Wrote (trace.trace_text (trace_of d (with_memory image m) n)) out out'
 

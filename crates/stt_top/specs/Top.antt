@@ -56,14 +56,24 @@ pub record Done (command : CommandText) (old new : World) : Type 0 where
 abbrev pub Asks : List (List ℕ) → (CommandText → Type 0) → Type 0
 Asks words P = (command : CommandText) × (command_of words ≡ Some command) × P command
 
--- how the program ends: a command's text is written whole, or in part where the sink failed; or the words are no
--- command, there are some and there was no memory, or what the command reads is refused, and nothing is written
+-- a command may need memory: for what it reads, or, once that is read, for its run
+abbrev pub CommandWants : CommandText → Shelf → Shelf → Type 0
+CommandWants command old new = CommandRefused command old new Memory ⊎ ((task : TaskText) × Runs command old new task)
+
+-- how a command ends, once the words were read: its text is written whole, or in part where the sink failed; or there
+-- was no memory where it needs some, or what it reads is refused, and nothing is written
+abbrev pub CommandEnds : CommandText → World → World → Result Ended Refusal → Type 0
+CommandEnds command old new (Ok ended) = (done : Done command old new) × Wrote done.work.text old.out new.out × (ended ≡ done.work.ended)
+CommandEnds command old new (Err Write) = (done : Done command old new) × WrotePrefix done.work.text old.out new.out
+CommandEnds command old new (Err Memory) = CommandWants command old.files new.files × (new.out ≡ old.out)
+CommandEnds command old new (Err refusal) = CommandRefused command old.files new.files refusal × (new.out ≡ old.out)
+
+-- how the program ends: the words are no command, or there are some and there was no memory, which may be for the words
+-- themselves; or they ask for a command, and the program ends as that does
 abbrev pub Ends : List (List ℕ) → World → World → Result Ended Refusal → Type 0
-Ends words old new (Ok ended) = Asks words (λ command. (done : Done command old new) × Wrote done.work.text old.out new.out × (ended ≡ done.work.ended))
-Ends words old new (Err Write) = Asks words (λ command. (done : Done command old new) × WrotePrefix done.work.text old.out new.out)
 Ends words old new (Err Words) = (command_of words ≡ None) × SameCounts old.files new.files × (new.out ≡ old.out)
 Ends words old new (Err Memory) = (words ≢ []) × SameCounts old.files new.files × (new.out ≡ old.out)
-Ends words old new (Err refusal) = Asks words (λ command. CommandRefused command old.files new.files refusal) × (new.out ≡ old.out)
+Ends words old new outcome = Asks words (λ command. CommandEnds command old new outcome)
 
 -- an outcome of the program, its status, and what the note gets of it
 abbrev pub EndsWith : List (List ℕ) → World → World → Told → Told → ℕ → Type 0

@@ -5,7 +5,8 @@ ghost use Rattle.std.specs.Prelude.{map};
 ghost use Rattle.tool_io.specs.Outside.{SameContents};
 ghost use Rattle.stt_top.specs.Work.{OneWork};
 ghost use Rattle.run_inputs.specs.Told.{world};
-ghost use Rattle.stt_top.specs.Top.{Ends, EndsWith, Statuses};
+ghost use Rattle.tool_words.specs.inner.Words.{command_text};
+ghost use Rattle.stt_top.specs.Top.{CommandEnds, Ends, EndsWith, Statuses};
 ghost use Rattle.stt_top.specs.Promises.{Promises, TracesAgree};
 
 use crate::outcome::{Ended, status_of};
@@ -14,7 +15,23 @@ use crate::task::read_task;
 use run_inputs::{Refusal, note_line};
 use std::alloc::Global;
 use tool_io::{Files, Sink};
-use tool_words::read_words;
+use tool_words::{Command, read_words};
+
+// The outcome of a command, with its text written to the output; no note is written. What is read is read first, so a
+// fault of it is never answered by want of memory for what stands behind it.
+fn answer_command<F: Files, O: Sink>(
+    alloc: Global,
+    command: Command<'_>,
+    files: &mut F,
+    out: &mut O,
+) -> Result<Ended, Refusal>
+    ensures ends { CommandEnds (command_text command.entry)
+        (world (F.shelf files.old) (O.told out.old)) (world (F.shelf files.new) (O.told out.new)) result }
+    ensures stays { SameContents (F.shelf files.old) (F.shelf files.new) }
+{
+    let task = read_task(alloc, command, files)?;
+    perform(alloc, task, out)
+}
 
 // The outcome of the words, with its text written to the output; no note is written.
 fn answer<F: Files, O: Sink>(
@@ -28,8 +45,7 @@ fn answer<F: Files, O: Sink>(
     ensures stays { SameContents (F.shelf files.old) (F.shelf files.new) }
 {
     let command = read_words(alloc, words)?;
-    let task = read_task(alloc, command, files)?;
-    perform(alloc, task, out)
+    answer_command(alloc, command, files, out)
 }
 
 /// Does all that the program does, and answers its status. `words` are those after the program's name. What is asked

@@ -1,5 +1,5 @@
 -- Beside Input.antt: what only clauses of the code and lemmas cite.
-use Rattle.std.specs.Prelude.{◌≡◌, ◌⊎◌, ℕ, IsUtf8, Bool, List, Option, None, Result, Err, MatchResult}
+use Rattle.std.specs.Prelude.{◌≡◌, ℕ, IsUtf8, Bool, List, Option, None, Result, Err, MatchResult}
 use Rattle.elf_loader.specs.Faults.{header_fault}
 use Rattle.elf_loader.specs.Image.{image_of}
 use Rattle.elf_loader.specs.declared.faults.ElfFault.{ElfFault}
@@ -17,7 +17,7 @@ use Rattle.run_inputs.specs.declared.reading.Unread.TheVariants.{Failed as ReadF
 use Rattle.run_inputs.specs.declared.refusal.Which.{Which}
 use Rattle.run_inputs.specs.declared.refusal.Refusal.{Refusal}
 use Rattle.run_inputs.specs.declared.refusal.Refusal.TheVariants.{Description, ReadImage, ImageTooLong, Image as NoImage, Memory}
-use Rattle.run_inputs.specs.Input.{image_max, MayGive, HasDesc, NamedRefused, ImageFrom, HasBytes, IsImage, FailsToRead, HasTooMany, HasFault, from_file, from_seed}
+use Rattle.run_inputs.specs.Input.{MayGive, HasDesc, NamedRefused, ImageFrom, HasBytes, BytesWant, ImageWants, IsImage, FailsToRead, HasTooMany, HasFault, from_file, from_seed}
 
 -- why a file of at most so many bytes isn't read; `old` and `new` are what the files tell before and after
 abbrev pub UnreadBy : List ℕ → ℕ → Shelf → Shelf → Unread → Type 0
@@ -50,11 +50,6 @@ LoadRefused which file base size misaligned (NoImage w fault) = (w ≡ which) ×
 LoadRefused which file base size misaligned Memory = header_fault file ≡ None
 LoadRefused which file base size misaligned _ = ⊥
 
--- the bytes of an image may need memory: those of a file to be copied, and others to be made
-abbrev pub BytesWant : Shelf → ImageFrom → Type 0
-BytesWant shelf (from_file name) = HasToCopy (shelf.content name) image_max
-BytesWant shelf (from_seed seed blocks) = Unit {0}
-
 -- why there are no bytes of an image
 abbrev pub BytesRefused : Which → ImageFrom → Shelf → Shelf → Refusal → Type 0
 BytesRefused which from old new (ReadImage w) = (w ≡ which) × FailsToRead old new from
@@ -66,10 +61,6 @@ BytesRefused which from old new _ = ⊥
 abbrev pub ReadsBytes : Which → ImageFrom → Shelf → Shelf → Result (List ℕ) Refusal → Type 0
 ReadsBytes which from old new result =
     MatchResult result (λ file. HasBytes (MayGive old) from file × SameCounts old new) (BytesRefused which from old new)
-
--- an image may need memory: for its bytes, or to be loaded
-abbrev pub ImageWants : Shelf → ImageFrom → Type 0
-ImageWants shelf from = BytesWant shelf from ⊎ ((file : List ℕ) × HasBytes (MayGive shelf) from file × (header_fault file ≡ None))
 
 -- why an image is refused
 abbrev pub ImageRefused : Which → Option Desc → ImageFrom → Shelf → Shelf → Refusal → Type 0

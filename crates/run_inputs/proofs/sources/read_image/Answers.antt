@@ -9,11 +9,11 @@ returns-clause-base g c =
     let base = base_of c.args.desc in
     let size = size_of c.args.desc in
     let misaligned = misaligned_of c.args.desc in
-    loaded_base c.as_slice.result.now base size misaligned c.load_image.result (λ e. LoadRefused c.args.which c.as_slice.result.now base size misaligned e) c.load_image.ensures
+    loaded_base c.as_slice.result.now base size misaligned c.load_image.result (λ e. LoadRefused c.args.which c.as_slice.result.now base size misaligned e) c.load_image.ensures.loads
 
 pub returns-clause-size : goal.returns-clause-size
 returns-clause-size g c =
     let base = base_of c.args.desc in
     let size = size_of c.args.desc in
     let misaligned = misaligned_of c.args.desc in
-    loaded_size c.as_slice.result.now base size misaligned c.load_image.result (λ e. LoadRefused c.args.which c.as_slice.result.now base size misaligned e) c.load_image.ensures
+    loaded_size c.as_slice.result.now base size misaligned c.load_image.result (λ e. LoadRefused c.args.which c.as_slice.result.now base size misaligned e) c.load_image.ensures.loads

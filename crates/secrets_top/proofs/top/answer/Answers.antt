@@ -1,58 +1,13 @@
--- A range that isn't accepted is refused; else what is told is told of the run that is wanted.
-use Rattle.std.proofs.Common.{List, ℕ, map, sym, ap₂, ◌∙◌, subst}
-use Rattle.run_inputs.specs.Told.{world}
-use Rattle.run_inputs.proofs.Exits.{at_exit}
-use Rattle.secret_marks.specs.declared.SecretRange.{SecretRange}
-use Rattle.secret_words.specs.Words.{WantedText}
+-- How the wish ends is how the program does.
+use Rattle.std.proofs.Common.{List, ℕ, map}
+use Rattle.run_inputs.specs.Told.{World, world}
 use Rattle.secret_words.specs.inner.Words.{wanted_text}
-use Rattle.secrets_top.specs.declared.refusal.Unjudged.TheVariants.{Range, Refused}
-use Rattle.secrets_top.specs.Ranges.{first_faulty}
-use Rattle.secrets_top.specs.Top.{Inputs, Accepted, Ends}
-use Rattle.secrets_top.specs.inner.Top.{Performs, image_in, verdict_on}
-use Rattle.secrets_top.proofs.Outcomes.{inputs_refused, range_refused, told_end}
+use Rattle.secrets_top.proofs.Outcomes.{wish_end}
 use Rattle.secrets_top.proofs.top.answer.Goals as goal
-
-pub returns-in_err-task-clause-ends : goal.returns-in_err-task-clause-ends
-returns-in_err-task-clause-ends g c =
-    let words : List (List ℕ) = map (λ w. w.now) c.args.words.now in
-    let old = g.F.Files.shelf c.args.files.now in
-    let new = g.F.Files.shelf c.read_task.new.files in
-    let out = g.O.Sink.told c.args.out.now in
-    let wanted : WantedText = wanted_text c.in_ok-wanted.wanted in
-    at_exit (Ends words (world old out) (world new out)) _ (Refused c.in_err-task.field-0.0) c.from_residual-in_err-task.ensures.1
-    (inputs_refused words old new out wanted c.in_err-task.field-0.0 c.in_ok-wanted.ensures.ok c.in_err-task.ensures.answer)
-
-pub returns-in_err-check_ranges-clause-ends : goal.returns-in_err-check_ranges-clause-ends
-returns-in_err-check_ranges-clause-ends g c =
-    let words : List (List ℕ) = map (λ w. w.now) c.args.words.now in
-    let old = g.F.Files.shelf c.args.files.now in
-    let new = g.F.Files.shelf c.read_task.new.files in
-    let out = g.O.Sink.told c.args.out.now in
-    let wanted : WantedText = wanted_text c.in_ok-wanted.wanted in
-    let task = c.in_ok-task.task in
-    let made = c.in_ok-task.ensures.answer in
-    let inputs : Inputs wanted old new = record { desc = made.desc; image = image_in task; read = made.read } in
-    at_exit (Ends words (world old out) (world new out)) _ (Range c.in_err-check_ranges.field-0.0) c.from_residual-in_err-check_ranges.ensures.1
-    (range_refused words old new out wanted inputs c.in_err-check_ranges.field-0.0 c.in_ok-wanted.ensures.ok
-    (ap₂ (λ image secret. first_faulty image 0 secret) (sym c.image.ensures) (sym c.as_slice.ensures.value) ∙ c.in_err-check_ranges.ensures))
 
 pub returns-clause-ends : goal.returns-clause-ends
 returns-clause-ends g c =
     let words : List (List ℕ) = map (λ w. w.now) c.args.words.now in
-    let old = g.F.Files.shelf c.args.files.now in
-    let new = g.F.Files.shelf c.read_task.new.files in
-    let out = g.O.Sink.told c.args.out.now in
-    let out' = g.O.Sink.told c.perform.new.out in
-    let wanted : WantedText = wanted_text c.in_ok-wanted.wanted in
-    let task = c.in_ok-task.task in
-    let made = c.in_ok-task.ensures.answer in
-    let inputs : Inputs wanted old new = record { desc = made.desc; image = image_in task; read = made.read } in
-    let accepted : Accepted wanted old new =
-    record {
-      inputs = inputs;
-      ranges = ap₂ (λ image secret. first_faulty image 0 secret) (sym c.image.ensures) (sym c.as_slice.ensures.value) ∙ c.in_ok-check_ranges.ensures;
-      verdict = verdict_on task wanted.secret wanted.public;
-      told = made.told wanted.secret wanted.public;
-    } in
-    let P : List SecretRange → Type 0 = λ s. Performs (verdict_on task s wanted.public) out out' c.perform.result in
-    told_end words old new out out' wanted accepted c.perform.result c.in_ok-wanted.ensures.ok (subst P c.as_slice-2.ensures.value c.perform.ensures)
+    let old : World = world (g.F.Files.shelf c.args.files.now) (g.O.Sink.told c.args.out.now) in
+    let new : World = world (g.F.Files.shelf c.answer_wish.new.files) (g.O.Sink.told c.answer_wish.new.out) in
+    wish_end words old new (wanted_text c.in_ok-wanted.wanted) c.answer_wish.result c.in_ok-wanted.ensures.ok c.answer_wish.ensures.ends
