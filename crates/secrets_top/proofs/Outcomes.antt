@@ -11,8 +11,8 @@ use Rattle.secrets_top.specs.declared.ranges.FaultyRange.{FaultyRange}
 use Rattle.secrets_top.specs.declared.refusal.Unjudged.{Unjudged}
 use Rattle.secrets_top.specs.declared.refusal.Unjudged.TheVariants.{Range, Refused}
 use Rattle.secrets_top.specs.declared.verdict.Verdict.{Verdict}
-use Rattle.secrets_top.specs.Top.{named, Inputs, RefusedInputs, Accepted, fault_in, WishWants, WishEnds, Ends}
-use Rattle.secrets_top.specs.inner.Top.{Performs}
+use Rattle.secrets_top.specs.Top.{named, Inputs, RefusedInputs, Accepted, fault_in, verdict_in, WishWants, WishEnds, Ends}
+use Rattle.secrets_top.specs.inner.Top.{Performs, PerformsAccepted}
 
 -- words that want something aren't none
 pub not_empty : (words : List (List ℕ)) (wanted : WantedText) → wanted_of words ≡ Some wanted → words ≡ [] → ⊥
@@ -33,19 +33,25 @@ inputs_refused wanted old new out Write c = absurd (no_write (named wanted.run) 
 inputs_refused wanted old new out Memory c = (inl c, refl)
 inputs_refused wanted old new out _ c = (c, refl)
 
--- a range of secret bytes is refused
-pub range_refused : (wanted : WantedText) (old new : Shelf) (out : Told) (inputs : Inputs wanted old new) (f : FaultyRange) → fault_in wanted inputs.image ≡ Some f
-    → WishEnds wanted (world old out) (world new out) (Err (Range f))
-range_refused wanted old new out inputs f e = (inputs, e, refl)
+-- where no range has a fault, the run is told as it is without ranges
+pub accepted_end : (fault : Option FaultyRange) (verdict : Verdict) (out out' : Told) (r : Result Verdict Unjudged) → fault ≡ None → Performs verdict out out' r
+    → PerformsAccepted fault verdict out out' r
+accepted_end fault verdict out out' (Ok told) e p = (e, p)
+accepted_end fault verdict out out' (Err (Range f)) e p = absurd p
+accepted_end fault verdict out out' (Err (Refused _)) e p = (e, p)
 
--- the run that is wanted is told
-pub told_end : (wanted : WantedText) (old new : Shelf) (out out' : Told) (a : Accepted wanted old new) (r : Result Verdict Unjudged) → Performs a.verdict out out' r
-    → WishEnds wanted (world old out) (world new out') r
-told_end wanted old new out out' a (Ok told) p = (a, p.0, p.1)
-told_end wanted old new out out' a (Err (Range f)) p = absurd p
-told_end wanted old new out out' a (Err (Refused Write)) p = (a, p)
-told_end wanted old new out out' a (Err (Refused Memory)) p = (inr a, p)
-told_end wanted old new out out' a (Err (Refused _)) p = absurd p
+module _ (wanted : WantedText) (old new : Shelf) (out out' : Told) (inputs : Inputs wanted old new) (verdict : Verdict) (told : verdict_in wanted inputs.desc inputs.image ≡ Some verdict) where
+  -- no range has a fault, and this is told of the run
+  accepted : fault_in wanted inputs.image ≡ None → Accepted wanted old new
+  accepted none = record { inputs = inputs; ranges = none; verdict = verdict; told = told }
+
+  -- a range is refused, or the run that is wanted is told
+  pub told_end : (r : Result Verdict Unjudged) → PerformsAccepted (fault_in wanted inputs.image) verdict out out' r → WishEnds wanted (world old out) (world new out') r
+  told_end (Ok v) p = (accepted p.0, p.1.0, p.1.1)
+  told_end (Err (Range f)) p = (inputs, p.0, p.1)
+  told_end (Err (Refused Write)) p = (accepted p.0, p.1)
+  told_end (Err (Refused Memory)) p = (inr (accepted p.0), p.1)
+  told_end (Err (Refused _)) p = absurd p.1
 
 -- want of memory leaves the counts of all files
 wants_alone : (wanted : WantedText) (old new : Shelf) → WishWants wanted old new → SameCounts old new

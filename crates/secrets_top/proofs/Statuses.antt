@@ -105,21 +105,19 @@ module _ (words : List (List ℕ)) (old new : World) where
   four (Ok v) e h = absurd (other_status v 4 (λ k. omega arith) h)
   four (Err (Range f)) e h = absurd (omega arith)
   four (Err (Refused DescriptionTooLong)) e h =
-      let a = e in
-      let n = refused_name (named a.0.run) old.files new.files DescriptionTooLong a.2.0 in
-      (a.0, a.1, (n.0, n.1, inl n.2.0))
+      let n = refused_name (named e.0.run) old.files new.files DescriptionTooLong e.2.0 in
+      (e.0, e.1, (n.0, n.1, inl n.2.0))
   four (Err (Refused (Description f))) e h =
-      let a = e in
-      let n = refused_name (named a.0.run) old.files new.files (Description f) a.2.0 in
-      (a.0, a.1, (n.0, n.1, inr (f, n.2.0)))
+      let n = refused_name (named e.0.run) old.files new.files (Description f) e.2.0 in
+      (e.0, e.1, (n.0, n.1, inr (f, n.2.0)))
   four (Err (Refused _)) e h = absurd (omega arith)
 
   five : (r : Result Verdict Unjudged) → Ends words old new r → status_of r ≡ 5
       → Wants words (λ wanted. (desc : Option Desc) × HasDesc (MayGive old.files) (named wanted.run) desc × IsFaultyImage (MayGive old.files) desc (from_file wanted.image))
   five (Ok v) e h = absurd (other_status v 5 (λ k. omega arith) h)
   five (Err (Range f)) e h = absurd (omega arith)
-  five (Err (Refused (ImageTooLong which))) e h = let a = e in let r = too_long a.0 which a.2.0 in (a.0, a.1, (r.0, r.1, inl r.2))
-  five (Err (Refused (Image which f))) e h = let a = e in let r = at_fault a.0 which f a.2.0 in (a.0, a.1, (r.0, r.1, inr (f, r.2)))
+  five (Err (Refused (ImageTooLong which))) e h = let r = too_long e.0 which e.2.0 in (e.0, e.1, (r.0, r.1, inl r.2))
+  five (Err (Refused (Image which f))) e h = let r = at_fault e.0 which f e.2.0 in (e.0, e.1, (r.0, r.1, inr (f, r.2)))
   five (Err (Refused _)) e h = absurd (omega arith)
 
   six : (r : Result Verdict Unjudged) → Ends words old new r → status_of r ≡ 6
@@ -127,8 +125,8 @@ module _ (words : List (List ℕ)) (old new : World) where
       ⊎ ((desc : Option Desc) × HasDesc (MayGive old.files) (named wanted.run) desc × NameFailed wanted.image old.files new.files))
   six (Ok v) e h = absurd (other_status v 6 (λ k. omega arith) h)
   six (Err (Range f)) e h = absurd (omega arith)
-  six (Err (Refused ReadDescription)) e h = let a = e in (a.0, a.1, inl (refused_name (named a.0.run) old.files new.files ReadDescription a.2.0))
-  six (Err (Refused (ReadImage which))) e h = let a = e in (a.0, a.1, inr (unread a.0 which a.2.0))
+  six (Err (Refused ReadDescription)) e h = (e.0, e.1, inl (refused_name (named e.0.run) old.files new.files ReadDescription e.2.0))
+  six (Err (Refused (ReadImage which))) e h = (e.0, e.1, inr (unread e.0 which e.2.0))
   six (Err (Refused _)) e h = absurd (omega arith)
 
   seven : (r : Result Verdict Unjudged) → Ends words old new r → status_of r ≡ 7

@@ -5,9 +5,11 @@ ghost use Rattle.elf_loader.specs.inner.Code.{word_at};
 ghost use Rattle.pair_run.specs.Running.{ending_at};
 ghost use Rattle.run_inputs.specs.Loaded.{Fits, loaded};
 ghost use Rattle.secrets_top.specs.Verdict.{verdict_from, verdict_of};
-ghost use Rattle.secrets_top.specs.inner.Top.{InMemory, Performs, verdict_on};
+ghost use Rattle.secrets_top.specs.Ranges.{first_faulty};
+ghost use Rattle.secrets_top.specs.inner.Top.{InMemory, Performs, PerformsAccepted, image_in, verdict_on};
 
 use crate::path::judge_path;
+use crate::ranges::check_ranges;
 use crate::refusal::Unjudged;
 use crate::task::Task;
 use crate::verdict::{Verdict, told_of, write_verdict};
@@ -80,9 +82,9 @@ fn judge(
     }
 }
 
-/// Tells what a run shows. Errors: `Memory`, before anything is written; `Write`, only where the sink's count of faults
-/// rose, with a part of the text written.
-pub(crate) fn perform<O: Sink>(
+// Tells what a run shows. Errors: `Memory`, before anything is written; `Write`, only where the sink's count of faults
+// rose, with a part of the text written.
+fn tell<O: Sink>(
     alloc: Global,
     task: Task,
     secret: &[SecretRange],
@@ -95,4 +97,25 @@ pub(crate) fn perform<O: Sink>(
     let verdict = judge(alloc, task, secret, public)?;
     write_verdict(&verdict, out)?;
     Ok(verdict)
+}
+
+/// Tells what the run of what was read shows, where each range is accepted. Errors: `Range`, the first that isn't, and
+/// nothing else is told then, want of memory neither; `Memory`, before anything is written; `Write`, only where the
+/// sink's count of faults rose, with a part of the text written.
+pub(crate) fn perform<O: Sink>(
+    alloc: Global,
+    task: Task,
+    secret: &[SecretRange],
+    public: PublicStreams,
+    out: &mut O,
+) -> Result<Verdict, Unjudged>
+    requires { InMemory task }
+    ensures { PerformsAccepted (first_faulty (image_in task) 0 secret.now) (verdict_on task secret.now public)
+        (O.told out.old) (O.told out.new) result }
+{
+    match check_ranges(task.image(), secret) {
+        Ok(()) => {}
+        Err(faulty) => return Err(Unjudged::Range(faulty)),
+    }
+    tell(alloc, task, secret, public, out)
 }

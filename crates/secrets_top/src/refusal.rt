@@ -2,7 +2,7 @@
 ghost use Rattle.std.specs.Prelude.{◌≡◌, Result};
 ghost use Rattle.run_inputs.specs.Refused.{words_refused};
 ghost use Rattle.run_inputs.specs.declared.refusal.Refusal.TheVariants.{Write, Memory};
-ghost use Rattle.secrets_top.specs.declared.refusal.Unjudged.TheVariants.{Range, Refused};
+ghost use Rattle.secrets_top.specs.declared.refusal.Unjudged.TheVariants.{Refused};
 ghost use Rattle.secrets_top.specs.Refused.{fault_word, range_line, note_line, status_of};
 
 use crate::ranges::{FaultyRange, RangeFault};
@@ -23,14 +23,6 @@ pub(crate) enum Unjudged {
     /// Words, a description or an image are refused, the text couldn't be written whole, or there was no memory.
     #[error("{0}")]
     Refused(Refusal),
-}
-
-impl From<FaultyRange> for Unjudged {
-    ghost from_gives = { λ faulty r. r ≡ Range faulty };
-
-    fn from(faulty: FaultyRange) -> Unjudged {
-        Unjudged::Range(faulty)
-    }
 }
 
 impl From<Refusal> for Unjudged {

@@ -9,7 +9,6 @@ ghost use Rattle.secrets_top.specs.Top.{WishEnds, Ends, EndsWith, Statuses};
 ghost use Rattle.secrets_top.specs.Promises.{Promises};
 
 use crate::performing::perform;
-use crate::ranges::check_ranges;
 use crate::refusal::{Unjudged, note_line, status_of};
 use crate::task::read_task;
 use crate::verdict::Verdict;
@@ -17,8 +16,7 @@ use secret_words::{Wanted, read_wanted};
 use std::alloc::Global;
 use tool_io::{Files, Sink};
 
-// What the words want: reads the description, if one is named, and the image, checks the ranges, and runs and tells what
-// shows. What is read and the ranges come first, so a fault of them is never answered by want of memory for the run.
+// What the words want: reads the description, if one is named, and the image, and then tells what the run shows.
 fn answer_wish<F: Files, O: Sink>(
     alloc: Global,
     wanted: Wanted<'_>,
@@ -30,7 +28,6 @@ fn answer_wish<F: Files, O: Sink>(
     ensures stays { SameContents (F.shelf files.old) (F.shelf files.new) }
 {
     let task = read_task(alloc, wanted.image, wanted.run, files)?;
-    check_ranges(task.image(), wanted.secret.as_slice())?;
     perform(alloc, task, wanted.secret.as_slice(), wanted.public, out)
 }
 

@@ -84,34 +84,30 @@ module _ (words : List (List ℕ)) (old new : World) where
       → Asks words (λ command. (name : List ℕ) × (description_name command ≡ Some name) × IsFaultyDescription (MayGive old.files) name)
   four (Ok ended) e h = absurd (other_status ended 4 (λ k. omega arith) h)
   four (Err DescriptionTooLong) e h =
-      let a = e in
-      let n = named (description_name a.0) old.files new.files DescriptionTooLong a.2.0 in
-      (a.0, a.1, (n.0, n.1, inl n.2.0))
+      let n = named (description_name e.0) old.files new.files DescriptionTooLong e.2.0 in
+      (e.0, e.1, (n.0, n.1, inl n.2.0))
   four (Err (Description f)) e h =
-      let a = e in
-      let n = named (description_name a.0) old.files new.files (Description f) a.2.0 in
-      (a.0, a.1, (n.0, n.1, inr (f, n.2.0)))
+      let n = named (description_name e.0) old.files new.files (Description f) e.2.0 in
+      (e.0, e.1, (n.0, n.1, inr (f, n.2.0)))
   four (Err _) e h = absurd (omega arith)
 
   five : (r : Result Ended Refusal) → Ends words old new r → status_of r ≡ 5
       → Asks words (λ command. (which : Which) × ImageRefusedAt command old.files (place_of which) (IsFaultyImage (MayGive old.files)))
   five (Ok ended) e h = absurd (other_status ended 5 (λ k. omega arith) h)
   five (Err (ImageTooLong which)) e h =
-      let a = e in
-      let wider = refused_for old.files (description_name a.0) (sources a.0) (place_of which) (λ desc from. HasTooMany (MayGive old.files) from) (IsFaultyImage (MayGive old.files)) (λ desc from m. inl m) a.2.0.0 in
-      (a.0, a.1, (which, wider))
+      let wider = refused_for old.files (description_name e.0) (sources e.0) (place_of which) (λ desc from. HasTooMany (MayGive old.files) from) (IsFaultyImage (MayGive old.files)) (λ desc from m. inl m) e.2.0.0 in
+      (e.0, e.1, (which, wider))
   five (Err (Image which f)) e h =
-      let a = e in
-      let wider = refused_for old.files (description_name a.0) (sources a.0) (place_of which) (λ desc from. HasFault (MayGive old.files) desc from f) (IsFaultyImage (MayGive old.files)) (λ desc from m. inr (f, m)) a.2.0.0 in
-      (a.0, a.1, (which, wider))
+      let wider = refused_for old.files (description_name e.0) (sources e.0) (place_of which) (λ desc from. HasFault (MayGive old.files) desc from f) (IsFaultyImage (MayGive old.files)) (λ desc from m. inr (f, m)) e.2.0.0 in
+      (e.0, e.1, (which, wider))
   five (Err _) e h = absurd (omega arith)
 
   six : (r : Result Ended Refusal) → Ends words old new r → status_of r ≡ 6
       → Asks words (λ command. ((name : List ℕ) × (description_name command ≡ Some name) × NameFailed name old.files new.files)
       ⊎ ((which : Which) × ImageRefusedAt command old.files (place_of which) (λ desc from. FailsToRead old.files new.files from)))
   six (Ok ended) e h = absurd (other_status ended 6 (λ k. omega arith) h)
-  six (Err ReadDescription) e h = let a = e in (a.0, a.1, inl (named (description_name a.0) old.files new.files ReadDescription a.2.0))
-  six (Err (ReadImage which)) e h = let a = e in (a.0, a.1, inr (which, a.2.0))
+  six (Err ReadDescription) e h = (e.0, e.1, inl (named (description_name e.0) old.files new.files ReadDescription e.2.0))
+  six (Err (ReadImage which)) e h = (e.0, e.1, inr (which, e.2.0))
   six (Err _) e h = absurd (omega arith)
 
   seven : (r : Result Ended Refusal) → Ends words old new r → status_of r ≡ 7

@@ -1,5 +1,5 @@
 -- Beside Top.antt: what only clauses of the code and lemmas cite.
-use Rattle.std.specs.Prelude.{◌≡◌, ℕ, List, [], ◌∷◌, Option, Some, Result, Ok, Err, MatchResult}
+use Rattle.std.specs.Prelude.{◌≡◌, ℕ, List, [], ◌∷◌, Option, Some, None, Result, Ok, Err, MatchResult}
 use Rattle.elf_loader.specs.Image.{ImageText}
 use Rattle.machine_desc.specs.declared.Desc.{Desc}
 use Rattle.tool_io.specs.Outside.{Shelf, Told, Wrote, WrotePrefix}
@@ -10,8 +10,9 @@ use Rattle.run_inputs.specs.declared.refusal.Refusal.TheVariants.{Write, Memory}
 use Rattle.secret_marks.specs.declared.PublicStreams.{PublicStreams}
 use Rattle.secret_marks.specs.declared.SecretRange.{SecretRange}
 use Rattle.secret_words.specs.Words.{RunText}
+use Rattle.secrets_top.specs.declared.ranges.FaultyRange.{FaultyRange}
 use Rattle.secrets_top.specs.declared.refusal.Unjudged.{Unjudged}
-use Rattle.secrets_top.specs.declared.refusal.Unjudged.TheVariants.{Refused}
+use Rattle.secrets_top.specs.declared.refusal.Unjudged.TheVariants.{Range, Refused}
 use Rattle.secrets_top.specs.declared.task.Task.{Task}
 use Rattle.secrets_top.specs.declared.task.Task.TheVariants.{Core, Path}
 use Rattle.secrets_top.specs.declared.verdict.Verdict.{Verdict}
@@ -50,3 +51,9 @@ Performs verdict out out' (Ok told) = Wrote (verdict_text verdict) out out' × (
 Performs verdict out out' (Err (Refused Write)) = WrotePrefix (verdict_text verdict) out out'
 Performs verdict out out' (Err (Refused Memory)) = out' ≡ out
 Performs verdict out out' (Err cause) = ⊥
+
+-- how the run of what was read is told, by the first range with a fault, if one has any: with that range refused and
+-- nothing written, or, where none has, as the run is told; so want of memory is never told for a range
+abbrev pub PerformsAccepted : Option FaultyRange → Verdict → Told → Told → Result Verdict Unjudged → Type 0
+PerformsAccepted fault verdict out out' (Err (Range faulty)) = (fault ≡ Some faulty) × (out' ≡ out)
+PerformsAccepted fault verdict out out' result = (fault ≡ None) × Performs verdict out out' result

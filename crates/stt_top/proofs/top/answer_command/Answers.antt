@@ -13,7 +13,7 @@ returns-in_err-task-clause-ends g c =
     let old = g.F.Files.shelf c.args.files.now in
     let new = g.F.Files.shelf c.read_task.new.files in
     let out = g.O.Sink.told c.args.out.now in
-    at_exit (CommandEnds command (world old out) (world new out)) _ c.in_err-task.field-0.0 c.from_residual-in_err-task.ensures.1
+    at_exit (CommandEnds command (world old out) (world new out)) _ c.in_err-task.field-0.0 c.from_residual.ensures.1
     (command_refused command old new out c.in_err-task.field-0.0 c.in_err-task.ensures.answer)
 
 pub returns-clause-ends : goal.returns-clause-ends
