@@ -1,0 +1,5 @@
+pub mod Adding
+pub mod Distinct
+pub mod Each
+pub mod Events
+pub mod Sums

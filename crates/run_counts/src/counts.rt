@@ -1,0 +1,96 @@
+//! The numbers of a run, as they are counted row by row.
+ghost use Rattle.std.specs.Prelude.{◌≡◌, ◌<◌, ◌+◌, List, ℕ, [], Some, length, slice_get};
+
+use crate::names::COUNTED;
+use crate::places::{further_of, place_of};
+use std::marker::Model;
+use window_model::{Event, Row};
+
+/// The numbers of a run, seen as a list in their order. They take no memory, and stop at the greatest of 64 bits.
+#[derive(Drop)]
+pub struct Counts {
+    numbers: [u64; COUNTED],
+}
+
+impl Model for Counts {
+    ghost use Rattle.std.specs.Prelude.{List, ℕ};
+
+    ghost Value = { List ℕ };
+
+    ghost view = { λ c. c.numbers };
+}
+
+ghost use Rattle.run_counts.specs.Counted.{names, numbers};
+ghost use Rattle.run_counts.specs.inner.Counting.{more, after_event, after_events, each, together, with_row};
+
+// Adds to the number at a place.
+fn add_at(numbers: &mut [u64; COUNTED], place: usize, n: u64)
+    requires { place < COUNTED }
+    ensures { (at : List ℕ) → slice_get names place ≡ Some at
+        → numbers.new ≡ each (λ name k. more name at n k) names numbers.old }
+{
+    numbers[place] = numbers[place].saturating_add(n);
+}
+
+// Adds what an event adds that comes right behind another, if there is one.
+fn count_event(numbers: &mut [u64; COUNTED], before: Option<Event>, event: Event)
+    ensures { numbers.new ≡ each (λ name k. after_event name before event k) names numbers.old }
+{
+    add_at(numbers, place_of(before, event), 1);
+    if let Some((place, n)) = further_of(event) {
+        add_at(numbers, place, n);
+    }
+}
+
+// Adds what events add that come one after the other.
+fn count_events(numbers: &mut [u64; COUNTED], events: &[Event])
+    ensures { numbers.new ≡ each (λ name k. after_events name None events.now k) names numbers.old }
+{
+    let mut before = None;
+    for event in events {
+        count_event(numbers, before, *event);
+        before = Some(*event);
+    }
+}
+
+// Adds the numbers of another part of the run.
+fn add_each(numbers: &mut [u64; COUNTED], others: &[u64; COUNTED])
+    ensures { numbers.new ≡ together numbers.old others.now }
+{
+    for place in 0..COUNTED {
+        numbers[place] = numbers[place].saturating_add(others[place]);
+    }
+}
+
+impl Counts {
+    /// The numbers of no row.
+    pub fn new() -> Self
+        ensures { result ≡ numbers [] }
+    {
+        Counts {
+            numbers: [0; COUNTED],
+        }
+    }
+
+    /// Counts the events of a row.
+    pub fn count(&mut self, row: &Row)
+        ensures { self.new ≡ with_row row.now self.old }
+    {
+        count_events(&mut self.numbers, row.events());
+    }
+
+    /// Adds the numbers of the rows that come behind those of which these are.
+    pub fn add(&mut self, others: &Counts)
+        ensures { self.new ≡ together self.old others.now }
+    {
+        add_each(&mut self.numbers, &others.numbers);
+    }
+
+    /// The numbers, in their order.
+    pub fn as_slice(&self) -> &[u64]
+        ensures value { result.now ≡ self.now }
+        ensures len { length result.now ≡ COUNTED }
+    {
+        &self.numbers
+    }
+}

@@ -1,0 +1,115 @@
+//! Where a number stands that an event adds to.
+ghost use Rattle.std.specs.Prelude.{◌≡◌, ◌<◌, MatchOption, IfSome, List, ℕ, Some, None, slice_get};
+ghost use Rattle.run_counts.specs.Counted.{names, load_name, prefetch_name, way_name, store_name, squash_name, name_of, further_of};
+
+use crate::names::COUNTED;
+use window_model::{Event, Look, Way};
+
+// The place of the number that counts a squash, by the event right before it.
+#[tactic(auto, unfolding(crate::specs::Counted::names))]
+fn squash_place(before: Option<Event>) -> usize
+    ensures at { slice_get names result ≡ Some (squash_name before) }
+    ensures few { result < COUNTED }
+{
+    match before {
+        Some(Event::Bp(_, _)) => 22,
+        Some(Event::Dp(_, _)) => 29,
+        _ => 23,
+    }
+}
+
+// The place of the number that counts where a load found a line.
+#[tactic(auto, unfolding(crate::specs::Counted::names))]
+fn load_place(look: Look) -> usize
+    ensures at { slice_get names result ≡ Some (load_name look) }
+    ensures few { result < COUNTED }
+{
+    match look {
+        Look::Hit => 9,
+        Look::Second => 10,
+        Look::Miss => 11,
+        Look::Join => 12,
+    }
+}
+
+// The place of the number that counts from where a line is prefetched.
+#[tactic(auto, unfolding(crate::specs::Counted::names))]
+fn prefetch_place(look: Look) -> usize
+    ensures at { slice_get names result ≡ Some (prefetch_name look) }
+    ensures few { result < COUNTED }
+{
+    match look {
+        Look::Second => 15,
+        _ => 16,
+    }
+}
+
+// The place of the number that counts how a branch or JALR went.
+#[tactic(auto, unfolding(crate::specs::Counted::names))]
+fn way_place(way: Way) -> usize
+    ensures at { slice_get names result ≡ Some (way_name way) }
+    ensures few { result < COUNTED }
+{
+    match way {
+        Way::Taken => 19,
+        Way::NotTaken => 20,
+        Way::Jump => 21,
+    }
+}
+
+// The place of the number that counts a line that a store wrote.
+#[tactic(auto, unfolding(crate::specs::Counted::names))]
+fn store_place(found: bool) -> usize
+    ensures at { slice_get names result ≡ Some (store_name found) }
+    ensures few { result < COUNTED }
+{
+    if found { 31 } else { 32 }
+}
+
+/// The place of the number to which an event adds one, by the event right before it in its cycle.
+#[tactic(auto, unfolding(crate::specs::Counted::names))]
+pub(crate) fn place_of(before: Option<Event>, event: Event) -> usize
+    ensures at { slice_get names result ≡ Some (name_of before event) }
+    ensures few { result < COUNTED }
+{
+    match event {
+        Event::Ret(_) => 0,
+        Event::Fet(_) => 1,
+        Event::Ren(_, _) => 2,
+        Event::Alu(_) => 3,
+        Event::Mul(_) => 4,
+        Event::Div(_, _) => 5,
+        Event::Agu(_) => 7,
+        Event::Std(_) => 8,
+        Event::Ld(_, _, look) => load_place(look),
+        Event::LdForward(_) => 13,
+        Event::LdFault(_) => 14,
+        Event::Pf(_, look) => prefetch_place(look),
+        Event::Fill(_) => 17,
+        Event::Done(_) => 18,
+        Event::Res(_, way) => way_place(way),
+        Event::Bp(_, _) => 24,
+        Event::Bt(_, _) => 25,
+        Event::Clr(_) => 26,
+        Event::Vio(_) => 27,
+        Event::Dp(_, _) => 28,
+        Event::Sq(_) => squash_place(before),
+        Event::St(_, _, found) => store_place(found),
+        Event::Call(_, _) => 33,
+    }
+}
+
+/// What an event adds to a further number, where it tells an amount: the number's place, and how much.
+#[tactic(auto, unfolding(crate::specs::Counted::names))]
+pub(crate) fn further_of(event: Event) -> Option<(usize, u64)>
+    ensures at { MatchOption result (further_of event ≡ None)
+        (λ f. (at : List ℕ) × (further_of event ≡ Some (at, f.1)) × (slice_get names f.0 ≡ Some at)) }
+    ensures few { IfSome result (λ f. f.0 < COUNTED) }
+{
+    match event {
+        Event::Div(_, time) => Some((6, time as u64)),
+        Event::Sq(count) => Some((30, count as u64)),
+        Event::Call(_, count) => Some((34, count as u64)),
+        _ => None,
+    }
+}
