@@ -11,7 +11,6 @@ ghost use Rattle.path_marks.specs.State.{next_shown};
 
 use crate::moving::move_marks;
 use crate::showing::shows_as;
-use crate::sources::access_at;
 use elf_loader::Image;
 use isa_step::{Isa, Stepped};
 use mark_words::{UNMARKED, publish, secret_bytes};
@@ -117,13 +116,18 @@ impl MarkedPath {
         let Some(instr) = self.isa.instr() else {
             return self.isa.step(out);
         };
-        let addr = access_at(self.isa.regs(), &instr);
+        let base = self.isa.ram().base();
         let stream = self.isa.regs()[10];
         let from = self.isa.regs()[11];
+        move_marks(
+            &mut self.regs,
+            &mut self.bytes,
+            base,
+            self.isa.regs(),
+            &instr,
+        );
         let stepped = self.isa.step(out);
         if let Stepped::Next = stepped {
-            let base = self.isa.ram().base();
-            move_marks(&mut self.regs, &mut self.bytes, base, addr, &instr);
             let at = from.saturating_sub(base);
             publish(&mut self.bytes, self.public, stream, at, out.as_slice());
         }

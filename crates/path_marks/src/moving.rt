@@ -1,15 +1,14 @@
 //! How an instruction moves marks.
-ghost use Rattle.std.specs.Prelude.{◌≡◌, ◌-◌, false, get_or, length};
-ghost use Rattle.rv_types.specs.Regs.{reads_of};
+ghost use Rattle.std.specs.Prelude.{◌≡◌, ◌+◌, ◌-◌, ◌≤◌, false, get_or, length};
 ghost use Rattle.rv_types.specs.declared.Op.TheVariants.{Lw};
 ghost use Rattle.secret_marks.specs.Results.{loaded_marks, result_marks};
-ghost use Rattle.constant_time.specs.PathMarks.{first_mark, second_mark};
-ghost use Rattle.path_marks.specs.Moved.{InMemory, moved};
+ghost use Rattle.secret_marks.specs.Marks.{with_byte_marks};
+ghost use Rattle.path_marks.specs.Moved.{InMemory, access_at, moved};
 
-use crate::sources::{first_source, second_source};
+use crate::sources::access_at;
 use mark_words::{
-    UNMARKED, every_byte, lower_half, lowest_byte, result_marks, signed_half, write_memory,
-    write_register,
+    UNMARKED, any_byte, every_byte, lower_half, lowest_byte, result_marks, signed_half,
+    write_memory, write_register,
 };
 use rv_types::{Instr, Op, REGISTERS, width_of};
 use secret_marks::WordMarks;
@@ -50,40 +49,64 @@ fn loaded(bytes: &[bool], base: u32, op: Op, addr: u32) -> WordMarks
     }
 }
 
-// The marks of an instruction's value that its sources decide.
-fn value_marks(regs: &[WordMarks; REGISTERS], instr: &Instr) -> WordMarks
-    ensures { result ≡ result_marks instr.now (first_mark (reads_of instr.now) regs.now)
-        (second_mark (reads_of instr.now) regs.now) }
+// The marks of an instruction's value, by those of its first and second source: none where those have none.
+#[inline]
+fn value_marks(instr: &Instr, first: WordMarks, second: WordMarks) -> WordMarks
+    ensures { result ≡ result_marks instr.now first second }
 {
-    result_marks(instr, first_source(regs, instr), second_source(regs, instr))
+    if any_byte(first) | any_byte(second) {
+        result_marks(instr, first, second)
+    } else {
+        UNMARKED
+    }
 }
 
-/// Moves the marks as an instruction does that accesses memory with this base at this address, and doesn't fault.
+// Gives `count` bytes of memory, from a position on, the marks of a word's lowest bytes, if memory has them all.
+#[inline]
+fn store_marks(bytes: &mut Vec<bool>, at: usize, count: u32, marks: WordMarks)
+    requires few { count ≤ 4 }
+    ensures marks { at + count ≤ length bytes.old.items
+        → bytes.new.items ≡ with_byte_marks bytes.old.items at count marks }
+    ensures memory { length bytes.new.items ≡ length bytes.old.items }
+{
+    if at <= bytes.len() && count as usize <= bytes.len() - at {
+        write_memory(bytes, at, count, marks);
+    }
+}
+
+/// Moves the marks as an instruction does, by the values of the registers before it and memory with this base. What
+/// a store does outside memory isn't said: it faults there.
+#[inline]
 pub(crate) fn move_marks(
     regs: &mut [WordMarks; REGISTERS],
     bytes: &mut Vec<bool>,
     base: u32,
-    addr: u32,
+    values: &[u32; REGISTERS],
     instr: &Instr,
 )
-    requires inside { InMemory base addr instr.now (length bytes.old.items) }
-    ensures marks { record { regs = regs.new; bytes = bytes.new.items }
-        ≡ moved base addr instr.now (record { regs = regs.old; bytes = bytes.old.items }) }
+    ensures marks { InMemory base (access_at values.now instr.now) instr.now (length bytes.old.items)
+        → record { regs = regs.new; bytes = bytes.new.items }
+        ≡ moved base (access_at values.now instr.now) instr.now (record { regs = regs.old; bytes = bytes.old.items }) }
     ensures memory { length bytes.new.items ≡ length bytes.old.items }
 {
     match *instr {
         Instr::Load { op, .. } => {
-            let marks = loaded(bytes.as_slice(), base, op, addr);
+            let marks = loaded(bytes.as_slice(), base, op, access_at(values, instr));
             write_register(regs, instr, marks);
         }
         Instr::Store { op, rs2, .. } => {
-            let at = addr.saturating_sub(base) as usize;
-            write_memory(bytes, at, width_of(op).bytes(), regs[rs2.number as usize]);
+            let at = access_at(values, instr).saturating_sub(base) as usize;
+            store_marks(bytes, at, width_of(op).bytes(), regs[rs2.number as usize]);
         }
         Instr::Ecall => regs[10] = UNMARKED,
-        _ => {
-            let marks = value_marks(regs, instr);
+        Instr::OpImm { rs1, .. } => {
+            let marks = value_marks(instr, regs[rs1.number as usize], UNMARKED);
             write_register(regs, instr, marks);
         }
+        Instr::OpReg { rs1, rs2, .. } => {
+            let marks = value_marks(instr, regs[rs1.number as usize], regs[rs2.number as usize]);
+            write_register(regs, instr, marks);
+        }
+        _ => write_register(regs, instr, UNMARKED),
     }
 }
