@@ -39,22 +39,30 @@ fn unmark_piece(bytes: &mut Vec<bool>, at: u32, piece: &[u8])
 }
 
 /// Unmarks the bytes of a piece that memory has from a position on, where its stream is public.
+#[inline(always)]
 pub fn publish(bytes: &mut Vec<bool>, public: PublicStreams, stream: u32, at: u32, piece: &[u8])
     requires inside { piece.now ≢ [] → at + length piece.now ≤ length bytes.old.items }
     ensures bytes { bytes.new.items
         ≡ unmarked_at at (if public_in public stream then piece.now else []) bytes.old.items }
     ensures memory { length bytes.new.items ≡ length bytes.old.items }
 {
+    if piece.is_empty() {
+        return;
+    }
     if is_public(public, stream) {
         unmark_piece(bytes, at, piece);
     }
 }
 
 /// How many bytes of a piece are published: all of them where its stream is public, else none.
+#[inline(always)]
 pub fn count_published(public: PublicStreams, stream: u32, piece: &[u8]) -> u64
     ensures value { result ≡ length (if public_in public stream then piece.now else []) }
     ensures most { result ≤ length piece.now }
 {
+    if piece.is_empty() {
+        return 0;
+    }
     if is_public(public, stream) {
         piece.len() as u64
     } else {

@@ -11,6 +11,7 @@ use rv_types::{Instr, REGISTERS, writes_of};
 use secret_marks::WordMarks;
 
 /// Gives the register that an instruction writes these marks, if there is one.
+#[inline]
 pub fn write_register(regs: &mut [WordMarks; REGISTERS], instr: &Instr, marks: WordMarks)
     ensures { regs.new ≡ with_marks regs.old (writes_of instr.now) marks }
 {

@@ -1,5 +1,5 @@
 //! The marks of what an instruction computes (`docs/theorems.md`, "Secrets that are loaded").
-ghost use Rattle.std.specs.Prelude.{◌≡◌};
+ghost use Rattle.std.specs.Prelude.{◌≡◌, true};
 ghost use Rattle.secret_marks.specs.Results.{
   add_constant,
   and_constant,
@@ -12,9 +12,10 @@ ghost use Rattle.secret_marks.specs.Results.{
   result_marks,
   right_by,
 };
+ghost use Rattle.secret_marks.specs.Words.{every_byte, unmarked};
 
 use crate::words::{
-    UNMARKED, any_byte, downward, either, every_byte, lowest_byte, smeared, upward,
+    UNMARKED, all_bytes, any_byte, downward, either, every_byte, lowest_byte, smeared, upward,
 };
 use rv_types::{Instr, Op};
 use secret_marks::WordMarks;
@@ -26,8 +27,19 @@ fn by_known(b: WordMarks, marks: WordMarks) -> WordMarks
     if any_byte(b) { every_byte(true) } else { marks }
 }
 
-// The marks of a value made of two operands.
-fn of_operands(op: Op, a: WordMarks, b: WordMarks) -> WordMarks
+// The marks of a value made of two operands of which one is marked in every byte.
+#[inline(always)]
+fn of_whole(op: Op) -> WordMarks
+    ensures { result ≡ of_operands op (every_byte true) unmarked }
+{
+    match op {
+        Op::Slt | Op::Sltu => lowest_byte(true),
+        _ => every_byte(true),
+    }
+}
+
+// The marks of a value made of two operands, byte by byte.
+fn of_bytes(op: Op, a: WordMarks, b: WordMarks) -> WordMarks
     ensures { result ≡ of_operands op a b }
 {
     match op {
@@ -37,6 +49,18 @@ fn of_operands(op: Op, a: WordMarks, b: WordMarks) -> WordMarks
         Op::Srl => by_known(b, downward(a)),
         Op::Slt | Op::Sltu => lowest_byte(any_byte(either(a, b))),
         _ => smeared(either(a, b)),
+    }
+}
+
+// The marks of a value made of two operands.
+#[inline(always)]
+fn of_operands(op: Op, a: WordMarks, b: WordMarks) -> WordMarks
+    ensures { result ≡ of_operands op a b }
+{
+    if all_bytes(a) | all_bytes(b) {
+        of_whole(op)
+    } else {
+        of_bytes(op, a, b)
     }
 }
 
@@ -129,6 +153,7 @@ fn right_by(n: u32, a: WordMarks) -> WordMarks
 }
 
 // The marks of a value made of an operand and a constant.
+#[inline(always)]
 fn of_constant(op: Op, c: u32, a: WordMarks) -> WordMarks
     ensures { result ≡ of_constant op c a }
 {
@@ -153,6 +178,7 @@ fn of_zero(op: Op, a: WordMarks, b: WordMarks) -> WordMarks
 }
 
 /// The marks of an instruction's value, by those of its first and second source.
+#[inline(always)]
 pub fn result_marks(instr: &Instr, a: WordMarks, b: WordMarks) -> WordMarks
     ensures { result ≡ result_marks instr.now a b }
 {

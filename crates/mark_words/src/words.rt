@@ -1,5 +1,5 @@
 //! What becomes of the marks of words (`docs/theorems.md`, "Secrets that are loaded").
-ghost use Rattle.std.specs.Prelude.{◌≡◌};
+ghost use Rattle.std.specs.Prelude.{◌≡◌, ◌&&◌};
 ghost use Rattle.secret_marks.specs.Words.{any_byte, downward, either, every_byte, lowest_byte, mark_at, smeared, upward};
 
 use secret_marks::WordMarks;
@@ -13,6 +13,7 @@ pub const UNMARKED: WordMarks = WordMarks {
 };
 
 /// The marks of a word of which every byte has this mark.
+#[inline]
 pub fn every_byte(mark: bool) -> WordMarks
     ensures { result ≡ every_byte mark }
 {
@@ -25,6 +26,7 @@ pub fn every_byte(mark: bool) -> WordMarks
 }
 
 /// The marks of a word whose lowest byte has this mark, and no other has one.
+#[inline]
 pub fn lowest_byte(mark: bool) -> WordMarks
     ensures { result ≡ lowest_byte mark }
 {
@@ -37,13 +39,23 @@ pub fn lowest_byte(mark: bool) -> WordMarks
 }
 
 /// Whether some byte is marked.
+#[inline]
 pub fn any_byte(w: WordMarks) -> bool
     ensures { result ≡ any_byte w }
 {
     w.byte0 | w.byte1 | w.byte2 | w.byte3
 }
 
+/// Whether every byte is marked.
+#[inline(always)]
+pub(crate) fn all_bytes(w: WordMarks) -> bool
+    ensures { result ≡ (w.byte0 && w.byte1 && w.byte2 && w.byte3) }
+{
+    w.byte0 & w.byte1 & w.byte2 & w.byte3
+}
+
 /// The marks of a word of which a byte is marked where it is in either of two.
+#[inline]
 pub fn either(w: WordMarks, u: WordMarks) -> WordMarks
     ensures { result ≡ either w u }
 {
@@ -56,9 +68,13 @@ pub fn either(w: WordMarks, u: WordMarks) -> WordMarks
 }
 
 /// The marks from the lowest marked byte upward, as a carry goes.
+#[inline]
 pub fn upward(w: WordMarks) -> WordMarks
     ensures { result ≡ upward w }
 {
+    if all_bytes(w) {
+        return w;
+    }
     WordMarks {
         byte0: w.byte0,
         byte1: w.byte0 | w.byte1,
@@ -68,9 +84,13 @@ pub fn upward(w: WordMarks) -> WordMarks
 }
 
 /// The marks from the highest marked byte downward, as a shift to the right goes.
+#[inline]
 pub fn downward(w: WordMarks) -> WordMarks
     ensures { result ≡ downward w }
 {
+    if all_bytes(w) {
+        return w;
+    }
     WordMarks {
         byte0: w.byte3 | w.byte2 | w.byte1 | w.byte0,
         byte1: w.byte3 | w.byte2 | w.byte1,
@@ -80,6 +100,7 @@ pub fn downward(w: WordMarks) -> WordMarks
 }
 
 /// The marks of a word of which every byte is marked, where any was.
+#[inline]
 pub fn smeared(w: WordMarks) -> WordMarks
     ensures { result ≡ smeared w }
 {

@@ -48,7 +48,15 @@ unfolding isa_step
 goes_there code s t p i h e = plain_there (code s.pc) i s h ∙ e
 
 -- no step goes on outside code
-pub never_goes : (code : Code) (s t : Hart) (p : List ℕ) → None ≡ option_map decode (code s.pc) → isa_step code s ≡ Goes t p → ⊥
+never_goes : (code : Code) (s t : Hart) (p : List ℕ) → None ≡ option_map decode (code s.pc) → isa_step code s ≡ Goes t p → ⊥
 unfolding isa_step
 never_goes code s t p h e =
     let x : Traps outside_code ≡ Goes t p = nothing_there (code s.pc) s h ∙ e in absurd (cc)
+
+some_of : (word : Option ℕ) → (None ≡ option_map decode word → ⊥) → Some (instr_at word) ≡ option_map decode word
+some_of None h = absurd (h refl)
+some_of (Some w) h = refl
+
+-- a step that goes on is that of an instruction that may be fetched
+pub some_there : (code : Code) (s t : Hart) (p : List ℕ) → isa_step code s ≡ Goes t p → Some (instr_at (code s.pc)) ≡ option_map decode (code s.pc)
+some_there code s t p e = some_of (code s.pc) (λ h. never_goes code s t p h e)

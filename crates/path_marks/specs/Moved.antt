@@ -1,6 +1,6 @@
 -- How an instruction that doesn't fault moves marks.
-use Rattle.std.specs.Prelude.{ℕ, ◌+◌, ◌-◌, ◌≤◌, false, List, get_or, slice_set}
-use Rattle.rv_types.specs.Isa.{reg, relative}
+use Rattle.std.specs.Prelude.{◌≡◌, ℕ, ◌+◌, ◌-◌, ◌≤◌, false, List, length, get_or, slice_set, Option, Some}
+use Rattle.rv_types.specs.Isa.{Hart, reg, relative}
 use Rattle.rv_types.specs.Regs.{reads_of, unless_zero, writes_of}
 use Rattle.rv_types.specs.Value.{size_of}
 use Rattle.rv_types.specs.declared.Instr.{Instr}
@@ -32,3 +32,8 @@ moved base a instr.Ecall m = record m { regs = slice_set m.regs 10 unmarked }
 moved base a i m =
     let w = result_marks i (first_mark (reads_of i) m.regs) (second_mark (reads_of i) m.regs) in
     record m { regs = with_marks m.regs (writes_of i) w }
+
+-- marks move as the next instruction does in this state, if there is one and what it stores lies in memory
+abbrev pub MovesAs : Option Instr → Hart → PathMarks → PathMarks → Type 0
+MovesAs next s m m2 =
+    (i : Instr) → Some i ≡ next → InMemory s.ram.base (access_at s.regs i) i (length m.bytes) → m2 ≡ moved s.ram.base (access_at s.regs i) i m

@@ -9,7 +9,7 @@ ghost use Rattle.secret_marks.specs.Streams.{public_in};
 ghost use Rattle.constant_time.specs.PathMarks.{after_step, first_marks};
 ghost use Rattle.path_marks.specs.State.{next_shown};
 
-use crate::moving::move_marks;
+use crate::moving::move_next;
 use crate::showing::shows_as;
 use elf_loader::Image;
 use isa_step::{Isa, Stepped};
@@ -113,19 +113,10 @@ impl MarkedPath {
         ensures code { self.new.code ≡ self.old.code }
         ensures public { self.new.public ≡ self.old.public }
     {
-        let Some(instr) = self.isa.instr() else {
-            return self.isa.step(out);
-        };
         let base = self.isa.ram().base();
         let stream = self.isa.regs()[10];
         let from = self.isa.regs()[11];
-        move_marks(
-            &mut self.regs,
-            &mut self.bytes,
-            base,
-            self.isa.regs(),
-            &instr,
-        );
+        move_next(&mut self.regs, &mut self.bytes, &self.isa);
         let stepped = self.isa.step(out);
         if let Stepped::Next = stepped {
             let at = from.saturating_sub(base);

@@ -1,11 +1,13 @@
 //! How an instruction moves marks.
 ghost use Rattle.std.specs.Prelude.{◌≡◌, ◌+◌, ◌-◌, ◌≤◌, false, get_or, length};
+ghost use Rattle.elf_loader.specs.inner.Code.{instr_at};
 ghost use Rattle.rv_types.specs.declared.Op.TheVariants.{Lw};
 ghost use Rattle.secret_marks.specs.Results.{loaded_marks, result_marks};
 ghost use Rattle.secret_marks.specs.Marks.{with_byte_marks};
-ghost use Rattle.path_marks.specs.Moved.{InMemory, access_at, moved};
+ghost use Rattle.path_marks.specs.Moved.{InMemory, MovesAs, access_at, moved};
 
 use crate::sources::access_at;
+use isa_step::Isa;
 use mark_words::{
     UNMARKED, any_byte, every_byte, lower_half, lowest_byte, result_marks, signed_half,
     write_memory, write_register,
@@ -50,7 +52,7 @@ fn loaded(bytes: &[bool], base: u32, op: Op, addr: u32) -> WordMarks
 }
 
 // The marks of an instruction's value, by those of its first and second source: none where those have none.
-#[inline]
+#[inline(always)]
 fn value_marks(instr: &Instr, first: WordMarks, second: WordMarks) -> WordMarks
     ensures { result ≡ result_marks instr.now first second }
 {
@@ -62,7 +64,7 @@ fn value_marks(instr: &Instr, first: WordMarks, second: WordMarks) -> WordMarks
 }
 
 // Gives `count` bytes of memory, from a position on, the marks of a word's lowest bytes, if memory has them all.
-#[inline]
+#[inline(always)]
 fn store_marks(bytes: &mut Vec<bool>, at: usize, count: u32, marks: WordMarks)
     requires few { count ≤ 4 }
     ensures marks { at + count ≤ length bytes.old.items
@@ -74,10 +76,10 @@ fn store_marks(bytes: &mut Vec<bool>, at: usize, count: u32, marks: WordMarks)
     }
 }
 
-/// Moves the marks as an instruction does, by the values of the registers before it and memory with this base. What
-/// a store does outside memory isn't said: it faults there.
-#[inline]
-pub(crate) fn move_marks(
+// Moves the marks as an instruction does, by the values of the registers before it and memory with this base. What a
+// store does outside memory isn't said: it faults there.
+#[inline(always)]
+fn move_marks(
     regs: &mut [WordMarks; REGISTERS],
     bytes: &mut Vec<bool>,
     base: u32,
@@ -108,5 +110,17 @@ pub(crate) fn move_marks(
             write_register(regs, instr, marks);
         }
         _ => write_register(regs, instr, UNMARKED),
+    }
+}
+
+/// Moves the marks as the next instruction does, if there is one.
+#[inline(always)]
+pub(crate) fn move_next(regs: &mut [WordMarks; REGISTERS], bytes: &mut Vec<bool>, isa: &Isa)
+    ensures marks { MovesAs (instr_at isa.now.code isa.now.hart.pc) isa.now.hart
+        (record { regs = regs.old; bytes = bytes.old.items }) (record { regs = regs.new; bytes = bytes.new.items }) }
+    ensures memory { length bytes.new.items ≡ length bytes.old.items }
+{
+    if let Some(instr) = isa.instr() {
+        move_marks(regs, bytes, isa.ram().base(), isa.regs(), &instr);
     }
 }
