@@ -70,6 +70,7 @@ still_put window put m e lt k = record {
   waits = k.waits;
   station = k.station ∙ sym (stations_older window put.position m e (omega (arith, lt)));
   issues = k.issues;
+  more = k.more;
   stay = k.stay;
   tracks = k.tracks;
 }

@@ -19,3 +19,4 @@ pub mod InPlace
 pub mod Leaving
 pub mod Idle
 pub mod Issued
+pub mod Naming

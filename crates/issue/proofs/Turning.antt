@@ -1,6 +1,6 @@
 -- What an entry's turn comes to: it waits on, or it goes on with an event.
-use Rattle.std.proofs.Common.{◌≡◌, ℕ, ◌+◌, ◌<◌, ◌≤◌, Bool, true, false, ◌&&◌, List, [], ◌∷◌, ◌++◌, length, refl, ap, ap₂, sym, subst, ◌∙◌, inl, inr, arith, append-nil, slice_get, Option, Some, eqb-true}
-use Rattle.std.specs.Prelude.{◌==◌, ◌||◌, if◌then◌else◌, slice_set, ◌⊎◌}
+use Rattle.std.proofs.Common.{◌≡◌, ℕ, ◌+◌, ◌<◌, ◌≤◌, Bool, true, false, ◌&&◌, List, [], ◌∷◌, ◌++◌, length, refl, ap, ap₂, sym, subst, ◌∙◌, inl, inr, arith, append-nil, slice_get, Option, None, Some, eqb-true}
+use Rattle.std.specs.Prelude.{◌==◌, ◌≢◌, ◌||◌, if◌then◌else◌, is_some, slice_set, ◌⊎◌}
 use Rattle.std.specs.List.{All}
 use Rattle.std.proofs.lemmas.List.{set_at}
 use Rattle.std.proofs.lemmas.List.Elements.{All-push}
@@ -30,6 +30,7 @@ use Rattle.window_model.specs.inner.Issue.{data_events, parts_as}
 use Rattle.window_model.proofs.Together.{data_few, entry_parts, granted_together, issue_parts}
 use Rattle.unit_ports.specs.Ports.{port_for}
 use Rattle.rob_ring.specs.Issued.{issued_of, with_issued}
+use Rattle.rob_ring.specs.declared.issued.Issued.{Issued}
 use Rattle.refinement.specs.Noted.{PartsGoOn, TracksOn}
 use Rattle.refinement.specs.Stations.{Issues, station_of}
 use Rattle.core_parts.specs.declared.decided.Put.{Put}
@@ -87,6 +88,7 @@ pub record Acts (e : Entry) (b : Begun) : Type 0 where
   -- nothing else of the entry changes
   pub rest : with_issued (issued_of b.entry) e ≡ b.entry
   pub issues : Issues e b.entry
+  pub more_issued : issued_of b.entry ≢ issued_of e
   pub stay : is_store e.item.kind ≡ true → PartsGoOn (width_for (byte_count e)) e b.entry
   pub tracks : TracksOn (width_for (byte_count e)) e b.entry
 
@@ -106,6 +108,7 @@ some_events now e due o v more s w = inr (record {
   waits = w;
   rest = refl;
   issues = record { on = record { serial = refl; item = refl }; undone = refl; resolved = refl; cleared = refl };
+  more_issued = λ same. let state = ap (λ (o : Issued). is_waiting o.state) same in absurd (cc);
   stay = λ t. absurd (cc);
   tracks = record {
     cleared = refl;
@@ -139,19 +142,26 @@ parts_track true false d now before e = record { cleared = refl; unread = λ l h
 parts_track false true d now before e = record { cleared = refl; unread = λ l h. refl; size = size_is (op_of e.item.instr) }
 parts_track false false d now before e = record { cleared = refl; unread = λ l h. refl; size = size_is (op_of e.item.instr) }
 
-parts_turns : (a c : Bool) (d : Desc) (now : Around) (before : List Entry) (e : Entry) → ((a || c) ≡ true → is_waiting e.state ≡ true) → (a ≡ false → c ≡ true → (d.version == 1) ≡ false) → Turns e (parts_here a c d now before e)
-parts_turns false false d now before e w v = inl refl
-parts_turns true true d now before e w v = inr (record {
+-- a part that hadn't issued had no cycle from which on it is known
+has_no_part : (due : Option ℕ) (cycle : ℕ) → is_some due ≡ false → Some cycle ≡ due → ⊥
+has_no_part None cycle h q = absurd (cc)
+has_no_part (Some due) cycle h q = absurd (cc)
+
+parts_turns : (a c : Bool) (d : Desc) (now : Around) (before : List Entry) (e : Entry) → ((a || c) ≡ true → is_waiting e.state ≡ true) → (a ≡ false → c ≡ true → (d.version == 1) ≡ false) →
+    (a ≡ true → has_address e ≡ false) → (c ≡ true → has_data e ≡ false) → Turns e (parts_here a c d now before e)
+parts_turns false false d now before e w v p q = inl refl
+parts_turns true true d now before e w v p q = inr (record {
   event = event.Agu e.serial;
   more = data_events d e;
   has = refl;
   waits = w refl;
   rest = refl;
   issues = record { on = record { serial = refl; item = refl }; undone = refl; resolved = refl; cleared = refl };
+  more_issued = λ same. has_no_part e.addr_due _ (p refl) (ap (λ (o : Issued). o.addr_due) same);
   stay = λ t. record { address = λ h. refl; stored = λ h. refl; outcome = λ h. refl; size = size_is (op_of e.item.instr) };
   tracks = parts_track true true d now before e;
 })
-parts_turns true false d now before e w v = inr (record {
+parts_turns true false d now before e w v p q = inr (record {
   event = event.Agu e.serial;
   more = [];
   has = refl;
@@ -163,10 +173,11 @@ parts_turns true false d now before e w v = inr (record {
     resolved = refl;
     cleared = refl;
   };
+  more_issued = λ same. has_no_part e.addr_due _ (p refl) (ap (λ (o : Issued). o.addr_due) same);
   stay = λ t. record { address = λ h. refl; stored = λ h. h; outcome = λ h. refl; size = size_is (op_of e.item.instr) };
   tracks = parts_track true false d now before e;
 })
-parts_turns false true d now before e w v = inr (record {
+parts_turns false true d now before e w v p q = inr (record {
   event = event.Std e.serial;
   more = [];
   has = ap (λ one. if one then [] else event.Std e.serial ∷ []) (v refl refl);
@@ -178,6 +189,7 @@ parts_turns false true d now before e w v = inr (record {
     resolved = refl;
     cleared = refl;
   };
+  more_issued = λ same. has_no_part e.data_due _ (q refl) (ap (λ (o : Issued). o.data_due) same);
   stay = λ t. record { address = λ h. h; stored = λ h. refl; outcome = λ h. refl; size = size_is (op_of e.item.instr) };
   tracks = parts_track false true d now before e;
 })
@@ -199,7 +211,7 @@ module _ (d : Desc) (now : Around) (before : List Entry) (e : Entry) where
   not_alone true v p q = let one : d.version ≡ 1 = eqb-true _ _ v in let same = granted_together d now one before e in absurd (cc)
 
   store_turns : (a c : Bool) → InStep d e → is_store e.item.kind ≡ true → is_granted d now AddressPort before e ≡ a → is_granted d now DataPort before e ≡ c → Turns e (parts_here a c d now before e)
-  store_turns a c t s p q = parts_turns a c d now before e (part_waits a c t s p q) (λ x y. not_alone (d.version == 1) refl (p ∙ x) (q ∙ y))
+  store_turns a c t s p q = parts_turns a c d now before e (part_waits a c t s p q) (λ x y. not_alone (d.version == 1) refl (p ∙ x) (q ∙ y)) (λ x. fresh_address d now before e s (p ∙ x)) (λ x. fresh_data d now before e s (q ∙ x))
 
   pub entry_turns : InStep d e → Turns e (issue_entry d now before e)
   entry_turns t = by_store (is_store e.item.kind) refl
@@ -260,6 +272,7 @@ puts_more window i station e puts b h n (inr a) t =
       waits = a.waits;
       station = n;
       issues = subst (Issues e) (sym a.rest) a.issues;
+      more = a.more_issued;
       stay = λ s. subst (PartsGoOn (width_for (byte_count e)) e) (sym a.rest) (a.stay s);
       tracks = subst (TracksOn (width_for (byte_count e)) e) (sym a.rest) a.tracks;
     } in

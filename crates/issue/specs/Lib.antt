@@ -9,3 +9,4 @@ pub mod Puts
 pub mod Shared
 pub mod Parts
 pub mod Decisions
+pub mod Named

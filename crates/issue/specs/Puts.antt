@@ -1,13 +1,13 @@
 -- Entries that issue, or of which a part does, before they do in their places (docs/machine.md, "Issue"): every test is
 -- made on the window as it was before the phase.
-use Rattle.std.specs.Prelude.{◌≡◌, ℕ, Bool, ◌<◌, ◌==◌, true, List, [], ◌∷◌, Option, None, Some, slice_get, slice_set, if◌then◌else◌}
+use Rattle.std.specs.Prelude.{◌≡◌, ◌≢◌, ℕ, Bool, ◌<◌, ◌==◌, true, List, [], ◌∷◌, Option, None, Some, slice_get, slice_set, if◌then◌else◌}
 use Rattle.std.specs.List.{All, AllPairs}
 use Rattle.rv_types.specs.declared.Width.{Width}
 use Rattle.rv_types.specs.declared.Width.TheVariants.{B, H, W}
 use Rattle.window_model.specs.declared.Entry.{Entry}
 use Rattle.window_model.specs.Order.{is_store, is_waiting}
 use Rattle.window_model.specs.Retire.{byte_count}
-use Rattle.rob_ring.specs.Issued.{with_issued}
+use Rattle.rob_ring.specs.Issued.{issued_of, with_issued}
 use Rattle.lsq.specs.Queues.{Queues}
 use Rattle.refinement.specs.Noted.{PartsGoOn, TracksOn, noted, noted_load}
 use Rattle.refinement.specs.Stations.{Issues, station_of}
@@ -17,13 +17,14 @@ use Rattle.core_parts.specs.declared.decided.Put.{Put}
 abbrev pub width_for : ℕ → Width
 width_for n = if n == 1 then B else if n == 2 then H else W
 
--- the entry at its position waits, and goes on so; its station is named
+-- the entry at its position waits, and goes on so, by what hadn't issued of it; its station is named
 pub record IsPut (window : List Entry) (p : Put) : Type 0 where
   pub old : Entry
   pub here : slice_get window p.position ≡ Some old
   pub waits : is_waiting old.state ≡ true
   pub station : p.station ≡ station_of p.position window
   pub issues : Issues old (with_issued p.issued old)
+  pub more : p.issued ≢ issued_of old
   pub stay : is_store old.item.kind ≡ true → PartsGoOn (width_for (byte_count old)) old (with_issued p.issued old)
   pub tracks : TracksOn (width_for (byte_count old)) old (with_issued p.issued old)
 

@@ -4,12 +4,12 @@
 //! Every test is made on what the parts hold before the phase (`Seen`); what is decided is written then.
 //!
 //! Rules: `window_model/specs/MayIssue.antt`, `Ports.antt`, `Issue.antt` and `Access.antt`; `specs/State.antt`, what
-//! the phase looks at; `specs/Puts.antt`, entries before they are in their places; `docs/machine.md`, "Issue" and
-//! "Loads".
+//! the phase looks at; `specs/Puts.antt`, entries before they are in their places; `specs/Named.antt`, what the phase
+//! answers; `docs/machine.md`, "Issue" and "Loads".
 //!
 //! Promises: what is left is what phase Issue leaves of every machine with this window, cache, miss registers, divider,
 //! memory and registers in this cycle; the stations of the entries that begin are freed, and the parts go on to refine
-//! the window.
+//! the window. The answer names the entries that have issued, or of which a part has, and no others.
 //!
 //! Clauses: `issue`.
 #![tactic(auto)]
@@ -22,6 +22,7 @@ mod candidate;
 mod decide;
 mod gate;
 mod loads;
+mod named;
 mod operands;
 mod parts;
 mod phase;

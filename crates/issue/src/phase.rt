@@ -5,11 +5,14 @@ ghost use Rattle.machine_facts.specs.Timely.{WaitsOrDone};
 ghost use Rattle.window_model.specs.Issue.{issue};
 ghost use Rattle.window_model.specs.inner.Row.{HasRoom, IsLonger, most_issued, with_events};
 ghost use Rattle.visibility.specs.Point.{HasAdvanced};
+ghost use Rattle.issue.specs.Named.{NamesIssued};
 
+use crate::named::positions;
 use crate::placing::place;
 use crate::seen::Seen;
 use crate::shared::{take_registers, touch};
-use core_parts::Parts;
+use arrayvec::ArrayVec;
+use core_parts::{PUTS_MAX, Parts};
 use rename_taint::RenameTaint;
 use window_model::Row;
 
@@ -19,8 +22,10 @@ use window_model::Row;
 /// issued; what has issued of it is known to the queue of stores. A load's lines move to the front of their sets where
 /// the cache has them, and take miss registers where they need them, with which the line behind them may be prefetched;
 /// what it reads is known to the queue of loads, where loads may pass stores. A division takes the divider. The point
-/// goes on to say which entries are visible.
-pub fn issue<R: RenameTaint>(parts: &mut Parts<R>, row: &mut Row)
+/// goes on to say which entries are visible. It answers the positions of the entries that have issued, or of which a
+/// part has, oldest first. It is built into its caller, so that nothing is made where the answer is dropped.
+#[inline(always)]
+pub fn issue<R: RenameTaint>(parts: &mut Parts<R>, row: &mut Row) -> ArrayVec<u32, PUTS_MAX>
     requires advanced { HasAdvanced parts.old.point parts.old.machine.window }
     requires settled { Each WaitsOrDone parts.old.machine.window }
     requires room { HasRoom most_issued row.old }
@@ -28,9 +33,10 @@ pub fn issue<R: RenameTaint>(parts: &mut Parts<R>, row: &mut Row)
     ensures row { row.new ≡ with_events row.old (issue parts.old.desc parts.old.machine).events }
     ensures advanced { HasAdvanced parts.new.point parts.new.machine.window }
     ensures few { IsLonger most_issued row.old row.new }
+    ensures named { NamesIssued parts.old.machine.window parts.new.machine.window result.items }
 {
     if !parts.stations.any_able() {
-        return;
+        return ArrayVec::new();
     }
     let divider = parts.ports.divider();
     parts.ports.begin(parts.cycle as u64);
@@ -70,4 +76,5 @@ pub fn issue<R: RenameTaint>(parts: &mut Parts<R>, row: &mut Row)
         parts.cycle,
         &parts.desc,
     );
+    positions(&parts.decided.puts)
 }

@@ -1,10 +1,12 @@
 -- Where no station is able the phase leaves all as it is; else what is decided is what the definition decides, and what
 -- is written comes to what it leaves.
 use Rattle.std.proofs.Common.{◌+◌, ap, ap₂, sym, ◌∙◌, arith}
+use Rattle.rob_ring.specs.Ring.{Ring}
 use Rattle.unit_ports.specs.Ports.{Ports}
 use Rattle.core_parts.specs.Held.{Sizes}
 use Rattle.issue.proofs.Idle.{idle_row, idle_shown}
 use Rattle.issue.proofs.Issued.{advanced, all_left, decides, events_few, few_left, issued_advanced, issued_row, issued_shown, issued_whole, registers_fit, registers_left, refining, settled}
+use Rattle.issue.proofs.Naming.{machine_named}
 use Rattle.issue.proofs.phase.issue.Goals as goal
 
 pub returns-then-not-any_able-clause-machine : goal.returns-then-not-any_able-clause-machine
@@ -71,3 +73,7 @@ returns-clause-advanced g c =
     let k = decides _ _ _ _ _ c.decide.new.decided c.parts.invariant c.divider-divider.ensures c.begin.ensures c.decide.ensures.decides in
     issued_advanced _ c.decide.new.decided _ c.place.new.stations c.place.new.lsq _ _ _ c.decide.new.ports c.parts.invariant k
     c.place.ensures.window c.touch.ensures c.take_registers.ensures.second c.take_registers.ensures.misses _ c.parts.view_is c.requires.advanced
+
+pub returns-clause-named : goal.returns-clause-named
+returns-clause-named g c =
+    machine_named _ _ c.decide.new.decided.puts.items _ _ c.parts.invariant c.parts.view_is c.decide.ensures.puts (ap (λ (r : Ring). r.entries) c.place.ensures.window) c.positions.ensures
