@@ -6,4 +6,4 @@ pub mod Exposed
 pub mod YoungestFirst
 pub mod Copies
 pub mod Fitting
-pub mod Telling
+pub mod Naming

@@ -1,7 +1,6 @@
 //! The marks that an entry gets as it issues, or as a store's data part does.
 ghost use Rattle.std.specs.Prelude.{◌≡◌};
 ghost use Rattle.secret_marks.specs.Marks.{is_at};
-ghost use Rattle.entry_marks.specs.Told.{has_issued};
 
 use crate::walk::Walk;
 use mark_words::{UNMARKED, any_byte, either, result_marks};
@@ -16,13 +15,6 @@ fn is_at(cycle: u64, at: Option<u64>) -> bool
         Some(at) => at == cycle,
         None => false,
     }
-}
-
-/// Whether an entry issued in this cycle, or a store's data part did.
-pub(crate) fn has_issued(cycle: u32, entry: &Entry) -> bool
-    ensures { result ≡ has_issued cycle entry.now }
-{
-    is_at(cycle as u64, entry.issued) || is_at(cycle as u64 + 1, entry.data_due)
 }
 
 impl<'a> Walk<'a> {

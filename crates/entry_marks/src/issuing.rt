@@ -6,42 +6,36 @@ ghost use Rattle.window_model.specs.declared.Entry.{Entry};
 ghost use Rattle.secret_marks.specs.declared.EntryMarks.{EntryMarks};
 ghost use Rattle.secret_marks.specs.Marks.{issued_from, issued_marks};
 ghost use Rattle.entry_marks.specs.Beside.{marks_before};
-ghost use Rattle.entry_marks.specs.Told.{TellsOfEach};
+ghost use Rattle.entry_marks.specs.Named.{NamesEachIssued};
 ghost use Rattle.entry_marks.specs.Walk.{RefinesBeside, marks_of, marks_with};
 
 use crate::beside::{marks_at, put_marks};
 use crate::marks::Marks;
-use crate::told::issued_before;
 use crate::walk::Walk;
 use circular_buffer::HeapCircularBuffer;
 use rob_ring::{RobRing, Sources};
-use window_model::Event;
 
 /// Gives each entry the marks with which Issue leaves it in this cycle; memory's first byte has the address `base`.
-/// They come from the marks that older entries had before, so it goes from the youngest entry on, and from the last of
-/// the phase's events: these tell which entries have issued.
+/// `issued` has the positions of the entries that have issued, oldest first. Their marks come from those that older
+/// entries had before, so it goes from the youngest of them on.
 pub fn mark_issued(
     rob: &RobRing,
     sources: &HeapCircularBuffer<Sources>,
     marks: &mut Marks,
-    events: &[Event],
+    issued: &[u32],
     base: u32,
     cycle: u32,
 )
     requires stands { RefinesBeside rob.now.entries sources.now.items marks.old.window.items }
-    requires told { TellsOfEach cycle rob.now.entries events.now }
+    requires named { NamesEachIssued cycle rob.now.entries issued.now }
     ensures marks { marks_of marks.new ≡ record (marks_of marks.old) {
       window = issued_from cycle base (marks_of marks.old) [] [] rob.now.entries marks.old.window.items;
     } }
     ensures step { length marks.new.window.items ≡ length marks.old.window.items }
     ensures room { marks.new.window.capacity ≡ marks.old.window.capacity }
 {
-    let mut unwalked = rob.len();
-    for k in (0..events.len()).rev() {
-        if let Some(i) = issued_before(rob, cycle, unwalked, &events[k]) {
-            mark_entry(rob, sources, marks, base, cycle, i);
-            unwalked = i;
-        }
+    for k in (0..issued.len()).rev() {
+        mark_entry(rob, sources, marks, base, cycle, issued[k]);
     }
 }
 

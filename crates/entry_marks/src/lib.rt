@@ -6,7 +6,7 @@
 //! `marked_core` walks them beside a core.
 //!
 //! Rules: `secret_marks/specs/Marks.antt`, `Results.antt`, `Shows.antt`, `Shown.antt`; `specs/Walk.antt`, what is
-//! looked at; `Oldest.antt`, what Retire's entries leave; `Told.antt`, of which entries Issue's events tell;
+//! looked at; `Oldest.antt`, what Retire's entries leave; `Named.antt`, which entries are named as those that issued;
 //! `docs/theorems.md`, "Secrets that are loaded".
 //!
 //! Promises: the marks that `secret_marks` defines as Issue leaves them, as Retire moves them to registers and memory,
@@ -26,7 +26,6 @@ mod oldest;
 mod operands;
 mod retiring;
 mod shows;
-mod told;
 mod walk;
 
 pub use issuing::mark_issued;
