@@ -57,7 +57,7 @@ pub(crate) fn after_retire<R: RenameTaint>(parts: &mut Parts<R>, row: &mut Row)
     if parts.end.is_some() {
         return;
     }
-    issue(parts, row);
+    let _ = issue(parts, row);
     let issued = row.events().len();
     rename(parts, row);
     advance_after(parts, issued, row);

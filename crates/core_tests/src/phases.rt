@@ -82,7 +82,7 @@ pub fn perform<R: RenameTaint>(
             if !are_settled(parts.rob()) {
                 panic!(rt; "a store executes as Issue begins");
             }
-            issue(parts, row);
+            let _ = issue(parts, row);
         }
         Phase::Fetch => parts.fetch(row),
         Phase::Rename => {

@@ -8,7 +8,8 @@ use Rattle.secret_marks.specs.Marks.{is_at}
 abbrev pub has_issued : ℕ → Entry → Bool
 has_issued cycle e = is_at cycle e.issued || is_at (cycle + 1) e.data_due
 
--- the positions are of entries of the window, oldest first, and each entry that has issued in this cycle has one of them
+-- the positions are of entries of the window, oldest first, and each entry that has issued in this cycle has one of
+-- them
 pub record NamesEachIssued (cycle : ℕ) (window : List Entry) (positions : List ℕ) : Type 0 where
   pub by_age : AllPairs (λ i j. i < j) positions
   pub within : All (λ i. i < length window) positions

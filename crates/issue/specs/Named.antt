@@ -8,8 +8,8 @@ use Rattle.core_parts.specs.declared.decided.Put.{Put}
 abbrev pub positions_of : List Put → List ℕ
 positions_of puts = map (λ p. p.position) puts
 
--- the positions are those of the entries that have issued, or of which a part has, oldest first: there the window isn't as
--- it was, and everywhere else it is
+-- the positions are those of the entries that have issued, or of which a part has, oldest first: there the window isn't
+-- as it was, and everywhere else it is
 pub record NamesIssued (old new : List Entry) (positions : List ℕ) : Type 0 where
   pub by_age : AllPairs (λ i j. i < j) positions
   pub each : All (λ i. slice_get new i ≢ slice_get old i) positions

@@ -4,8 +4,8 @@ use Rattle.entry_marks.proofs.Naming.{behind}
 use Rattle.entry_marks.proofs.YoungestFirst.{left_from}
 use Rattle.entry_marks.proofs.issuing.mark_issued.Given as goal
 
--- the entries behind those that the first k positions name have the marks with which Issue leaves them, the others those
--- that they had
+-- the entries behind those that the first k positions name have the marks with which Issue leaves them, the others
+-- those that they had
 abbrev pub invariant-loop-k : goal.invariant-loop-k
 invariant-loop-k l = record {
   marks : marks_of l.marks
