@@ -33,15 +33,9 @@ use Rattle.constant_time.specs.Leaks.{LeakAlike, LeakUpTo}
 use Rattle.constant_time.specs.Laws.{Alike}
 use Rattle.constant_time.specs.Waits.{CycleWaits, WaitsToIssue, WaitsToResolve}
 use Rattle.constant_time.proofs.Issue.{issue_alike}
+use Rattle.two_runs.proofs.Rows.{same_row}
 use Rattle.constant_time.proofs.Resolve.{resolve_alike}
 use Rattle.constant_time.proofs.Retire.{retire_alike}
-
--- the row of a cycle: what happened before Retire, in it and after it
-abbrev row_with : ℕ → List Event → List Event → List Event → Row
-row_with n a b c = record { cycle = n + 1; events = a ++ b ++ c }
-
-row_of : (n n2 : ℕ) (a a2 b b2 c c2 : List Event) → n ≡ n2 → a ≡ a2 → b ≡ b2 → c ≡ c2 → row_with n a b c ≡ row_with n2 a2 b2 c2
-row_of n n2 a a2 b b2 c c2 p q r t = cc
 
 -- two runs that go on together, as Issue of cycle `now` finds them
 pub record TogetherIn (now : ℕ) (d : Desc) (code : Code) (total : ℕ) (x x2 : Machine) : Type 0 where
@@ -190,4 +184,4 @@ module _ (d : Desc) (code : Code) (total : ℕ) (protected : protects d.stt_mode
       let e1 = f.1 in
       let e2 = t.events in
       let e3 = b.events in
-      record { alike = b.alike; row = row_of x.cycle x2.cycle _ _ _ _ _ _ (same_cycle x x2 p.alike) e1 e2 e3; together = b.together }
+      record { alike = b.alike; row = same_row x.cycle x2.cycle _ _ _ _ _ _ (same_cycle x x2 p.alike) e1 e2 e3; together = b.together }

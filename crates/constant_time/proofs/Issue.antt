@@ -39,7 +39,7 @@ use Rattle.secret_marks.specs.Shows.{decides_as, operand_shows, operands_show}
 use Rattle.secret_marks.specs.Alike.{Beside, SameEntry}
 use Rattle.secret_marks.proofs.Issue.{issue_keeps}
 use Rattle.secret_marks.proofs.Lists.{values_length}
-use Rattle.secret_marks.proofs.Looking.{seen_alike}
+use Rattle.secret_marks.proofs.Looking.{seen_by_marks}
 use Rattle.two_runs.proofs.Looking.{same_all_known, same_visible}
 use Rattle.constant_time.specs.Leaks.{LeakAlike, leak_as}
 use Rattle.constant_time.specs.Laws.{IssueLeaksAlike}
@@ -103,7 +103,7 @@ module _ (now : ℕ) (d : Desc) (protected : protects d.stt_model ≡ true) (cod
       visible d.stt_model before ≡ true → decides_as e.item.kind d before e ≡ true → all_known d before2 (base_of (sources e2)) ≡ true → LeakAlike (path d.stt_model) code (length before + 1) (hart_of x) (hart_of x2) →
       (r : ℕ) (rs : List ℕ) → sources e ≡ r ∷ rs → operand x.regs before r ≡ operand x2.regs before2 r
   base_same before before2 ms m e e2 t h w w2 v k k2 l r rs q =
-      let v2 : visible d.stt_model before2 ≡ true = sym (same_visible d.stt_model before before2 (seen_alike d.stt_model ms before before2 t)) ∙ v in
+      let v2 : visible d.stt_model before2 ≡ true = sym (same_visible d.stt_model before before2 (seen_by_marks d.stt_model ms before before2 t)) ∙ v in
       let i : e.item ≡ e2.item = ap (λ (t : Entry). t.item) h in
       let q2 : sources e2 ≡ r ∷ rs = ap (λ (t : Item). reads_of t.instr) (sym i) ∙ q in
       let lk = leaks_at now d protected code aligned x x2 n n2 before before2 e e2 w w2 i (values_length SameEntry ms before before2 t) v v2 l in
@@ -136,7 +136,7 @@ module _ (now : ℕ) (d : Desc) (protected : protects d.stt_model ≡ true) (cod
     quiet before before2 ms (o ∷ ns) (e ∷ es) (e2 ∷ es2) t u b b2 a a2 l l2 c c2 wait lt m q =
         let w : Stands now d code x before e = record { behind = b; here = a.0; linked = l; at = c.0 } in
         let w2 : Stands now d code x2 before2 e2 = record { behind = b2; here = a2.0; linked = l2; at = c2.0 } in
-        let known = λ (k : decides_as e.item.kind d before e ≡ true). sym (same_all_known d before before2 (base_of (sources e)) (base_of (sources e2)) (seen_alike d.stt_model ms before before2 t) (ap (λ (t : Entry). base_of (sources t)) u.0)) ∙ decides_known e.item.kind d before e k in
+        let known = λ (k : decides_as e.item.kind d before e ≡ true). sym (same_all_known d before before2 (base_of (sources e)) (base_of (sources e2)) (seen_by_marks d.stt_model ms before before2 t) (ap (λ (t : Entry). base_of (sources t)) u.0)) ∙ decides_known e.item.kind d before e k in
         let one = one_quiet before before2 ms o e e2 t u.0 w w2 wait.0 known (leaks (length before + 1) (omega (arith, lt))) in
         let here : operand_shows d m before (all_loose before before2) e ≡ false = ap (λ g. decides_as e.item.kind d before e && any_marked g before (all_loose before before2) (base_of (sources e))) q ∙ one in
         let rest = quiet (e ∷ before) (e2 ∷ before2) (o ∷ ms) ns es es2 (u.0, t) u.1 (a.0, b) (a2.0, b2) a.1 a2.1 (c.0, l) (c2.0, l2) c.1 c2.1 wait.1 (omega (arith, lt)) m q in

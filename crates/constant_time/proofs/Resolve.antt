@@ -1,6 +1,6 @@
 -- Resolve: where the branch or JALR that is resolved goes is equal in both runs, where it waits until it is visible.
 use Rattle.std.proofs.Common.{◌≡◌, ℕ, ◌+◌, ◌≤◌, Bool, true, false, not, ◌||◌, List, [], ◌∷◌, ◌++◌, length, Option, Some, None, refl, ap, sym, ◌∙◌, subst, arith}
-use Rattle.std.specs.Prelude.{if◌then◌else◌, reverse}
+use Rattle.std.specs.Prelude.{if◌then◌else◌, reverse, take}
 use Rattle.rv_types.specs.Memory.{Code}
 use Rattle.rv_types.specs.Value.{one_if}
 use Rattle.rv_types.specs.Isa.{Effect, effect, first_of, second_of}
@@ -18,7 +18,7 @@ use Rattle.window_model.specs.Issue.{fault_if, outcome}
 use Rattle.window_model.specs.Order.{Place, fault_of, first, first_from, has_address, has_data, is_control, is_done, value_of}
 use Rattle.window_model.specs.Path.{path}
 use Rattle.window_model.specs.Rename.{at_once}
-use Rattle.window_model.specs.Resolve.{may_resolve, next_of, resolve_at}
+use Rattle.window_model.specs.Resolve.{may_resolve, next_of, resolve, resolve_at}
 use Rattle.window_model.specs.Retire.{hart_of}
 use Rattle.window_model.specs.Taint.{protects, visible}
 use Rattle.window_model.proofs.Resolving.{MayResolve, resolve_parts}
@@ -31,26 +31,26 @@ use Rattle.committed_state.proofs.Known.{done_issued, replayed_behind}
 use Rattle.noninterference.proofs.Faults.{hart}
 use Rattle.noninterference.proofs.OneRun.{Linked, reaches}
 use Rattle.noninterference.proofs.PathLink.{visible_clear}
+use Rattle.two_runs.specs.Masks.{LeftAlike, ResolvedAlike, SamePlace, but_data}
+use Rattle.two_runs.specs.Seen.{SeenEntries, without_outcome}
+use Rattle.two_runs.proofs.Choices.{Both, if_both}
+use Rattle.two_runs.proofs.Looking.{same_visible}
+use Rattle.two_runs.proofs.Masks.{along_seen, first_same, lengths}
+use Rattle.two_runs.proofs.May.{may_resolve_alike}
+use Rattle.two_runs.proofs.Resolve.{place_alike, resolve_data}
 use Rattle.secret_marks.specs.declared.EntryMarks.{EntryMarks}
 use Rattle.secret_marks.specs.Marks.{Marks, cut}
 use Rattle.secret_marks.specs.Words.{any_byte}
 use Rattle.secret_marks.specs.Alike.{AlikeBut, Beside, SameEntry, StaysAlike}
 use Rattle.secret_marks.proofs.Lists.{values_length}
-use Rattle.secret_marks.proofs.Looking.{seen_alike}
-use Rattle.secret_marks.proofs.Resolve.{may_resolve_seen, place_alike}
-use Rattle.two_runs.proofs.Looking.{same_visible}
-use Rattle.secret_marks.proofs.Spots.{SamePlace, SamePlaces, first_same}
+use Rattle.secret_marks.proofs.Looking.{seen_by_marks, windows_seen}
+use Rattle.secret_marks.proofs.Masks.{stays, under, unmarked_of}
+use Rattle.secret_marks.proofs.Resolve.{settled_alike}
 use Rattle.constant_time.specs.Leaks.{LeakAlike, goes_so, leak_as}
 use Rattle.constant_time.specs.Laws.{ResolveLeaksAlike}
 use Rattle.constant_time.specs.Waits.{WaitsToResolve}
 use Rattle.constant_time.proofs.Differ.{equal_unmarked, firm, firm_again}
 use Rattle.constant_time.proofs.Onward.{Stands, leaks_at}
-
--- two entries go on alike
-pub record GoesAlike (e e2 : Entry) : Type 0 where
-  pub value : value_of e.outcome ≡ value_of e2.outcome
-  pub next : next_of e.outcome ≡ next_of e2.outcome
-  pub fault : fault_of e.outcome ≡ fault_of e2.outcome
 
 -- ---- by kind
 
@@ -106,9 +106,9 @@ module _ (now : ℕ) (d : Desc) (protected : protects d.stt_model ≡ true) (cod
       some_is e.outcome O r2 (done_issued d code b now before e w.here (goes_on e.item.kind c) f) ∙ ap Some (control_replayed e.item.kind (bank b before) e c)
 
   goes_alike : (before before2 : List Entry) (ms : List EntryMarks) (m : EntryMarks) (e e2 : Entry) → Beside SameEntry ms before before2 → SameEntry m e e2 → Stands now d code x before e → Stands now d code x2 before2 e2 →
-      visible d.stt_model before ≡ true → MayResolve d before e → LeakAlike (path d.stt_model) code (length before + 1) (hart_of x) (hart_of x2) → GoesAlike e e2
+      visible d.stt_model before ≡ true → MayResolve d before e → LeakAlike (path d.stt_model) code (length before + 1) (hart_of x) (hart_of x2) → ResolvedAlike e e2
   goes_alike before before2 ms m e e2 t h w w2 v r l =
-      let v2 : visible d.stt_model before2 ≡ true = sym (same_visible d.stt_model before before2 (seen_alike d.stt_model ms before before2 t)) ∙ v in
+      let v2 : visible d.stt_model before2 ≡ true = sym (same_visible d.stt_model before before2 (seen_by_marks d.stt_model ms before before2 t)) ∙ v in
       let i : e.item ≡ e2.item = ap (λ (t : Entry). t.item) h in
       let c2 : is_control e2.item.kind ≡ true = ap (λ (t : Item). is_control t.kind) (sym i) ∙ r.control in
       let f2 : is_done e2.state ≡ true = ap (λ (t : Entry). is_done t.state) (sym h) ∙ r.done in
@@ -130,7 +130,7 @@ module _ (now : ℕ) (d : Desc) (protected : protects d.stt_model ≡ true) (cod
 
   -- places at which both runs go on alike, where there are two
   abbrev PlacesGo : Option Place → Option Place → Type 0
-  PlacesGo (Some p) (Some p2) = GoesAlike p.entry p2.entry
+  PlacesGo (Some p) (Some p2) = ResolvedAlike p.entry p2.entry
   PlacesGo _ _ = Unit {0}
 
   module _ (limit : ℕ) (leaks : (k : ℕ) → k ≤ limit → LeakAlike (path d.stt_model) code k (hart_of x) (hart_of x2)) where
@@ -143,36 +143,36 @@ module _ (now : ℕ) (d : Desc) (protected : protects d.stt_model ≡ true) (cod
     walk before before2 ms (o ∷ ns) (e ∷ es) (e2 ∷ es2) t u b b2 a a2 l l2 c c2 wait lt =
         let w : Stands now d code x before e = record { behind = b; here = a.0; linked = l; at = c.0 } in
         let w2 : Stands now d code x2 before2 e2 = record { behind = b2; here = a2.0; linked = l2; at = c2.0 } in
-        by_test (may_resolve d before e) (may_resolve d before2 e2) refl (may_resolve_seen d ms before before2 o e e2 t u.0)
+        if_both PlacesGo (may_resolve d before e) (may_resolve d before2 e2) _ _ _ _ (may_resolve_alike d before before2 (seen_by_marks d.stt_model ms before before2 t) e e2 (ap without_outcome u.0))
         (λ q. goes_alike before before2 ms o e e2 t u.0 w w2 (wait.0 q) (resolve_parts d before e q) (leaks (length before + 1) (omega (arith, lt))))
-        _ _ (walk (e ∷ before) (e2 ∷ before2) (o ∷ ms) ns es es2 (u.0, t) u.1 (a.0, b) (a2.0, b2) a.1 a2.1 (c.0, l) (c2.0, l2) c.1 c2.1 wait.1 (omega (arith, lt)))
-      where
-        by_test : (p p2 : Bool) → may_resolve d before e ≡ p → p ≡ p2 → (may_resolve d before e ≡ true → GoesAlike e e2) → (r r2 : Option Place) → PlacesGo r r2 →
-            PlacesGo (if p then Some (record { before = before; entry = e; younger = es }) else r) (if p2 then Some (record { before = before2; entry = e2; younger = es2 }) else r2)
-        by_test true true q k g r r2 more = g q
-        by_test false false q k g r r2 more = more
-        by_test true false q k g r r2 more = absurd (cc)
-        by_test false true q k g r r2 more = absurd (cc)
+        (λ q. walk (e ∷ before) (e2 ∷ before2) (o ∷ ms) ns es es2 (u.0, t) u.1 (a.0, b) (a2.0, b2) a.1 a2.1 (c.0, l) (c2.0, l2) c.1 c2.1 wait.1 (omega (arith, lt)))
     walk before before2 ms _ _ _ t u b b2 a a2 l l2 c c2 wait lt = absurd u
 
-at_places : (d : Desc) (m : Marks) (x x2 : Machine) → AlikeBut m x x2 → (o o2 : Option Place) → SamePlaces m.window o o2 → (GoTwo : Option Place → Option Place → Type 0) →
-    ((p p2 : Place) → GoTwo (Some p) (Some p2) → GoesAlike p.entry p2.entry) → GoTwo o o2 → (k : Marks) × StaysAlike k (resolve_at d o x) (resolve_at d o2 x2)
-at_places d m x x2 h None None s G told g = (m, record { events = refl; alike = h })
-at_places d m x x2 h (Some p) (Some p2) s G told g =
+-- an entry that goes on alike at one place is unmarked under the marks where both differ
+at_places : (d : Desc) (S : List Entry → List Entry → Type 0) (ms : List EntryMarks) (x x2 : Machine) → but_data x ≡ but_data x2 → Beside SameEntry ms x.window x2.window → (o o2 : Option Place) → Both (SamePlace unmarked_of S ms) o o2 →
+    (GoTwo : Option Place → Option Place → Type 0) → ((p p2 : Place) → GoTwo (Some p) (Some p2) → ResolvedAlike p.entry p2.entry) → GoTwo o o2 →
+    (ns : List EntryMarks) × LeftAlike unmarked_of ns (resolve_at d o x) (resolve_at d o2 x2)
+at_places d S ms x x2 h w None None s G told g = (ms, record { events = refl; others = h; window = under ms x.window x2.window w })
+at_places d S ms x x2 h w (Some p) (Some p2) s G told g =
     let go = told p p2 g in
     let f = firm p.entry p2.entry in
-    let ms = reverse s.before_marks ++ f ∷ s.younger_marks in
-    let m2 : Marks = record m { window = ms } in
+    let ns = reverse s.before_masks ++ f ∷ s.younger_masks in
     let free : (f.goes || any_byte f.result) ≡ false = equal_unmarked (value_of p.entry.outcome) (value_of p2.entry.outcome) go.value in
-    let s2 : SamePlace ms p p2 = record { before_marks = s.before_marks; mark = f; younger_marks = s.younger_marks; all = refl; before = s.before; here = firm_again s.mark p.entry p2.entry s.here go.next go.fault; younger = s.younger } in
-    (cut (resolve_at d (Some p) x).machine.window m2, place_alike d m2 x x2 (record { others = h.others; regs = h.regs; bytes = h.bytes }) p p2 s2 free)
-at_places d m x x2 h None (Some p2) s G told g = absurd s
-at_places d m x x2 h (Some p) None s G told g = absurd s
+    let here = firm_again s.mask_here p.entry p2.entry s.here go.next go.fault in
+    let s2 : SamePlace unmarked_of S ns p p2 = record { before_masks = s.before_masks; mask_here = f; younger_masks = s.younger_masks; all = refl; before = s.before; here = here; younger = s.younger; known = s.known } in
+    (take (length (resolve_at d (Some p) x).machine.window) ns, place_alike unmarked_of S d ns p p2 s2 go (settled_alike f p.entry p2.entry free here) x x2 h)
+at_places d S ms x x2 h w None (Some p2) s G told g = absurd s
+at_places d S ms x x2 h w (Some p) None s G told g = absurd s
 
 pub resolve_alike : ResolveLeaksAlike
 resolve_alike now d code total x x2 protected aligned c c2 le leaks wait h =
     let go = walk now d protected code aligned x x2 c.registers c2.registers (length x.window) (λ j lt. leaks j (omega (arith, lt, le)))
     [] [] [] h.0.window x.window x2.window tt h.1.window tt tt c.entries c2.entries tt tt c.chain c2.chain wait (omega arith) in
-    at_places d h.0 x x2 h.1 (first (may_resolve d) x.window) (first (may_resolve d) x2.window)
-    (first_same (may_resolve d) (may_resolve d) (may_resolve_seen d) [] h.0.window [] [] x.window x2.window tt h.1.window)
-    (PlacesGo now d protected code aligned x x2 c.registers c2.registers) (λ p p2 g. g) go
+    let m = h.0 in
+    let w = under m.window x.window x2.window h.1.window in
+    let S = SeenEntries d.stt_model in
+    let answers = along_seen d.stt_model (may_resolve d) (may_resolve d) (may_resolve_alike d) x.window x2.window (lengths unmarked_of m.window x.window x2.window w).1 (windows_seen d.stt_model m.window x.window x2.window h.1.window) in
+    let r = at_places d S m.window x x2 h.1.others h.1.window (first (may_resolve d) x.window) (first (may_resolve d) x2.window)
+    (first_same unmarked_of (may_resolve d) (may_resolve d) S [] m.window [] [] x.window x2.window tt w answers)
+    (PlacesGo now d protected code aligned x x2 c.registers c2.registers) (λ p p2 g. g) go in
+    (record m { window = r.0 }, stays m r.0 x x2 (resolve d x) (resolve d x2) h.1 (resolve_data d x) (resolve_data d x2) r.1)

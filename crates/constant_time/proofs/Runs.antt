@@ -11,6 +11,7 @@ use Rattle.window_model.specs.Row.{Row}
 use Rattle.window_model.specs.Cycle.{Trace, after_cycles, cycle, rows}
 use Rattle.window_model.specs.Committed.{Aligned}
 use Rattle.window_model.specs.Path.{path}
+use Rattle.two_runs.proofs.Rows.{with_end}
 use Rattle.committed_state.proofs.Cycle.{consistent_cycle}
 use Rattle.noninterference.proofs.Facts.{facts_opening}
 use Rattle.secret_marks.specs.Marks.{Secret, opening_marks}
@@ -75,9 +76,6 @@ fewer step code (suc k) (suc n) s s2 le a =
 -- memories that agree but for some bytes agree but for all
 pub any_secret : (secret : Secret) (m m2 : Ram) → AgreeBut secret m m2 → AgreeBut any_byte_at m m2
 any_secret secret m m2 a = record { base = a.base; size = a.size; misaligned = a.misaligned; bytes = a.bytes; bytes2 = a.bytes2; same = λ i z. absurd (cc) }
-
-abbrev with_end : List Row → Machine → Trace
-with_end rs x = record { rows = rs; end = x.end; retired = x.retired; cycles = x.cycle }
 
 pub contract : ContractWhereShownIsVisible
 contract d code entry m m2 n protected aligned agree wait leaks =

@@ -18,7 +18,7 @@ use Rattle.window_model.proofs.Memory.{same_fault}
 use Rattle.committed_state.specs.Consistent.{IsItem}
 use Rattle.noninterference.specs.Alike.{Alike, without_outcome}
 use Rattle.noninterference.specs.Outcomes.{SameOutcomes}
-use Rattle.noninterference.proofs.Looking.{seen_alike}
+use Rattle.noninterference.proofs.Looking.{seen_by_outcomes}
 use Rattle.two_runs.proofs.Looking.{same_forward}
 use Rattle.noninterference.proofs.Effects.{addresses_alike, base_alike, untainted_base_of}
 use Rattle.noninterference.proofs.Loads.{by_base}
@@ -39,7 +39,7 @@ module _ (d : Desc) (code : Code) (x x2 : Machine) (r : Alike x x2) (place : Sam
       let a2 = (effect_of x2.regs b2 e2).addr in
       let f = sym (same_fault load_misaligned load_outside x.ram x2.ram a2 n place) in
       let end = ap₂ (λ b s. b + s) (sym place.base) (sym place.size) in
-      let at = same_access_at d now (around x2) (ap (λ (m : Machine). m.cache) r) (ap (λ (m : Machine). m.second) r) (ap (λ (m : Machine). m.misses) r) end b b2 a2 n (load_fault x2.ram a2 n) (same_forward d.stt_model b b2 a2 n (seen_alike d.stt_model b b2 same)) in
+      let at = same_access_at d now (around x2) (ap (λ (m : Machine). m.cache) r) (ap (λ (m : Machine). m.second) r) (ap (λ (m : Machine). m.misses) r) end b b2 a2 n (load_fault x2.ram a2 n) (same_forward d.stt_model b b2 a2 n (seen_by_outcomes d.stt_model b b2 same)) in
       ap (λ a. access d now b a (byte_count e)) a ∙ ap (access d now b a2) w ∙ ap (access_at d now b a2 n) f ∙ at
 
   -- a division with untainted operands takes the same time in both runs

@@ -32,14 +32,8 @@ use Rattle.noninterference.proofs.Clear.{clear_tells_nothing}
 use Rattle.noninterference.proofs.Retire.{retire_tells_nothing}
 use Rattle.noninterference.proofs.Issue.{issue_tells_nothing}
 use Rattle.noninterference.proofs.RenameFetch.{rename_tells_nothing, fetch_tells_nothing}
+use Rattle.two_runs.proofs.Rows.{same_row}
 use Rattle.noninterference.proofs.Agree.{together_agree}
-
--- the row of a cycle: what happened before Retire, in it and after it
-abbrev row_with : ℕ → List Event → List Event → List Event → Row
-row_with n a b c = record { cycle = n + 1; events = a ++ b ++ c }
-
-row_of : (n n2 : ℕ) (a a2 b b2 c c2 : List Event) → n ≡ n2 → a ≡ a2 → b ≡ b2 → c ≡ c2 → row_with n a b c ≡ row_with n2 a2 b2 c2
-row_of n n2 a a2 b b2 c c2 p q r t = cc
 
 module _ (d : Desc) (code : Code) (total : ℕ) (protected : protects d.stt_model ≡ true) (aligned : Aligned code) where
   -- two runs that go on together, as Issue of this cycle finds them
@@ -162,7 +156,7 @@ module _ (d : Desc) (code : Code) (total : ℕ) (protected : protects d.stt_mode
       let e1 = f.1 in
       let e2 = t.events in
       let e3 = b.events in
-      record { alike = b.alike; row = row_of x.cycle x2.cycle _ _ _ _ _ _ (same_cycle x x2 p.alike) e1 e2 e3; together = b.together }
+      record { alike = b.alike; row = same_row x.cycle x2.cycle _ _ _ _ _ _ (same_cycle x x2 p.alike) e1 e2 e3; together = b.together }
 
 pub cycle_tells_nothing : CycleTellsNothing
 cycle_tells_nothing d code total x x2 protected aligned n p le = cycle_alike d code total protected aligned x x2 n p le

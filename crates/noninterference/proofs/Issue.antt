@@ -1,5 +1,5 @@
 -- Issue tells nothing: who issues, what it accesses and how long it takes is equal in both runs.
-use Rattle.std.proofs.Common.{subst, ◌≡◌, ℕ, ◌+◌, Bool, true, false, List, [], ◌∷◌, ◌++◌, map, reverse, Option, Some, None, refl, ap, ap₂, sym, ◌∙◌}
+use Rattle.std.proofs.Common.{subst, ◌≡◌, ℕ, ◌+◌, Bool, true, false, List, [], ◌∷◌, ◌++◌, map, reverse, length, Option, Some, None, refl, ap, ap₂, sym, ◌∙◌}
 use Rattle.std.specs.Prelude.{if◌then◌else◌}
 use Rattle.std.specs.List.{flat_map}
 use mathlib.Core.List.{reverse_aux}
@@ -32,12 +32,15 @@ use Rattle.window_model.proofs.LookedUp.{same_due_by}
 use Rattle.window_model.proofs.Places.{Found, found}
 use Rattle.window_model.proofs.Issuing.{asks_division, asks_load, may_own, may_parts, load_clean, division_clean}
 use Rattle.committed_state.specs.Consistent.{IsItem, EntryInvariant, bank_in}
+use Rattle.two_runs.specs.Masks.{SamePlace}
+use Rattle.two_runs.proofs.Choices.{Both, by_both, if_both}
+use Rattle.two_runs.proofs.Masks.{along, first_same, lengths, peel}
 use Rattle.noninterference.specs.Alike.{Alike, shown, shown_after, without_outcome}
 use Rattle.noninterference.specs.Outcomes.{SameOutcomes}
 use Rattle.noninterference.specs.Laws.{IssueTellsNothing}
 use Rattle.noninterference.proofs.Looking.{same_kind}
 use Rattle.noninterference.proofs.May.{at_alike, granted_alike}
-use Rattle.noninterference.proofs.Places.{SamePlaces, SeenAlike, first_same, peel}
+use Rattle.noninterference.proofs.Masks.{all_hidden, hides}
 use Rattle.noninterference.proofs.Access.{same_access_of, same_time}
 
 -- ---- what an entry begins
@@ -82,6 +85,9 @@ module _ (cycle : ℕ) (d : Desc) (code : Code) (x x2 : Machine) (r : Alike x x2
   cycle_same : x.cycle ≡ x2.cycle
   cycle_same = ap (λ (m : Machine). m.cycle) r
 
+  abbrev BegunAlike : Begun → Begun → Type 0
+  BegunAlike o o2 = begun_without o ≡ begun_without o2
+
   begin_alike : (k : Kind) (b b2 : List Entry) (e e2 : Entry) → e.item.kind ≡ k → SameOutcomes d.stt_model b b2 → without_outcome e ≡ without_outcome e2 → IsItem code e.item → may_issue_as k d now b e ≡ true → begun_without (begin_as k d now b e) ≡ begun_without (begin_as k d now2 b2 e2)
   begin_alike Load b b2 e e2 q s h item m =
       let a = same_access_of d code x x2 r place b b2 s e e2 h item (ap is_load q) (load_clean Load d now b e m refl) in
@@ -95,20 +101,14 @@ module _ (cycle : ℕ) (d : Desc) (code : Code) (x x2 : Machine) (r : Alike x x2
   begin_alike Mul b b2 e e2 q s h item m = same_begins e e2 _ _ _ _ _ _ h cycle_same (ap (λ n. n + d.units_mul_latency) cycle_same) (ap (λ (t : Entry). event.Mul t.serial ∷ []) h)
   begin_alike k b b2 e e2 q s h item m = same_begins e e2 _ _ _ _ _ _ h cycle_same (ap (λ n. n + 1) cycle_same) (ap (λ (t : Entry). event.Alu t.serial ∷ []) h)
 
-  entry_if : (g g2 : Bool) (e e2 : Entry) (o o2 : Begun) → g ≡ g2 → without_outcome e ≡ without_outcome e2 → (g ≡ true → begun_without o ≡ begun_without o2) → begun_without (if g then o else waits e) ≡ begun_without (if g2 then o2 else waits e2)
-  entry_if true true e e2 o o2 q h p = p refl
-  entry_if false false e e2 o o2 q h p = same_waits e e2 h
-  entry_if true false e e2 o o2 q h p = absurd (cc)
-  entry_if false true e e2 o o2 q h p = absurd (cc)
-
   -- two entries that issue in one piece show the same
   whole_alike : (b b2 : List Entry) (e e2 : Entry) → is_store e.item.kind ≡ false → SameOutcomes d.stt_model b b2 → without_outcome e ≡ without_outcome e2 → IsItem code e.item → begun_without (issue_whole d now b e) ≡ begun_without (issue_whole d now2 b2 e2)
   whole_alike b b2 e e2 n s h item =
       let port = port_of e.item.kind in
       let k = same_kind e e2 h in
       let g = granted_alike d x x2 r place b b2 s e e2 h port ∙ ap (λ k. is_granted d now2 (port_of k) b2 e2) k in
-      entry_if (is_granted d now port b e) (is_granted d now2 (port_of e2.item.kind) b2 e2) e e2 (begin_as e.item.kind d now b e) (begin_as e2.item.kind d now2 b2 e2) g h
-      (λ t. begin_alike e.item.kind b b2 e e2 refl s h item (may_parts d now b e (sym (may_own d now b e n) ∙ (both (may_at d now port b e) _ t).0)).kind ∙ ap (λ k. begun_without (begin_as k d now2 b2 e2)) k)
+      if_both BegunAlike (is_granted d now port b e) (is_granted d now2 (port_of e2.item.kind) b2 e2) _ _ _ _ g
+      (λ t. begin_alike e.item.kind b b2 e e2 refl s h item (may_parts d now b e (sym (may_own d now b e n) ∙ (both (may_at d now port b e) _ t).0)).kind ∙ ap (λ k. begun_without (begin_as k d now2 b2 e2)) k) (λ t. same_waits e e2 h)
 
   -- two stores that issue by parts show the same
   parts_alike : (b b2 : List Entry) (e e2 : Entry) → SameOutcomes d.stt_model b b2 → without_outcome e ≡ without_outcome e2 → begun_without (issue_parts d now b e) ≡ begun_without (issue_parts d now2 b2 e2)
@@ -122,35 +122,33 @@ module _ (cycle : ℕ) (d : Desc) (code : Code) (x x2 : Machine) (r : Alike x x2
       ∙ ap (λ t. begun_without (parts_as address2 datum2 d now2 f2 t)) h
       ∙ sym (parts_hide address2 datum2 d now2 now2 f2 f2 e2 refl)
 
-  by_parts : (t t2 : Bool) (a a2 w w2 : Begun) → t ≡ t2 → begun_without a ≡ begun_without a2 → (t ≡ false → begun_without w ≡ begun_without w2) → begun_without (if t then a else w) ≡ begun_without (if t2 then a2 else w2)
-  by_parts true true a a2 w w2 q p h = p
-  by_parts false false a a2 w w2 q p h = h refl
-  by_parts true false a a2 w w2 q p h = absurd (cc)
-  by_parts false true a a2 w w2 q p h = absurd (cc)
-
   entry_alike : (b b2 : List Entry) (e e2 : Entry) → SameOutcomes d.stt_model b b2 → without_outcome e ≡ without_outcome e2 → IsItem code e.item → begun_without (issue_entry d now b e) ≡ begun_without (issue_entry d now2 b2 e2)
   entry_alike b b2 e e2 s h item =
       ap begun_without (entry_parts d now b e)
-      ∙ by_parts (is_store e.item.kind) (is_store e2.item.kind) (issue_parts d now b e) (issue_parts d now2 b2 e2) (issue_whole d now b e) (issue_whole d now2 b2 e2)
-      (ap is_store (same_kind e e2 h)) (parts_alike b b2 e e2 s h) (λ n. whole_alike b b2 e e2 n s h item)
+      ∙ if_both BegunAlike (is_store e.item.kind) (is_store e2.item.kind) _ _ _ _ (ap is_store (same_kind e e2 h)) (λ n. parts_alike b b2 e e2 s h) (λ n. whole_alike b b2 e e2 n s h item)
       ∙ sym (ap begun_without (entry_parts d now2 b2 e2))
 
-  each_alike : (es es2 b b2 : List Entry) → map without_outcome es ≡ map without_outcome es2 → SameOutcomes d.stt_model (reverse_aux es b) (reverse_aux es2 b2) → Along (EntryInvariant d code (bank_in (hart_of x)) cycle) b es →
+  each_alike : (es es2 b b2 : List Entry) → length es ≡ length es2 → SameOutcomes d.stt_model (reverse_aux es b) (reverse_aux es2 b2) → Along (EntryInvariant d code (bank_in (hart_of x)) cycle) b es →
       map begun_without (each_from (issue_entry d now) b es) ≡ map begun_without (each_from (issue_entry d now2) b2 es2)
   each_alike [] [] b b2 l s i = refl
   each_alike (e ∷ es) (e2 ∷ es2) b b2 l s i =
-      let l2 : map without_outcome es ≡ map without_outcome es2 = cc in
-      let here = peel d.stt_model es es2 (e ∷ b) (e2 ∷ b2) l2 s in
+      let here = peel (SameOutcomes d.stt_model) (λ e e2 b b2 s. s.1) es es2 (e ∷ b) (e2 ∷ b2) (cc) s in
       let one = entry_alike b b2 e e2 here.1 here.0.but_outcome i.0.item in
-      let rest = each_alike es es2 (e ∷ b) (e2 ∷ b2) l2 s i.1 in
-      ap (λ t. t ∷ map begun_without (each_from (issue_entry d now) (e ∷ b) es)) one ∙ ap (λ ts. begun_without (issue_entry d now2 b2 e2) ∷ ts) rest
+      ap₂ (λ t ts. t ∷ ts) one (each_alike es es2 (e ∷ b) (e2 ∷ b2) (cc) s i.1)
   each_alike [] (e2 ∷ es2) b b2 l s i = absurd (cc)
   each_alike (e ∷ es) [] b b2 l s i = absurd (cc)
 
   -- ---- the load that is tried, and the division
 
-  at_port : (port : Port) → SeenAlike d.stt_model (may_at d now port) (may_at d now2 port)
-  at_port port b b2 e e2 s h = at_alike d x x2 r place b b2 s e e2 h.but_outcome port
+  -- a place at which the same load or division asks
+  abbrev Asking : Place → Place → Type 0
+  Asking p p2 = SamePlace hides (SameOutcomes d.stt_model) x.window p p2
+
+  asking : SameOutcomes d.stt_model (reverse x.window) (reverse x2.window) → (port : Port) → Both Asking (first (may_at d now port) x.window) (first (may_at d now2 port) x2.window)
+  asking s port =
+      let w = all_hidden x.window x2.window (ap (λ (m : Machine). m.window) r) in
+      first_same hides (may_at d now port) (may_at d now2 port) (SameOutcomes d.stt_model) [] x.window [] [] x.window x2.window tt w
+      (along (SameOutcomes d.stt_model) (λ e e2 b b2 s. s.1) _ _ (λ b b2 e e2 s. at_alike d x x2 r place b b2 s.1 e e2 s.0.but_outcome port) [] [] x.window x2.window (lengths hides x.window x.window x2.window w).1 s)
 
   load_shown : (a : Access) (m m2 : Machine) → Alike m m2 →
       shown (record m { cache = cache_after a d m.cache; second = second_after a d m.second; misses = misses_after a d m.cycle m.misses })
@@ -162,31 +160,24 @@ module _ (cycle : ℕ) (d : Desc) (code : Code) (x x2 : Machine) (r : Alike x x2
   item_at b [] es e i = i.0.item
   item_at b (o ∷ older) es e i = item_at (o ∷ b) older es e i.1
 
-  tried_alike_at : (o o2 : Option Place) → SamePlaces d.stt_model o o2 → Along (EntryInvariant d code (bank_in (hart_of x)) cycle) [] x.window → ((p : Place) → o ≡ Some p → Found (may_at d now LoadPort) [] x.window p) → shown (after_load d o x) ≡ shown (after_load d o2 x2)
-  tried_alike_at None None s i f = r
-  tried_alike_at (Some p) (Some p2) s i f =
-      let at = f p refl in
+  tried_alike : Along (EntryInvariant d code (bank_in (hart_of x)) cycle) [] x.window → (p p2 : Place) → Asking p p2 → Found (may_at d now LoadPort) [] x.window p → shown (after_load d (Some p) x) ≡ shown (after_load d (Some p2) x2)
+  tried_alike i p p2 s at =
       let t = asks_load d now p.before p.entry at.has in
       let l : is_load p.entry.item.kind ≡ true = ap is_load t.1 in
       let item = item_at [] at.older p.younger p.entry (subst (Along (EntryInvariant d code (bank_in (hart_of x)) cycle) []) at.all i) in
       let m = load_clean p.entry.item.kind d now p.before p.entry (may_parts d now p.before p.entry t.0).kind l in
-      let a = same_access_of d code x x2 r place p.before p2.before s.before p.entry p2.entry s.here.but_outcome item l m in
+      let a = same_access_of d code x x2 r place p.before p2.before s.known.1 p.entry p2.entry s.known.0.but_outcome item l m in
       load_shown (access_of d now p.before p.entry) x x2 r
       ∙ ap (λ a. shown (record x2 { cache = cache_after a d x2.cache; second = second_after a d x2.second; misses = misses_after a d x2.cycle x2.misses })) a
-  tried_alike_at None (Some p2) s i f = absurd s
-  tried_alike_at (Some p) None s i f = absurd s
 
-  divider_alike : (o o2 : Option Place) → SamePlaces d.stt_model o o2 → ((p : Place) → o ≡ Some p → may_at d now DivPort p.before p.entry ≡ true) → divider_after x o ≡ divider_after x2 o2
-  divider_alike None None s f = ap (λ (m : Machine). m.divider) r
-  divider_alike (Some p) (Some p2) s f =
-      let t = asks_division d now p.before p.entry (f p refl) in
+  divider_alike : (p p2 : Place) → Asking p p2 → Found (may_at d now DivPort) [] x.window p → divider_after x (Some p) ≡ divider_after x2 (Some p2)
+  divider_alike p p2 s at =
+      let t = asks_division d now p.before p.entry at.has in
       let m = division_clean p.entry.item.kind d now p.before p.entry (may_parts d now p.before p.entry t.0).kind (ap is_division t.1) in
-      let a = same_time d code x x2 r place p.before p2.before s.before p.entry p2.entry s.here.but_outcome m in
+      let a = same_time d code x x2 r place p.before p2.before s.known.1 p.entry p2.entry s.known.0.but_outcome m in
       let c = cycle_same in
-      let g = ap (λ (t : Entry). t.serial) s.here.but_outcome in
+      let g = ap (λ (t : Entry). t.serial) s.known.0.but_outcome in
       cc
-  divider_alike None (Some p2) s f = absurd s
-  divider_alike (Some p) None s f = absurd s
 
   entries_begun : (bs : List Begun) → map without_outcome (map (λ b. b.entry) bs) ≡ map (λ b. b.entry) (map begun_without bs)
   entries_begun [] = refl
@@ -198,18 +189,19 @@ module _ (cycle : ℕ) (d : Desc) (code : Code) (x x2 : Machine) (r : Alike x x2
 
   issue_alike : SameOutcomes d.stt_model (reverse x.window) (reverse x2.window) → Along (EntryInvariant d code (bank_in (hart_of x)) cycle) [] x.window → shown_after (issue d x) ≡ shown_after (issue d x2)
   issue_alike s i =
-      let l : map without_outcome x.window ≡ map without_outcome x2.window = ap (λ (m : Machine). m.window) r in
       let bs = each (issue_entry d now) x.window in
       let bs2 = each (issue_entry d now2) x2.window in
-      let q = each_alike x.window x2.window [] [] l s i in
+      let q = each_alike x.window x2.window [] [] (lengths hides x.window x.window x2.window (all_hidden x.window x2.window (ap (λ (m : Machine). m.window) r))).1 s i in
       let w = entries_begun bs ∙ ap (map (λ (b : Begun). b.entry)) q ∙ sym (entries_begun bs2) in
       let v = events_begun bs ∙ ap (flat_map (λ (b : Begun). b.events)) q ∙ sym (events_begun bs2) in
       let load = first (may_at d now LoadPort) x.window in
       let load2 = first (may_at d now2 LoadPort) x2.window in
       let division = first (may_at d now DivPort) x.window in
       let division2 = first (may_at d now2 DivPort) x2.window in
-      let u1 = tried_alike_at load load2 (first_same d.stt_model _ _ (at_port LoadPort) x.window x2.window [] [] l s) i (found (may_at d now LoadPort) [] x.window) in
-      let u2 = divider_alike division division2 (first_same d.stt_model _ _ (at_port DivPort) x.window x2.window [] [] l s) (λ p e. (found (may_at d now DivPort) [] x.window p e).has) in
+      let u1 = by_both Asking (λ o o2. ((p : Place) → o ≡ Some p → Found (may_at d now LoadPort) [] x.window p) → shown (after_load d o x) ≡ shown (after_load d o2 x2))
+      (λ f. r) (λ p p2 t f. tried_alike i p p2 t (f p refl)) load load2 (asking s LoadPort) (found (may_at d now LoadPort) [] x.window) in
+      let u2 = by_both Asking (λ o o2. ((p : Place) → o ≡ Some p → Found (may_at d now DivPort) [] x.window p) → divider_after x o ≡ divider_after x2 o2)
+      (λ f. ap (λ (m : Machine). m.divider) r) (λ p p2 t f. divider_alike p p2 t (f p refl)) division division2 (asking s DivPort) (found (may_at d now DivPort) [] x.window) in
       let G : Machine → List Entry → Divider → List Event → After = λ m w v evs. record { machine = record m { window = w; divider = v }; events = evs } in
       ap (λ m. G m (map without_outcome (map (λ b. b.entry) bs)) (divider_after x division) (flat_map (λ b. b.events) bs)) u1
       ∙ ap (λ w. G (shown (after_load d load2 x2)) w (divider_after x division) (flat_map (λ b. b.events) bs)) w

@@ -1,5 +1,6 @@
 pub mod Looking
 pub mod Operand
+pub mod Masks
 pub mod Complete
 pub mod RenameFetch
 pub mod SameBytes
@@ -16,7 +17,6 @@ pub mod OneRun
 pub mod Replays
 pub mod SameReads
 pub mod Agree
-pub mod Places
 pub mod Resolve
 pub mod May
 pub mod Access

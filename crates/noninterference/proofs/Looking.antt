@@ -97,9 +97,9 @@ same_covers model b e e2 a h t =
     ∙ ap (λ (u : Entry). is_store u.item.kind && has_address u && reaches a (byte_count e2) e2.outcome) h.but_outcome
 
 -- entries whose outcomes are equal, where they may be looked at, are seen alike
-pub seen_alike : (model : SttModel) (b b2 : List Entry) → SameOutcomes model b b2 → SeenEntries model b b2
-seen_alike model [] [] s = tt
-seen_alike model (e ∷ b) (e2 ∷ b2) s =
-    (record { but_outcome = s.0.but_outcome; permits_alike = same_permits model b e e2 s.0; covers_alike = λ a t. same_covers model b e e2 a s.0 t }, seen_alike model b b2 s.1)
-seen_alike model [] (e2 ∷ b2) s = absurd s
-seen_alike model (e ∷ b) [] s = absurd s
+pub seen_by_outcomes : (model : SttModel) (b b2 : List Entry) → SameOutcomes model b b2 → SeenEntries model b b2
+seen_by_outcomes model [] [] s = tt
+seen_by_outcomes model (e ∷ b) (e2 ∷ b2) s =
+    (record { but_outcome = s.0.but_outcome; permits_alike = same_permits model b e e2 s.0; covers_alike = λ a t. same_covers model b e e2 a s.0 t }, seen_by_outcomes model b b2 s.1)
+seen_by_outcomes model [] (e2 ∷ b2) s = absurd s
+seen_by_outcomes model (e ∷ b) [] s = absurd s

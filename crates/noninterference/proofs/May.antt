@@ -14,7 +14,7 @@ use Rattle.window_model.proofs.Booleans.{both, not_true}
 use Rattle.noninterference.specs.Alike.{Alike, without_outcome}
 use Rattle.noninterference.specs.Outcomes.{SameOutcomes}
 use Rattle.noninterference.proofs.Effects.{address_alike}
-use Rattle.noninterference.proofs.Looking.{seen_alike}
+use Rattle.noninterference.proofs.Looking.{seen_by_outcomes}
 use Rattle.two_runs.proofs.May as seen
 use Rattle.two_runs.specs.Seen.{AsksAlike, EachAsks, SeenMachine}
 
@@ -38,9 +38,9 @@ module _ (d : Desc) (x x2 : Machine) (r : Alike x x2) (place : SameShape x.ram x
 
   -- two runs see alike whether an entry may issue at a port
   pub at_alike : (b b2 : List Entry) (s : SameOutcomes d.stt_model b b2) (e e2 : Entry) (h : without_outcome e ≡ without_outcome e2) (port : Port) → may_at d (around x) port b e ≡ may_at d (around x2) port b2 e2
-  at_alike b b2 s e e2 h port = seen.at_alike d x x2 beside b b2 (seen_alike d.stt_model b b2 s) e e2 h port (asks b b2 s e e2 h)
+  at_alike b b2 s e e2 h port = seen.at_alike d x x2 beside b b2 (seen_by_outcomes d.stt_model b b2 s) e e2 h port (asks b b2 s e e2 h)
 
   -- two runs see alike whether an entry is granted a port
   pub granted_alike : (b b2 : List Entry) → SameOutcomes d.stt_model b b2 → (e e2 : Entry) → without_outcome e ≡ without_outcome e2 → (port : Port) → is_granted d (around x) port b e ≡ is_granted d (around x2) port b2 e2
   granted_alike b b2 s e e2 h port =
-      seen.granted_alike d x x2 beside b b2 (seen_alike d.stt_model b b2 s) (each_asks b b2 s) e e2 h port (asks b b2 s e e2 h)
+      seen.granted_alike d x x2 beside b b2 (seen_by_outcomes d.stt_model b b2 s) (each_asks b b2 s) e e2 h port (asks b b2 s e e2 h)

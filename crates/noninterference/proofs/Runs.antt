@@ -1,5 +1,5 @@
 -- Whole runs: what the path doesn't load leaves no mark in the trace.
-use Rattle.std.proofs.Common.{◌≡◌, ℕ, zero, suc, ◌+◌, ◌-◌, ◌≤◌, true, List, [], ◌∷◌, Option, Some, None, refl, ap, sym, ◌∙◌, arith}
+use Rattle.std.proofs.Common.{◌≡◌, ℕ, zero, suc, ◌+◌, ◌-◌, ◌≤◌, true, List, [], ◌∷◌, Option, Some, None, refl, ap, ap₂, sym, ◌∙◌, arith}
 use Rattle.std.specs.Prelude.{slice_index}
 use Rattle.std.specs.List.{AllByRecursion as Each}
 use Rattle.std.proofs.lemmas.List.Elements.{recursion_from_All}
@@ -16,6 +16,7 @@ use Rattle.window_model.specs.Cycle.{Trace, cycle, rows, after_cycles}
 use Rattle.window_model.specs.Committed.{Aligned}
 use Rattle.window_model.specs.Path.{path}
 use Rattle.window_model.proofs.Lists.{each_join, each_left, each_right, each_then}
+use Rattle.two_runs.proofs.Rows.{with_end}
 use Rattle.committed_state.specs.Consistent.{Consistent}
 use Rattle.committed_state.proofs.Cycle.{cycle_commits, consistent_cycle}
 use Rattle.noninterference.specs.Alike.{Alike}
@@ -111,9 +112,6 @@ module _ (d : Desc) (code : Code) (entry : ℕ) (m m2 : Ram) (total : ℕ) (agre
         bytes = fewer _ (path d.stt_model) code k total (start entry m) (omega (arith, le)) (each_then _ _ same_byte loaded all);
       }
 
-abbrev with_end : List Row → Option End → ℕ → ℕ → Trace
-with_end rs e n c = record { rows = rs; end = e; retired = n; cycles = c }
-
 -- under a model that protects, each memory that agrees on the bytes that the path loads gives one trace
 pub same_trace : Noninterference
 same_trace d code entry m m2 n protected aligned agree =
@@ -123,6 +121,4 @@ same_trace d code entry m m2 n protected aligned agree =
     let al = opening_alike d code entry m m2 total agree in
     let p : Together d code total x x2 = record { alike = al; facts = facts_opening d code entry m; facts2 = facts_opening d code entry m2; in_step = opening_in_step d code entry m m2 total agree } in
     let r = runs_alike d code total protected aligned n x x2 al (λ z. p) (omega arith) in
-    let last = after_cycles d code n x in
-    sym (ap (λ rs. with_end rs last.end last.retired last.cycle) r.0
-    ∙ ap (λ (y : Machine). with_end (rows d code n x2) y.end y.retired y.cycle) r.1)
+    sym (ap₂ with_end r.0 r.1)

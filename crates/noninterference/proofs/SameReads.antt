@@ -30,7 +30,7 @@ use Rattle.noninterference.specs.Alike.{without_outcome}
 use Rattle.noninterference.specs.Outcomes.{SameOutcomes}
 use Rattle.noninterference.specs.InStep.{byte, InStep}
 use Rattle.two_runs.proofs.Looking.{same_visible}
-use Rattle.noninterference.proofs.Looking.{seen_alike}
+use Rattle.noninterference.proofs.Looking.{seen_by_outcomes}
 use Rattle.noninterference.proofs.Derive.{AllSameReads, derive}
 use Rattle.noninterference.proofs.Loads.{is_load_kind, is_load_instr, word_of, load_same}
 use Rattle.noninterference.proofs.OneRun.{OneRun, older}
@@ -111,7 +111,7 @@ module _ (now : ℕ) (d : Desc) (protected : protects d.stt_model ≡ true) (cod
         record {
           but_outcome = h1;
           issued = i;
-          reads = λ k v. visible_load b b2 e e2 (omega (arith, lt)) w w2 l h1 i v (sym (same_visible model b b2 (seen_alike model b b2 same)) ∙ v) k;
+          reads = λ k v. visible_load b b2 e e2 (omega (arith, lt)) w w2 l h1 i v (sym (same_visible model b b2 (seen_by_outcomes model b b2 same)) ∙ v) k;
         },
         rest,
       )

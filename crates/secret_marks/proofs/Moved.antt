@@ -28,10 +28,10 @@ use Rattle.secret_marks.specs.Shows.{call_shows, decides_as, head_shows, is_mark
 use Rattle.secret_marks.specs.Published.{Public, published, published_marks, unmarked_at}
 use Rattle.secret_marks.specs.Alike.{AlikeBut, Beside, SameEntry, is_unresolved}
 use Rattle.secret_marks.proofs.Calls.{same_reg}
-use Rattle.secret_marks.proofs.Clear.{load_closed}
+use Rattle.secret_marks.proofs.Masks.{load_closed}
 use Rattle.secret_marks.proofs.Kept.{same_addr, same_covers, same_fault_of}
 use Rattle.secret_marks.proofs.Lists.{values_length}
-use Rattle.secret_marks.proofs.Looking.{seen_alike}
+use Rattle.secret_marks.proofs.Looking.{seen_by_marks}
 use Rattle.secret_marks.proofs.May.{beside}
 use Rattle.secret_marks.proofs.Outputs.{of_nothing}
 use Rattle.secret_marks.proofs.Publish.{PutAlike}
@@ -148,7 +148,7 @@ module _ (d : Desc) (m : Marks) (x x2 : Machine) (h : AlikeBut m x x2) where
     seen = beside d m x x2 h
 
     older : SeenEntries d.stt_model b b2
-    older = seen_alike d.stt_model ms b b2 s
+    older = seen_by_marks d.stt_model ms b b2 s
 
     others : without_outcome e ≡ without_outcome e2
     others = ap without_outcome t

@@ -1,4 +1,10 @@
+pub mod Choices
+pub mod Masks
 pub mod Looking
 pub mod May
 pub mod Fitting
+pub mod Complete
+pub mod Clear
+pub mod Resolve
 pub mod RenameFetch
+pub mod Rows
