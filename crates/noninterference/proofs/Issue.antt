@@ -1,6 +1,5 @@
 -- Issue tells nothing: who issues, what it accesses and how long it takes is equal in both runs.
-use Rattle.std.proofs.Common.{subst, ◌≡◌, ℕ, ◌+◌, Bool, true, false, List, [], ◌∷◌, ◌++◌, map, reverse, length, Option, Some, None, refl, ap, ap₂, sym, ◌∙◌}
-use Rattle.std.specs.Prelude.{if◌then◌else◌}
+use Rattle.std.proofs.Common.{subst, ◌≡◌, ℕ, ◌+◌, Bool, true, false, List, [], ◌∷◌, ◌++◌, map, reverse, length, Some, None, refl, ap, ap₂, sym, ◌∙◌}
 use Rattle.std.specs.List.{flat_map}
 use mathlib.Core.List.{reverse_aux}
 use Rattle.rv_types.specs.Memory.{Code}
@@ -29,19 +28,20 @@ use Rattle.window_model.specs.Retire.{hart_of}
 use Rattle.window_model.specs.declared.Event.TheVariants as event
 use Rattle.window_model.proofs.Booleans.{both}
 use Rattle.window_model.proofs.LookedUp.{same_due_by}
-use Rattle.window_model.proofs.Places.{Found, found}
+use Rattle.window_model.proofs.Places.{Found}
 use Rattle.window_model.proofs.Issuing.{asks_division, asks_load, may_own, may_parts, load_clean, division_clean}
 use Rattle.committed_state.specs.Consistent.{IsItem, EntryInvariant, bank_in}
-use Rattle.two_runs.specs.Masks.{SamePlace}
-use Rattle.two_runs.proofs.Choices.{Both, by_both, if_both}
-use Rattle.two_runs.proofs.Masks.{along, first_same, lengths, peel}
+use Rattle.two_runs.specs.Masks.{SamePlace, but_data}
+use Rattle.two_runs.proofs.Choices.{Both, if_both}
+use Rattle.two_runs.proofs.Issue.{DivisionsAsk, LoadsAsk, issue_leaves, issue_left, same_taken}
+use Rattle.two_runs.proofs.Masks.{along, first_same, lengths, peel, where_found}
 use Rattle.noninterference.specs.Alike.{Alike, shown, shown_after, without_outcome}
 use Rattle.noninterference.specs.Outcomes.{SameOutcomes}
 use Rattle.noninterference.specs.Laws.{IssueTellsNothing}
-use Rattle.noninterference.proofs.Looking.{same_kind}
+use Rattle.noninterference.proofs.Looking.{same_kind, seen_by_outcomes}
 use Rattle.noninterference.proofs.May.{at_alike, granted_alike}
-use Rattle.noninterference.proofs.Masks.{all_hidden, hides}
-use Rattle.noninterference.proofs.Access.{same_access_of, same_time}
+use Rattle.noninterference.proofs.Masks.{all_hidden, hides, tells}
+use Rattle.noninterference.proofs.Access.{untainted_access, untainted_time}
 
 -- ---- what an entry begins
 
@@ -90,13 +90,13 @@ module _ (cycle : ℕ) (d : Desc) (code : Code) (x x2 : Machine) (r : Alike x x2
 
   begin_alike : (k : Kind) (b b2 : List Entry) (e e2 : Entry) → e.item.kind ≡ k → SameOutcomes d.stt_model b b2 → without_outcome e ≡ without_outcome e2 → IsItem code e.item → may_issue_as k d now b e ≡ true → begun_without (begin_as k d now b e) ≡ begun_without (begin_as k d now2 b2 e2)
   begin_alike Load b b2 e e2 q s h item m =
-      let a = same_access_of d code x x2 r place b b2 s e e2 h item (ap is_load q) (load_clean Load d now b e m refl) in
+      let a = untainted_access d code x x2 r place b b2 s e e2 h item (ap is_load q) (load_clean Load d now b e m refl) in
       let f = effect_of x.regs b e in
       let f2 = effect_of x2.regs b2 e2 in
       ap (λ a. begun_without (load_as a d now e f (value_loaded x.ram b e f.addr))) a
       ∙ same_load_as (access_of d now2 b2 e2) d now now2 e e2 f f2 (value_loaded x.ram b e f.addr) (value_loaded x2.ram b2 e2 f2.addr) h cycle_same
   begin_alike Div b b2 e e2 q s h item m =
-      let t = same_time d code x x2 r place b b2 s e e2 h (division_clean Div d now b e m refl) in
+      let t = untainted_time d code x x2 r place b b2 s e e2 h (division_clean Div d now b e m refl) in
       same_begins e e2 _ _ _ _ _ _ h cycle_same (let c = cycle_same in cc) (let g = ap (λ (t : Entry). t.serial) h in cc)
   begin_alike Mul b b2 e e2 q s h item m = same_begins e e2 _ _ _ _ _ _ h cycle_same (ap (λ n. n + d.units_mul_latency) cycle_same) (ap (λ (t : Entry). event.Mul t.serial ∷ []) h)
   begin_alike k b b2 e e2 q s h item m = same_begins e e2 _ _ _ _ _ _ h cycle_same (ap (λ n. n + 1) cycle_same) (ap (λ (t : Entry). event.Alu t.serial ∷ []) h)
@@ -150,34 +150,25 @@ module _ (cycle : ℕ) (d : Desc) (code : Code) (x x2 : Machine) (r : Alike x x2
       first_same hides (may_at d now port) (may_at d now2 port) (SameOutcomes d.stt_model) [] x.window [] [] x.window x2.window tt w
       (along (SameOutcomes d.stt_model) (λ e e2 b b2 s. s.1) _ _ (λ b b2 e e2 s. at_alike d x x2 r place b b2 s.1 e e2 s.0.but_outcome port) [] [] x.window x2.window (lengths hides x.window x.window x2.window w).1 s)
 
-  load_shown : (a : Access) (m m2 : Machine) → Alike m m2 →
-      shown (record m { cache = cache_after a d m.cache; second = second_after a d m.second; misses = misses_after a d m.cycle m.misses })
-      ≡ shown (record m2 { cache = cache_after a d m2.cache; second = second_after a d m2.second; misses = misses_after a d m2.cycle m2.misses })
-  load_shown a m m2 q = ap (λ (t : Machine). let u : Machine = record t { cache = cache_after a d t.cache; second = second_after a d t.second; misses = misses_after a d t.cycle t.misses } in u) q
-
   -- an entry of a consistent window is an instruction of the program
   item_at : (b older es : List Entry) (e : Entry) → Along (EntryInvariant d code (bank_in (hart_of x)) cycle) b (older ++ e ∷ es) → IsItem code e.item
   item_at b [] es e i = i.0.item
   item_at b (o ∷ older) es e i = item_at (o ∷ b) older es e i.1
 
-  tried_alike : Along (EntryInvariant d code (bank_in (hart_of x)) cycle) [] x.window → (p p2 : Place) → Asking p p2 → Found (may_at d now LoadPort) [] x.window p → shown (after_load d (Some p) x) ≡ shown (after_load d (Some p2) x2)
-  tried_alike i p p2 s at =
+  load_asks : Along (EntryInvariant d code (bank_in (hart_of x)) cycle) [] x.window → (p p2 : Place) → Asking p p2 → Found (may_at d now LoadPort) [] x.window p → LoadsAsk d x x2 (ap but_data r) p p2
+  load_asks i p p2 s at =
       let t = asks_load d now p.before p.entry at.has in
       let l : is_load p.entry.item.kind ≡ true = ap is_load t.1 in
       let item = item_at [] at.older p.younger p.entry (subst (Along (EntryInvariant d code (bank_in (hart_of x)) cycle) []) at.all i) in
       let m = load_clean p.entry.item.kind d now p.before p.entry (may_parts d now p.before p.entry t.0).kind l in
-      let a = same_access_of d code x x2 r place p.before p2.before s.known.1 p.entry p2.entry s.known.0.but_outcome item l m in
-      load_shown (access_of d now p.before p.entry) x x2 r
-      ∙ ap (λ a. shown (record x2 { cache = cache_after a d x2.cache; second = second_after a d x2.second; misses = misses_after a d x2.cycle x2.misses })) a
+      untainted_access d code x x2 r place p.before p2.before s.known.1 p.entry p2.entry s.known.0.but_outcome item l m
 
-  divider_alike : (p p2 : Place) → Asking p p2 → Found (may_at d now DivPort) [] x.window p → divider_after x (Some p) ≡ divider_after x2 (Some p2)
-  divider_alike p p2 s at =
+  division_asks : (p p2 : Place) → Asking p p2 → Found (may_at d now DivPort) [] x.window p → DivisionsAsk d x x2 (ap but_data r) p p2
+  division_asks p p2 s at =
       let t = asks_division d now p.before p.entry at.has in
       let m = division_clean p.entry.item.kind d now p.before p.entry (may_parts d now p.before p.entry t.0).kind (ap is_division t.1) in
-      let a = same_time d code x x2 r place p.before p2.before s.known.1 p.entry p2.entry s.known.0.but_outcome m in
-      let c = cycle_same in
-      let g = ap (λ (t : Entry). t.serial) s.known.0.but_outcome in
-      cc
+      let h = s.known.0.but_outcome in
+      same_taken d x x2 (ap but_data r) p.before p2.before (seen_by_outcomes d.stt_model p.before p2.before s.known.1) p.entry p2.entry h (untainted_time d code x x2 r place p.before p2.before s.known.1 p.entry p2.entry h m)
 
   entries_begun : (bs : List Begun) → map without_outcome (map (λ b. b.entry) bs) ≡ map (λ b. b.entry) (map begun_without bs)
   entries_begun [] = refl
@@ -190,23 +181,14 @@ module _ (cycle : ℕ) (d : Desc) (code : Code) (x x2 : Machine) (r : Alike x x2
   issue_alike : SameOutcomes d.stt_model (reverse x.window) (reverse x2.window) → Along (EntryInvariant d code (bank_in (hart_of x)) cycle) [] x.window → shown_after (issue d x) ≡ shown_after (issue d x2)
   issue_alike s i =
       let bs = each (issue_entry d now) x.window in
-      let bs2 = each (issue_entry d now2) x2.window in
       let q = each_alike x.window x2.window [] [] (lengths hides x.window x.window x2.window (all_hidden x.window x2.window (ap (λ (m : Machine). m.window) r))).1 s i in
-      let w = entries_begun bs ∙ ap (map (λ (b : Begun). b.entry)) q ∙ sym (entries_begun bs2) in
-      let v = events_begun bs ∙ ap (flat_map (λ (b : Begun). b.events)) q ∙ sym (events_begun bs2) in
-      let load = first (may_at d now LoadPort) x.window in
-      let load2 = first (may_at d now2 LoadPort) x2.window in
-      let division = first (may_at d now DivPort) x.window in
-      let division2 = first (may_at d now2 DivPort) x2.window in
-      let u1 = by_both Asking (λ o o2. ((p : Place) → o ≡ Some p → Found (may_at d now LoadPort) [] x.window p) → shown (after_load d o x) ≡ shown (after_load d o2 x2))
-      (λ f. r) (λ p p2 t f. tried_alike i p p2 t (f p refl)) load load2 (asking s LoadPort) (found (may_at d now LoadPort) [] x.window) in
-      let u2 = by_both Asking (λ o o2. ((p : Place) → o ≡ Some p → Found (may_at d now DivPort) [] x.window p) → divider_after x o ≡ divider_after x2 o2)
-      (λ f. ap (λ (m : Machine). m.divider) r) (λ p p2 t f. divider_alike p p2 t (f p refl)) division division2 (asking s DivPort) (found (may_at d now DivPort) [] x.window) in
-      let G : Machine → List Entry → Divider → List Event → After = λ m w v evs. record { machine = record m { window = w; divider = v }; events = evs } in
-      ap (λ m. G m (map without_outcome (map (λ b. b.entry) bs)) (divider_after x division) (flat_map (λ b. b.events) bs)) u1
-      ∙ ap (λ w. G (shown (after_load d load2 x2)) w (divider_after x division) (flat_map (λ b. b.events) bs)) w
-      ∙ ap (λ v. G (shown (after_load d load2 x2)) (map without_outcome (map (λ b. b.entry) bs2)) v (flat_map (λ b. b.events) bs)) u2
-      ∙ ap (G (shown (after_load d load2 x2)) (map without_outcome (map (λ b. b.entry) bs2)) (divider_after x2 division2)) v
+      let w = entries_begun bs ∙ ap (map (λ (b : Begun). b.entry)) q ∙ sym (entries_begun (each (issue_entry d now2) x2.window)) in
+      let v = events_begun bs ∙ ap (flat_map (λ (b : Begun). b.events)) q ∙ sym (events_begun (each (issue_entry d now2) x2.window)) in
+      let o = ap but_data r in
+      let loads = where_found (may_at d now LoadPort) (may_at d now2 LoadPort) x.window x2.window Asking (LoadsAsk d x x2 o) (load_asks i) (asking s LoadPort) in
+      let divisions = where_found (may_at d now DivPort) (may_at d now2 DivPort) x.window x2.window Asking (DivisionsAsk d x x2 o) division_asks (asking s DivPort) in
+      tells hides (issue d x).machine.window (issue d x) (issue d x2) ((issue_leaves d x).kept.0 ∙ ap (λ (m : Machine). m.regs) r ∙ sym (issue_leaves d x2).kept.0)
+      (issue_left d x x2 o hides (issue d x).machine.window loads divisions v (all_hidden (issue d x).machine.window (issue d x2).machine.window w))
 
 pub issue_tells_nothing : IssueTellsNothing
 issue_tells_nothing now d code x x2 c r o p = issue_alike now d code x x2 r p o c.entries

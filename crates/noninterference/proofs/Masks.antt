@@ -13,7 +13,7 @@ use Rattle.window_model.specs.Order.{fault_of, is_load}
 use Rattle.window_model.specs.Retire.{addr_of}
 use Rattle.two_runs.specs.Masks.{LeavesAccess, LeftAlike, Mask, MaskedAlike, but_data, masked}
 use Rattle.two_runs.proofs.Masks.{but_outcomes, turned_alike}
-use Rattle.noninterference.specs.Alike.{TellsNothing, shown_after, without_outcome}
+use Rattle.noninterference.specs.Alike.{TellsNothing, without_outcome}
 use Rattle.noninterference.specs.Outcomes.{OutcomesAgree, SameEntry, SameOutcome, SameOutcomes, but_value}
 
 -- ---- all outcomes are hidden

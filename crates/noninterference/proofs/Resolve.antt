@@ -1,16 +1,16 @@
 -- Resolve looks at untainted operands alone.
-use Rattle.std.proofs.Common.{◌≡◌, false, List, true, refl, ap, sym, ◌∙◌, length, take, [], Some}
+use Rattle.std.proofs.Common.{◌≡◌, false, List, true, ap, sym, ◌∙◌, length, take, []}
 use Rattle.rv_types.specs.declared.Kind.{Kind}
 use Rattle.rv_types.specs.declared.Kind.TheVariants.{Load, Store}
 use Rattle.machine_desc.specs.declared.SttModel.{SttModel}
 use Rattle.window_model.specs.declared.Entry.{Entry}
 use Rattle.window_model.specs.State.{Machine}
-use Rattle.window_model.specs.Order.{Place, fault_of, first, is_control, value_of}
+use Rattle.window_model.specs.Order.{fault_of, is_control, value_of}
 use Rattle.window_model.specs.Taint.{any_tainted}
 use Rattle.window_model.specs.Resolve.{may_resolve, next_of, resolve}
 use Rattle.window_model.proofs.Places.{found}
 use Rattle.window_model.proofs.Resolving.{resolve_parts, resolved_one}
-use Rattle.two_runs.specs.Masks.{ResolvedAlike, SamePlace, but_data, masked}
+use Rattle.two_runs.specs.Masks.{but_data}
 use Rattle.two_runs.proofs.Masks.{along, lengths}
 use Rattle.two_runs.proofs.May.{may_resolve_alike}
 use Rattle.two_runs.proofs.Resolve.{resolve_alike, resolve_data}

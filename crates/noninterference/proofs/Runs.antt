@@ -11,8 +11,7 @@ use Rattle.machine_desc.specs.declared.Desc.{Desc}
 use Rattle.window_model.specs.State.{Machine, opening}
 use Rattle.window_model.specs.Taint.{protects}
 use Rattle.window_model.specs.Retire.{unless_ended}
-use Rattle.window_model.specs.Row.{Row}
-use Rattle.window_model.specs.Cycle.{Trace, cycle, rows, after_cycles}
+use Rattle.window_model.specs.Cycle.{cycle, rows, after_cycles}
 use Rattle.window_model.specs.Committed.{Aligned}
 use Rattle.window_model.specs.Path.{path}
 use Rattle.window_model.proofs.Lists.{each_join, each_left, each_right, each_then}

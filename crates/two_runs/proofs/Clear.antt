@@ -1,7 +1,7 @@
 -- Clear looks at addresses of stores that are untainted, and at those of loads, which no mask hides.
 use Rattle.std.proofs.Common.{◌≡◌, ℕ, ◌+◌, not, ◌&&◌, List, [], ◌∷◌, ◌++◌, Some, reverse, take, length, refl, ap, ap₂, sym, ◌∙◌, append_assoc}
 use Rattle.std.proofs.lemmas.List.{append-nil}
-use Rattle.std.specs.Prelude.{if◌then◌else◌, is_some}
+use Rattle.std.specs.Prelude.{is_some}
 use Rattle.rv_types.specs.Memory.{range}
 use Rattle.machine_desc.specs.declared.Desc.{Desc}
 use Rattle.machine_desc.specs.Questions.{loads_pass}

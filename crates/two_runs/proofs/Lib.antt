@@ -6,5 +6,6 @@ pub mod Fitting
 pub mod Complete
 pub mod Clear
 pub mod Resolve
+pub mod Issue
 pub mod RenameFetch
 pub mod Rows

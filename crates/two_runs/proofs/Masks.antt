@@ -1,14 +1,15 @@
 -- Windows of which masks leave the same, and where the oldest entry with a property stands in two of them.
-use Rattle.std.proofs.Common.{◌≡◌, ℕ, suc, Bool, List, [], ◌∷◌, ◌++◌, Option, map, reverse, take, length, refl, ap, ap₂, sym, ◌∙◌, subst, append_assoc}
+use Rattle.std.proofs.Common.{◌≡◌, suc, Bool, List, [], ◌∷◌, ◌++◌, Some, map, reverse, take, length, refl, ap, ap₂, sym, ◌∙◌, subst, append_assoc}
 use Rattle.std.proofs.lemmas.List.{take_at}
 use mathlib.Core.List.{reverse_aux}
 use Rattle.machine_desc.specs.declared.SttModel.{SttModel}
 use Rattle.window_model.specs.declared.Entry.{Entry}
 use Rattle.window_model.specs.State.{After}
-use Rattle.window_model.specs.Order.{first_from}
+use Rattle.window_model.specs.Order.{Place, first, first_from}
 use Rattle.two_runs.specs.Masks.{AnswerAlike, LeftAlike, Mask, MaskedAlike, SamePlace}
 use Rattle.two_runs.specs.Seen.{SeenEntries, without_outcome}
-use Rattle.two_runs.proofs.Choices.{Both, if_both}
+use Rattle.window_model.proofs.Places.{Found, found}
+use Rattle.two_runs.proofs.Choices.{Both, by_both, if_both}
 
 -- ---- lists of entries beside their masks
 
@@ -61,6 +62,11 @@ module _ {M : Type 0} (mask : M → Mask) where
       (λ h. record { before_masks = bs; mask_here = m; younger_masks = ms; all = sym (turned bs (m ∷ ms)); before = s; here = t.0; younger = t.1; known = r.1 })
       (λ h. first_same f f2 S (m ∷ bs) ms (e ∷ b) (e2 ∷ b2) es es2 (t.0, s) t.1 r.2)
   first_same f f2 S bs _ b b2 _ _ s t r = absurd t
+
+-- what is related of two places where the first has the property is so of the oldest entries with properties
+pub where_found : (f f2 : List Entry → Entry → Bool) (w w2 : List Entry) (Q R : Place → Place → Type 0) → ((p p2 : Place) → Q p p2 → Found f [] w p → R p p2) →
+    Both Q (first f w) (first f2 w2) → Both R (first f w) (first f2 w2)
+where_found f f2 w w2 Q R h s = by_both Q (λ o o2. ((p : Place) → o ≡ Some p → Found f [] w p) → Both R o o2) (λ k. tt) (λ p p2 q k. h p p2 q (k p refl)) _ _ s (found f [] w)
 
 -- ---- along two windows
 

@@ -4,16 +4,19 @@
 //! A crate of laws on two runs (`noninterference` on memories that agree, `secret_marks` on marks) shows that its own
 //! relation implies what two runs see alike, and cites the lemmas.
 //!
-//! Rules: `specs/Seen.antt`, what two runs see alike; `Laws.antt`; `docs/architecture.md`, "Laws of two runs".
+//! Rules: `specs/Seen.antt`, what two runs see alike; `Masks.antt`, what masks leave of two machines; `Laws.antt`;
+//! `docs/architecture.md`, "Laws of two runs".
 //!
 //! Promises: what two runs see alike of their windows decides what is visible, tainted and known, and who may be
-//! resolved, cleared and issue, in both alike.
+//! resolved, cleared and issue, in both alike; Complete, Clear and Resolve leave alike what is alike under masks.
 //!
-//! Clauses: `older_entries_are_seen_alike`, `who_goes_is_seen_alike`.
+//! Clauses: `older_entries_are_seen_alike`, `who_goes_is_seen_alike`, `phases_leave_alike_under_masks`.
 #![tactic(auto)]
 
 ghost use Rattle.two_runs.specs.Laws.{
   AddressTaintedAlike,
+  ClearLeavesAlike,
+  CompleteLeavesAlike,
   FetchAlike,
   FitsAlike,
   ForwardedAlike,
@@ -25,6 +28,7 @@ ghost use Rattle.two_runs.specs.Laws.{
   MayResolveAlike,
   OperandsTaintedAlike,
   RenameAlike,
+  ResolveLeavesAlike,
   StoresDoneAlike,
   TaintedAlike,
   VisibleAlike,
@@ -55,4 +59,14 @@ pub fn who_goes_is_seen_alike()
     ensures fits { FitsAlike }
     ensures rename { RenameAlike }
     ensures fetch { FetchAlike }
+{}
+
+/// What a mask leaves of each outcome is all that two machines have to share, but for registers and memory's bytes, for
+/// Complete, Clear and Resolve to have the same events in both and to leave them alike under their masks: any masks for
+/// Complete; masks that leave the addresses of loads for Clear; and for Resolve masks that leave what it looks at of the
+/// entry that it resolves.
+pub fn phases_leave_alike_under_masks()
+    ensures complete { CompleteLeavesAlike }
+    ensures clear { ClearLeavesAlike }
+    ensures resolve { ResolveLeavesAlike }
 {}
