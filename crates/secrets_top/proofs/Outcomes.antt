@@ -42,7 +42,7 @@ accepted_end fault verdict out out' (Err (Refused _)) e p = (e, p)
 
 module _ (wanted : WantedText) (old new : Shelf) (out out' : Told) (inputs : Inputs wanted old new) (verdict : Verdict) (told : verdict_in wanted inputs.desc inputs.image ≡ Some verdict) where
   -- no range has a fault, and this is told of the run
-  accepted : fault_in wanted inputs.image ≡ None → Accepted wanted old new
+  abbrev accepted : fault_in wanted inputs.image ≡ None → Accepted wanted old new
   accepted none = record { inputs = inputs; ranges = none; verdict = verdict; told = told }
 
   -- a range is refused, or the run that is wanted is told

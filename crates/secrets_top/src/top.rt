@@ -23,7 +23,7 @@ fn answer_wish<F: Files, O: Sink>(
     files: &mut F,
     out: &mut O,
 ) -> Result<Verdict, Unjudged>
-    ensures ends { WishEnds (wanted_text wanted)
+    ensures ends { WishEnds (wanted_text wanted.entry)
         (world (F.shelf files.old) (O.told out.old)) (world (F.shelf files.new) (O.told out.new)) result }
     ensures stays { SameContents (F.shelf files.old) (F.shelf files.new) }
 {
