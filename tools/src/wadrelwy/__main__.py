@@ -27,6 +27,7 @@ GROUPS = {
     },
     "Many runs": {
         "sweep": "programs under descriptions under settings, as many runs at once as there are processors, with tables and plots",
+        "sample": "cycles of a long run from short windows of it, which no theorem ties to the run",
     },
     "Read what is promised": {
         "book": "the definitions and contracts as linked pages: from a promise to each word of it by a click",
@@ -42,7 +43,7 @@ MODULES = {"continue": "go_on"}
 COMMANDS = {name: text for group in GROUPS.values() for name, text in group.items()}
 # those that go over long traces, and those that go on where they stopped
 LONG = ("view", "verdict", "certify", "draw")
-KEEPS = ("certify", "sweep")
+KEEPS = ("certify", "sweep", "sample")
 # shows where an error of the tools itself comes from
 TRACEBACK = "WADRELWY_TRACEBACK"
 

@@ -35,7 +35,7 @@ from wadrelwy import Fault, built_programs, statuses
 from wadrelwy.sweep import lists, plan, plots, results, running, settings
 from wadrelwy.sweep.kept import write
 
-MOST_NAMED, MOST_LINES = 20, 20
+MOST_LINES = 20
 NONE, SOME, ALL = "none", "some", "all"
 
 
@@ -49,25 +49,17 @@ def words(parser):
     parser.add_argument("--jobs", type=int, default=len(os.sched_getaffinity(0)), metavar="N")
     parser.add_argument("--program", metavar="P")
     parser.add_argument("--copies", action="store_true", help="go on with the folder's copies, whatever became of the files")
-    only = parser.add_mutually_exclusive_group()
-    only.add_argument("--list", action="store_true", help="write the lists, run nothing")
-    only.add_argument("--gather", action="store_true", help="run nothing")
-    parser.add_argument("--pack", action="store_true", help="with --list: one archive of all that it needs")
-    parser.add_argument("--tasks", type=int, metavar="N", help="of a job array")
-    parser.add_argument("--minutes", type=int, metavar="N", help="that a task may take")
-    parser.add_argument("--memory", type=int, metavar="MEGABYTES", help="that a task gets")
+    lists.words(parser)
     parser.add_argument("--plots", choices=(NONE, SOME, ALL), default=SOME, help=f"some, without it: all but bars of more than {plots.MOST_PANELS} panels")
-    parser.add_argument("--from", dest="others", nargs="+", default=[], metavar="FOLDER", help="with --gather: copies of the folder")
 
 
 def checked(asked):
     """Refuses words that don't go together."""
     if bool(asked.programs) != bool(asked.descriptions) or not asked.programs and (asked.set or asked.defences):
         raise Fault("a sweep has programs and descriptions")
-    if min(asked.jobs, asked.cycles, *(number for number in (asked.tasks, asked.minutes, asked.memory) if number is not None)) < 1:
-        raise Fault("jobs, cycles, tasks, minutes and memory are at least 1")
-    if asked.pack and not asked.list or asked.others and not asked.gather:
-        raise Fault("--pack is asked for with --list, and --from with --gather")
+    if min(asked.jobs, asked.cycles) < 1:
+        raise Fault("jobs and cycles are at least 1")
+    lists.checked(asked)
 
 
 def planned(asked):
@@ -88,17 +80,6 @@ def planned(asked):
     return made
 
 
-def write_lists(made, asked):
-    """Writes the lists, and says how each is used."""
-    options = {"tasks": asked.tasks, "minutes": asked.minutes, "memory": asked.memory}
-    listed = lists.Lists(made, running.SWEEP, asked.folder, **options)
-    listed.write(made)
-    print(f"{len(listed.runs)} commands in {made.path('commands')}: parallel < {made.path('commands')}; or sbatch {made.path('array.sh')}; "
-          f"or make -k -j N -f {made.path('rules.mk')}; then wadrelwy sweep {asked.folder} --gather")
-    if asked.pack:
-        print(lists.pack(made, running.SWEEP, plan.PLAN, **options))
-
-
 def write_results(made, asked):
     """Writes what is there, names what is missing, and answers the status."""
     found, missing = results.rows(made, running.SWEEP)
@@ -109,18 +90,13 @@ def write_results(made, asked):
     for name, text in files.items():
         write(made.path(name), text.encode())
     for name in {name for name in os.listdir(made.folder) if plots.FILES.fullmatch(name)} - files.keys():
-        remove(made.path(name))
+        lists.remove(made.path(name))
     print(f"{len(found)} runs in {made.path('results.csv')}" + (f", {len(missing)} are missing" if missing else ""))
-    print(*lines[:MOST_LINES], *more(lines, made.path("summary")), *results.other_ends(found), f"by {made.cited}", sep="\n")
+    print(*lines[:MOST_LINES], *lists.more(lines, made.path("summary"), MOST_LINES), *results.other_ends(found), f"by {made.cited}", sep="\n")
     print(*(made.path(name) for name in files if name.endswith(".svg")), *left_out(found, files, asked.plots), sep="\n")
-    tell_missing(made, missing)
+    lists.tell_missing("wadrelwy sweep", made, missing)
     ends = {row.end.split()[0] for row in found}
     return statuses.CUT if missing or ends & {"budget", "refused"} else statuses.TRAPPED if "trap" in ends else statuses.HOLDS
-
-
-def more(lines, file, most=MOST_LINES):
-    """That there are more lines than are shown, and where they stand."""
-    return [f"and {len(lines) - most} more, in {file}"] if len(lines) > most else []
 
 
 def left_out(found, files, asked):
@@ -129,27 +105,12 @@ def left_out(found, files, asked):
         yield f"bars.svg is left out: it would have {plots.panels(found)} panels; --plots {ALL} draws it"
 
 
-def tell_missing(made, missing):
-    """Names what is missing: the first on standard error, all in a file."""
-    lines, file = [f"{run.name}: {why} ({run.result})" for run, why in missing], made.path("missing")
-    if not lines:
-        remove(file)
-        return
-    write(file, "".join(f"{line}\n" for line in lines).encode())
-    print(*(f"wadrelwy sweep: missing: {line}" for line in lines[:MOST_NAMED] + more(lines, file, MOST_NAMED)), sep="\n", file=sys.stderr)
-
-
-def remove(path):
-    if os.path.exists(path):
-        os.remove(path)
-
-
 def main(asked):
     checked(asked)
     made = planned(asked)
     try:
         if asked.list:
-            write_lists(made, asked)
+            print(*lists.written(made, running.SWEEP, plan.PLAN, asked, asked.folder, f"wadrelwy sweep {asked.folder} --gather"), sep="\n")
             return statuses.HOLDS
         if asked.others:
             print(f"{results.brought(made, running.SWEEP, asked.others)} results came from {', '.join(asked.others)}")

@@ -4,7 +4,10 @@ import heapq
 import io
 import os
 import shlex
+import sys
 import tarfile
+
+from wadrelwy.view import Fault
 
 from .kept import write
 from .results import TASK, Store
@@ -13,14 +16,15 @@ from .results import TASK, Store
 MOST_TASKS = 1000
 # what a run is given where nobody says so: instructions a second of a slow machine, with a wide margin, and what a core takes
 STEPS_A_SECOND, LEAST_MINUTES, MEMORY = 50000, 5, 256
+MOST_NAMED = 20
 
 RUN = """#!/bin/sh
-# Makes one run of this folder's plan: sh run NAME DESCRIPTION IMAGE, as `commands` has them. The result stands in results/NAME, or as a line of
-# the file $RESULTS, which no two runs may have at one time; as a whole or not at all. Where it is there, nothing is run. What is run is
+# Makes one run of this folder's plan: sh run NAME DESCRIPTION IMAGE{more}, as `commands` has them. The result stands in results/NAME, or as a
+# line of the file $RESULTS, which no two runs may have at one time; as a whole or not at all. Where it is there, nothing is run. What is run is
 # compared with the digest in its name first.
-# The status is that of the run: 0 it exited, 1 it trapped, 3 its budget ended it, each with a result; else there is none.
+# {statuses}
 name=$1 description=$2 image=$3 program={program}
-cd "$(dirname "$0")" || exit 2
+folder=$(dirname "$0") && cd "$folder" || exit 2
 said=
 [ -n "$RESULTS" ] && [ -f "$RESULTS" ] && said=$(grep "^end .* of $name\\$" "$RESULTS" | tail -n 1)
 [ -z "$said" ] && [ -f "results/$name" ] && said=$(grep "^end .* of $name\\$" "results/$name")
@@ -36,15 +40,12 @@ if [ -z "$said" ]; then
     done
     [ $same = 3 ]
   }} || exit 2
-  said=$({{ "$program" run "$description" "$image" --cycles {cycles}; echo "status $?"; }} | tail -n 2)
-  status=${{said##*status }}
-  said=${{said%%
-*}}
+  {asked}
   case $status:$said in
-    "0:end exit "*" retired "*" cycles "* | "1:end trap "*" retired "*" cycles "* | "3:end budget retired "*" cycles "*) ;;
-    *) echo "run: $name has no result: status $status" >&2
-       [ "$status" -gt 0 ] && exit "$status"
-       exit 2 ;;
+    {whole}) ;;
+    *) case $status in "" | 0 | *[!0-9]*) status=2 ;; esac
+       echo "run: $name has no result: status $status" >&2
+       exit "$status" ;;
   esac
   said="$said of $name"
   if [ -n "$RESULTS" ]; then
@@ -56,9 +57,9 @@ if [ -z "$said" ]; then
   fi
 fi
 case $said in
-  "end exit "*) exit 0 ;;
   "end trap "*) exit 1 ;;
-  *) exit 3 ;;
+  "end budget "*) exit 3 ;;
+  *) exit 0 ;;
 esac
 """
 
@@ -88,6 +89,57 @@ all: {results}
 """
 
 
+def words(parser):
+    """The words by which a command asks for lists, and for what came of them."""
+    only = parser.add_mutually_exclusive_group()
+    only.add_argument("--list", action="store_true", help="write the lists, run nothing")
+    only.add_argument("--gather", action="store_true", help="run nothing")
+    parser.add_argument("--pack", action="store_true", help="with --list: one archive of all that it needs")
+    parser.add_argument("--tasks", type=int, metavar="N", help="of a job array")
+    parser.add_argument("--minutes", type=int, metavar="N", help="that a task may take")
+    parser.add_argument("--memory", type=int, metavar="MEGABYTES", help="that a task gets")
+    parser.add_argument("--from", dest="others", nargs="+", default=[], metavar="FOLDER", help="with --gather: copies of the folder")
+
+
+def checked(asked):
+    """Refuses such words that don't go together."""
+    if min([1, *(number for number in (asked.tasks, asked.minutes, asked.memory) if number is not None)]) < 1:
+        raise Fault("tasks, minutes and memory are at least 1")
+    if asked.pack and not asked.list or asked.others and not asked.gather:
+        raise Fault("--pack is asked for with --list, and --from with --gather")
+
+
+def written(plan, asks, file, asked, folder, gather):
+    """Writes the lists as these words ask for them, and tells how each is used; `gather` is the command that gathers."""
+    options = {"tasks": asked.tasks, "minutes": asked.minutes, "memory": asked.memory}
+    listed = Lists(plan, asks, folder, **options)
+    listed.write(plan)
+    yield (f"{len(listed.runs)} commands in {plan.path('commands')}: parallel < {plan.path('commands')}; or sbatch {plan.path('array.sh')}; "
+           f"or make -k -j N -f {plan.path('rules.mk')}; then {gather}")
+    if asked.pack:
+        yield pack(plan, asks, file, **options)
+
+
+def more(lines, file, most=MOST_NAMED):
+    """That there are more lines than are shown, and where they stand."""
+    return [f"and {len(lines) - most} more, in {file}"] if len(lines) > most else []
+
+
+def tell_missing(command, plan, missing):
+    """Names the runs that are missing: the first on standard error, all in a file."""
+    lines, file = [f"{run.name}: {why} ({run.result})" for run, why in missing], plan.path("missing")
+    if not lines:
+        remove(file)
+        return
+    write(file, "".join(f"{line}\n" for line in lines).encode())
+    print(*(f"{command}: missing: {line}" for line in lines[:MOST_NAMED] + more(lines, file)), sep="\n", file=sys.stderr)
+
+
+def remove(path):
+    if os.path.exists(path):
+        os.remove(path)
+
+
 def missing(plan, asks):
     store = Store(plan, asks)
     return [run for run in plan.runs if not run.refused and run.id not in store.found]
@@ -95,7 +147,7 @@ def missing(plan, asks):
 
 def command(folder, run):
     """A line of shell that makes a run."""
-    return shlex.join([f"{folder}/run", run.id, run.description, run.image])
+    return shlex.join([f"{folder}/run", run.id, run.description, run.image, *run.words])
 
 
 def dealt(runs, tasks):
@@ -123,7 +175,7 @@ class Lists:
         parts = dealt(self.runs, tasks)
         minutes = minutes or max(minutes_of(part, plan.cycles) for part in parts)
         self.texts = {
-            "run": RUN.format(program=shlex.quote(plan.program), cycles=plan.cycles),
+            "run": RUN.format(program=shlex.quote(plan.program), asked=asks.script(plan), more=asks.more, whole=asks.whole, statuses=asks.statuses),
             "commands": "".join(f"{command(folder, run)}\n" for run in self.runs),
             "array.sh": ARRAY.format(tasks=tasks, runs=len(self.runs), folder=quoted, task=TASK, minutes=minutes, memory=memory or MEMORY),
             "rules.mk": self.rules(folder),

@@ -17,8 +17,22 @@ DESCRIPTION, IMAGE = 4, 5
 MOST_STEPS = 100000000
 
 
+SCRIPT = """said=$({{ "$program" run "$description" "$image" --cycles {cycles}; echo "status $?"; }} | tail -n 2)
+  status=${{said##*status }}
+  said=${{said%%
+*}}"""
+
+
 class Sweep:
-    """What is run, and what of it is kept; a table of other runs says otherwise."""
+    """What is run, and what of it is kept; a table of other runs says otherwise. For lists of commands `script` says it in POSIX's shell, which
+    leaves the status in `status` and what is kept in `said`, by a pattern of which a run that is over is told (`whole`); `more` is what a
+    command has behind the image."""
+    more = ""
+    whole = '"0:end exit "*" retired "*" cycles "* | "1:end trap "*" retired "*" cycles "* | "3:end budget retired "*" cycles "*'
+    statuses = "The status is that of the run: 0 it exited, 1 it trapped, 3 its budget ended it, each with a result; else there is none."
+
+    def script(self, plan):
+        return SCRIPT.format(cycles=plan.cycles)
 
     def words(self, plan, run):
         return ["run", plan.path(run.description), plan.path(run.image)]

@@ -1,0 +1,104 @@
+"""Cycles of a long run from short windows of it, in a fraction of its time: an estimate, with what it is worth.
+
+    wadrelwy sample IMAGE DESCRIPTION.. [-o FOLDER] [--windows M] [--length L] [--warm W] [--steps N] [--set KEY=VALUE,..].. [--defences]
+    wadrelwy sample IMAGE DESCRIPTION.. [..] --list [--pack] [--tasks N] [--minutes N] [--memory MEGABYTES]
+    wadrelwy sample -o FOLDER [--gather [--from FOLDER..]]
+
+`isa` goes over the run, a hundred times as fast as a core does, and leaves images that go on at M places (as `wadrelwy continue` makes them, each
+of the one before): one in each of M equal parts of the run, by chance within it. In a core that begins cold there W instructions go by, and then L are
+measured. What comes is the mean in cycles per instruction, with the 95 % interval of a mean; and, of ten of the windows, what they take with half
+the warm-up: by so much the cold start may still count. What stays cold longest is the predictor. Without more M is 50, L 10000, W 200000. A run
+that is hardly longer than M times W is better run as a whole. --steps N takes the first N instructions for the run. --at names the place of the
+instructions that set the registers, as for `continue`; where the program uses their place the command ends so.
+
+No theorem ties an estimate to a run. Each image is one of which all promises hold; that they are like the run that was asked for is what the two
+numbers are for.
+
+FOLDER, without -o IMAGE's name and `.sample`, gets copies of the images, the descriptions and the simulator by names that have their digests, a
+file for each window that was measured, and at the end estimates.csv and estimates.json with a row for each description, windows.csv with one for
+each window, and the file summary. Where it was stopped the same command, or `wadrelwy sample -o FOLDER` alone, goes on. --list, --gather and the
+words with them are those of `wadrelwy sweep`.
+
+The status is 0 where all windows are measured, 3 where some are missing, 16 where a window has two results, which contradicts
+what is proved, 2 for a refusal, 130 if interrupted."""
+import os
+import sys
+from argparse import ArgumentParser, Namespace
+
+from wadrelwy import Fault, built_programs, statuses
+from wadrelwy.sampling import estimate, planned
+from wadrelwy.sweep import lists, plan, results, settings
+from wadrelwy.sweep.kept import write
+
+
+def number(text: str) -> int:
+    return int(text, 0)
+
+
+def words(parser: ArgumentParser) -> None:
+    parser.add_argument("image", nargs="?", metavar="IMAGE")
+    parser.add_argument("descriptions", nargs="*", default=[], metavar="DESCRIPTION")
+    parser.add_argument("-o", dest="output", metavar="FOLDER")
+    parser.add_argument("--windows", type=number, default=50, metavar="M")
+    parser.add_argument("--length", type=number, default=10000, metavar="L", help="in instructions")
+    parser.add_argument("--warm", type=number, default=200000, metavar="W", help="in instructions")
+    parser.add_argument("--steps", type=number, default=4294967295, metavar="N", help="take the first N instructions for the run")
+    parser.add_argument("--seed", type=number, default=1, metavar="S", help="of the places within their parts")
+    parser.add_argument("--at", type=number, metavar="ADDRESS")
+    parser.add_argument("--set", action="append", default=[], metavar="KEY=VALUE,..")
+    parser.add_argument("--defences", action="store_true", help=settings.TOLD)
+    parser.add_argument("--jobs", type=number, default=len(os.sched_getaffinity(0)), metavar="N")
+    parser.add_argument("--program", metavar="P")
+    lists.words(parser)
+
+
+def checked(asked: Namespace) -> None:
+    """Refuses words that don't go together, and gives the folder its name."""
+    if asked.image and not asked.descriptions:
+        raise Fault("an image and descriptions are asked for")
+    if not asked.image and not asked.output:
+        raise Fault("an image and descriptions are asked for, or -o and a folder that goes on")
+    if min(asked.jobs, asked.steps) < 1:
+        raise Fault("jobs and steps are at least 1")
+    lists.checked(asked)
+    asked.output = asked.output or os.path.splitext(os.path.basename(asked.image))[0] + ".sample"
+
+
+def made_of(asked: Namespace) -> tuple[plan.Plan, planned.Question]:
+    """The plan of the words, or the one that the folder has."""
+    if asked.image:
+        return planned.make(asked, built_programs.needed(built_programs.SIMULATOR, asked.program))
+    made = planned.read(asked.output)
+    plan.check_sources(made[0], built_programs.said(built_programs.SIMULATOR, asked.program))
+    return made
+
+
+def write_estimates(made: plan.Plan, question: planned.Question) -> int:
+    """Writes what is there, names what is missing, and answers the status."""
+    found = estimate.found_in(made)
+    rows = list(estimate.records(question, found, made.cited))
+    lines = [*estimate.summary(question, found), f"by {made.cited}"]
+    files = {"estimates.csv": estimate.as_csv(rows), "estimates.json": estimate.as_json(rows),
+             "windows.csv": estimate.as_csv(estimate.window_records(found)), "summary": "".join(f"{line}\n" for line in lines)}
+    for name, text in files.items():
+        write(made.path(name), text.encode())
+    print(*lines, *(made.path(name) for name in files), sep="\n")
+    lists.tell_missing("wadrelwy sample", made, found.missing)
+    return statuses.CUT if found.missing else statuses.HOLDS
+
+
+def main(asked: Namespace) -> int:
+    checked(asked)
+    made, question = made_of(asked)
+    if asked.list:
+        print(*lists.written(made, planned.SAMPLE, planned.PLAN, asked, asked.output, f"wadrelwy sample -o {asked.output} --gather"), sep="\n")
+        return statuses.HOLDS
+    try:
+        if asked.others:
+            print(f"{results.brought(made, planned.SAMPLE, asked.others)} results came from {', '.join(asked.others)}")
+        if not asked.gather:
+            planned.Measurer(made, asked.jobs, planned.SAMPLE).all()
+        return write_estimates(made, question)
+    except results.Refuted as refuted:
+        print(f"wadrelwy sample: refuted: {refuted}", file=sys.stderr)
+        return statuses.REFUTED

@@ -1,0 +1,69 @@
+"""Images that begin at places of a run, each made of the one before it: so the instruction set's run is gone over once, however many there are."""
+from typing import Optional
+
+from wadrelwy import Fault, built_programs
+from wadrelwy.going_on import room, stub, written
+from wadrelwy.going_on.report import Report, read_report
+from wadrelwy.going_on.standing import Standing, see_code
+from wadrelwy.machine import notes
+from wadrelwy.sweep.running import RAN, said_of
+from wadrelwy.verdict.loaded import Loaded
+
+ROW, STUB = 16, stub.STEPS
+
+
+def report(program: str, image: str, steps: int, description: str) -> Report:
+    """The instruction set's run of an image."""
+    words = ["isa", image, "--desc", description, "--steps", str(steps)]
+    said, note, status = said_of([program, *words])
+    if status not in RAN:
+        raise Fault(f"{' '.join(words)}: status {status}, {notes.told(note, {})} (docs/using.md, \"Refusals\")")
+    return read_report(said)
+
+
+class Chain:
+    """The images of one run, whose end is known. All have the 63 instructions that set the registers at one place, which no segment takes and
+    at which the whole run left nothing."""
+
+    def __init__(self, program: str, image: Loaded, description: str, whole: Report, at: Optional[int]) -> None:
+        self.program, self.image, self.description, self.whole = program, image, description, whole
+        self.memory, self.path, self.done, self.extra = bytearray(image.memory), image.name, 0, 0
+        self.symbols = written.symbols_of(image.name)
+        standing = Standing(image, whole._replace(pc=image.entry), bytes(self.memory), frozenset(whole.rows))
+        self.at = room.find_room(standing) if at is None else room.named_room(standing, at)
+
+    def moved(self, told: Report, steps: int) -> None:
+        """Takes over what a run of the last image has changed."""
+        own = range(self.at - self.at % ROW, self.at + stub.SIZE)
+        if any(address in own for address in told.rows):
+            raise Fault(f"{self.image.name}: the run uses {self.at:08x}, where the instructions stand that set the registers; --at ADDRESS "
+                        "names another place")
+        for address, row in told.rows.items():
+            self.memory[address - self.image.base:address - self.image.base + len(row)] = row
+        self.done = steps
+
+    def to(self, steps: int) -> bytes:
+        """The image that goes on after so many steps, more than those of the one before; `path` is to be where it stands."""
+        told = report(self.program, self.path, steps - self.done + self.extra, self.description)
+        if not told.goes_on:
+            raise Fault(f"{self.image.name}: the run ends after {told.retired} steps behind {self.done}, and not after {self.whole.retired}")
+        self.moved(told, steps)
+        standing = Standing(self.image, told, bytes(self.memory), frozenset(told.rows))
+        see_code(standing)
+        self.extra = stub.STEPS
+        code = stub.stub(self.at, told.registers, told.pc)
+        return written.elf_file(written.segments(standing, self.at, code), self.symbols, self.at)
+
+    def check_end(self) -> None:
+        """The run of the last image ends as the whole run does: so the program used the place of the 63 instructions for nothing."""
+        left = self.whole.retired - self.done + self.extra
+        # a trap is told by the step behind the last
+        told = report(self.program, self.path, left + (not self.whole.goes_on), self.description)
+        self.moved(told, self.whole.retired)
+        memory = bytearray(self.image.memory)
+        for address, row in self.whole.rows.items():
+            memory[address - self.image.base:address - self.image.base + len(row)] = row
+        ended = told._replace(rows={}, retired=told.retired - left) == self.whole._replace(rows={}, retired=0)
+        if not ended or memory != self.memory:
+            raise Fault(f"{self.image.name}: gone on with from one place to the next, the run ends otherwise than the whole one: it uses "
+                        f"{self.at:08x}, where the instructions stand that set the registers; --at ADDRESS names another place")

@@ -1,0 +1,95 @@
+"""What a window takes. A run of the core tells when an instruction retires in its trace alone: so this reads `trace` from a pipe, counts what
+retires, and ends it behind the window. Whatever tells more cheaply in which cycle so many have retired takes this module's place."""
+import re
+import subprocess
+import tempfile
+from typing import Callable, Iterable, NamedTuple, Optional
+
+from wadrelwy import Fault, built_programs
+
+RETIRES = b" ret:"
+# more cycles than any window takes
+FOREVER = 4294967295
+TOLD = re.compile(r"cycle (\d+) retired (\d+) to cycle (\d+) retired (\d+)")
+
+
+class Taken(NamedTuple):
+    """What a window took: the cycles at whose ends so many have retired. A cycle retires several, so the window begins and ends with some more
+    than asked for."""
+    first_cycle: int
+    first: int
+    last_cycle: int
+    last: int
+
+    @property
+    def cycles(self) -> int:
+        return self.last_cycle - self.first_cycle
+
+    @property
+    def retired(self) -> int:
+        return self.last - self.first
+
+    @property
+    def each(self) -> float:
+        """Cycles per instruction."""
+        return self.cycles / self.retired
+
+
+def line_of(taken: Taken) -> str:
+    return f"cycle {taken.first_cycle} retired {taken.first} to cycle {taken.last_cycle} retired {taken.last}"
+
+
+def read_taken(line: str) -> Optional[Taken]:
+    """What a line tells; none where it is no such line."""
+    found = TOLD.fullmatch(line)
+    taken = Taken(*map(int, found.groups())) if found else None
+    return taken if taken and taken.first < taken.last and taken.first_cycle < taken.last_cycle else None
+
+
+def taken_in(lines: Iterable[bytes], first: int, last: int) -> Optional[Taken]:
+    """What the rows of a trace tell of the window from `first` to `last` retired instructions; none where they end before."""
+    retired, begin = 0, None if first else (0, 0)
+    for line in lines:
+        retired += line.count(RETIRES)
+        if retired < first or begin is not None and retired < last:
+            continue
+        cycle = int(line.split(b" ", 1)[0])
+        if retired >= last and begin is not None:
+            return Taken(*begin, cycle, retired)
+        begin = cycle, retired
+    return None
+
+
+Begun = Callable[["subprocess.Popen[bytes]"], None]
+
+
+def measured(program: str, description: str, image: str, first: int, last: int, begun: Begun = lambda child: None) -> Taken:
+    """What a window takes under a description, in a run of the image from its start. `begun` is given the process."""
+    words = [program, "trace", description, image, "--cycles", str(FOREVER)]
+    with tempfile.TemporaryFile() as said:
+        child = subprocess.Popen(words, stdout=subprocess.PIPE, stderr=said, bufsize=1 << 20, start_new_session=True)
+        begun(child)
+        assert child.stdout is not None
+        try:
+            found = taken_in(child.stdout, first, last)
+        finally:
+            child.stdout.close()
+            status = child.wait()
+        said.seek(0)
+        note = built_programs.note_of(said.read().decode(errors="replace"))
+    if found is None:
+        raise Fault(f"{image} under {description}: the trace ends before {last} have retired, with status {status} {note}".rstrip())
+    return found
+
+
+# the same by POSIX's shell and awk, for lists of commands: `$4` and `$5` are `first` and `last`, and `said` is the line, if there is one
+MORE = " FIRST LAST"
+SCRIPT = """said=$("$program" trace "$description" "$image" --cycles {forever} 2> /dev/null | awk -v first="$4" -v last="$5" '
+    BEGIN {{ if (first == 0) {{ begun = 1; from = "cycle 0 retired 0" }} }}
+    {{ retired += gsub(/{retires}/, "&") }}
+    begun && retired >= last {{ print from " to cycle " $1 " retired " retired; exit }}
+    !begun && retired >= first {{ begun = 1; from = "cycle " $1 " retired " retired }}')
+  status=2
+  [ -n "$said" ] && status=0""".format(forever=FOREVER, retires=RETIRES.decode())
+WHOLE = '"0:cycle "*" to cycle "*" retired "*'
+STATUSES = "The status is 0 where the window was measured; else it is another, and there is no result."

@@ -1,0 +1,43 @@
+"""Which windows of a run are measured."""
+import random
+from typing import Iterator, NamedTuple
+
+from wadrelwy import Fault
+
+FEWEST = 10
+# of so many windows the warm-up is halved, to see what is left of the cold start
+HALVED = 10
+
+
+class Window(NamedTuple):
+    """The window of the part `number` of a run: it begins after `begin` instructions, behind `warm` of warm-up. `halved` says that the warm-up
+    is half of what was asked for."""
+    number: int
+    begin: int
+    warm: int
+    halved: bool
+
+    @property
+    def start(self) -> int:
+        """How many instructions stand before the warm-up."""
+        return self.begin - self.warm
+
+
+def windows(steps: int, count: int, length: int, warm: int, seed: int) -> list[Window]:
+    """One window in each of `count` equal parts of a run of so many instructions, at a place of the part by chance: places at one distance
+    would all meet the same moment of a loop that has it as its period. Before the run's begin nothing is warmed, nor cold."""
+    if count < FEWEST or length < 1 or warm < 0:
+        raise Fault(f"--windows is at least {FEWEST}, --length 1 and --warm 0")
+    if count * length > steps:
+        raise Fault(f"{count} windows of {length} are more than the run's {steps} instructions: `wadrelwy run` takes the whole of it")
+    chance = random.Random(seed)
+    begins = [at * steps // count + chance.randint(0, steps // count - length) for at in range(count)]
+    return [Window(at, begin, min(warm, begin), False) for at, begin in enumerate(begins)]
+
+
+def halved(whole: list[Window]) -> Iterator[Window]:
+    """Some of these windows, evenly over the run, with half their warm-up; those that have all of the run before them are as warm as can be."""
+    able = [window for window in whole if window.start > 0 and window.warm > 1]
+    for at in range(min(HALVED, len(able))):
+        window = able[(2 * at + 1) * len(able) // (2 * min(HALVED, len(able)))]
+        yield window._replace(warm=window.warm // 2, halved=True)
