@@ -6,7 +6,13 @@
 #include <stdio.h>
 #include <unistd.h>
 
+#ifdef GUARD
+char *memory_end = ""; /* set by start.S; no stack is above the heap */
+#define MOST memory_end
+#else
 #define STACK 16384 /* bytes that the heap leaves below the stack pointer */
+#define MOST ((char *)__builtin_frame_address(0) - STACK)
+#endif
 
 static long call(long number, long first, long second, long third) {
   register long a0 asm("a0") = first, a1 asm("a1") = second, a2 asm("a2") = third, a7 asm("a7") = number;
@@ -36,7 +42,7 @@ FILE *const stdin = &terminal, *const stdout = &terminal, *const stderr = &termi
 void *sbrk(ptrdiff_t more) {
   extern char _end[];
   static char *top = _end;
-  char *before = top, *below = (char *)__builtin_frame_address(0) - STACK;
+  char *before = top, *below = MOST;
   if (more > 0 && (below < top || more > below - top)) {
     errno = ENOMEM;
     return (void *)-1;

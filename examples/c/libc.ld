@@ -2,7 +2,7 @@
 ENTRY(_start)
 PHDRS { text PT_LOAD FLAGS(5); rodata PT_LOAD FLAGS(4); data PT_LOAD FLAGS(6); tls PT_TLS FLAGS(4); }
 SECTIONS {
-  . = 0x00010000;
+  . = 0x00010000 + (DEFINED(guard) ? guard : 0);
   .text   : { *(.text.start) *(.text .text.*) } :text
   . = ALIGN(64);
   .rodata : { *(.rodata .rodata.* .srodata .srodata.*) } :rodata
@@ -22,3 +22,4 @@ SECTIONS {
   _end = .;
   /DISCARD/ : { *(.eh_frame .eh_frame.*) }
 }
+ASSERT((DEFINED(guard) ? guard : 0) % 64 == 0, "GUARD is a multiple of 64")

@@ -1,6 +1,7 @@
 # Where the run begins. The machine sets x2, the stack pointer, 16 bytes below the end of memory, and all else to 0.
 #   -DCONSTRUCTORS   calls what stands in .init_array before main: constructors of C++, and __attribute__((constructor))
 #   -DLIBC           sets x4 for thread-local variables, such as errno, too, and leaves by the library's exit
+#   -DGUARD=BYTES    puts a stack of so many bytes below the image, where memory begins: what goes below it is outside memory, and traps
 #ifdef LIBC
 #define CONSTRUCTORS
 #endif
@@ -11,6 +12,13 @@ _start:
     .option norelax                # else the linker makes this `mv gp, gp`
     la   gp, __global_pointer$
     .option pop
+#ifdef GUARD
+#ifdef LIBC
+    la   t0, memory_end            # how far the heap may go
+    sw   sp, 0(t0)
+#endif
+    li   sp, 0x10000 + GUARD
+#endif
 #ifdef LIBC
     la   tp, __tls_base
 #endif

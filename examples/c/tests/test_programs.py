@@ -62,6 +62,11 @@ int main(void) {
   return answer;
 }
 """
+# some 200 times 128 bytes of stack
+DEEP = """volatile int depth = 200;
+static int down(int left) { volatile int kept[28]; kept[left % 28] = left; return left ? down(left - 1) + kept[left % 28] - left : 7; }
+int main(void) { return down(depth); }
+"""
 
 
 @functools.cache
@@ -141,6 +146,21 @@ class Programs(unittest.TestCase):
         self.assertEqual(make("gcc/constructed.elf", "CONSTRUCTORS=1").stderr, "")
         self.assertEqual(written("gcc/constructed.elf"), ("", "end exit 5"))
 
+    def test_guard_below_the_stack(self):
+        """With GUARD a stack that is too deep is told where it leaves memory, and data is as it was; else it writes over data first."""
+        source("deep.c", DEEP)
+        for compiler in COMPILERS:
+            with self.subTest(compiler=compiler):
+                ends = {}
+                for guard in ("GUARD=4096", "GUARD=65536", "GUARD="):
+                    self.assertEqual(make(f"{compiler}/deep.elf", guard).stderr, "")
+                    ends[guard] = written(f"{compiler}/deep.elf")
+                self.assertEqual((ends["GUARD=4096"][0], ends["GUARD=65536"], ends["GUARD="]), ("", ("", "end exit 7"), ("", "end exit 7")))
+                self.assertRegex(ends["GUARD=4096"][1], "end trap 7 0001[0-9a-f]{4}")
+                refused = make(f"{compiler}/deep.elf", "GUARD=100")
+                self.assertNotEqual(refused.returncode, 0)
+                self.assertIn("GUARD is a multiple of 64", refused.stderr)
+
 
 @needs_program
 @unittest.skipUnless(LIBRARIES, "no picolibc-riscv64-unknown-elf")
@@ -160,8 +180,9 @@ class WithLibrary(unittest.TestCase):
         source("heap.c", HEAP)
         for library in LIBRARIES:
             with self.subTest(library=library):
-                self.assertEqual(make(f"{library}/heap.elf").stderr, "")
-                self.assertEqual(written(f"{library}/heap.elf"), ("no newline", "end exit 1"))
+                for guard in ("GUARD=", "GUARD=16384"):
+                    self.assertEqual(make(f"{library}/heap.elf", guard).stderr, "")
+                    self.assertEqual(written(f"{library}/heap.elf"), ("no newline", "end exit 1"))
 
 
 if __name__ == "__main__":
