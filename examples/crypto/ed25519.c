@@ -17,6 +17,16 @@ typedef struct {
   number x, y, z, t;
 } point;
 
+/* Twice a number, which may be the same. A number added to itself would do, but clang sees that the carry is a sign then, and makes a branch of
+   it. */
+static void twice(number *to, const number *a) {
+  u32 carry = highest(a);
+  for (int i = 7; i > 0; i--)
+    to->word[i] = a->word[i] << 1 | a->word[i - 1] >> 31;
+  to->word[0] = a->word[0] << 1;
+  to->word[0] += 38 * increase(to, 38 * carry);
+}
+
 /* The sum of two points, which may be the same. */
 static void add_points(point *to, const point *p, const point *q) {
   static const number twice_d = {{0x26b2f159, 0xebd69b94, 0x8283b156, 0x00e0149a, 0xeef3d130, 0x198e80f2, 0x56dffce7, 0x2406d9dc}};
@@ -30,7 +40,7 @@ static void add_points(point *to, const point *p, const point *q) {
   multiply(&c, &p->t, &q->t);
   multiply(&c, &c, &twice_d);
   multiply(&d, &p->z, &q->z);
-  add(&d, &d, &d);
+  twice(&d, &d);
   subtract(&other, &b, &a);
   add(&a, &b, &a);
   add(&b, &d, &c);
