@@ -22,6 +22,7 @@ mod refusal;
 mod task;
 mod top;
 mod verdict;
+mod wish;
 
 pub use program::secrets_program;
 pub use top::secrets_top;

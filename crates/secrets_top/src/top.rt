@@ -4,32 +4,15 @@
 ghost use Rattle.std.specs.Prelude.{map};
 ghost use Rattle.tool_io.specs.Outside.{SameContents};
 ghost use Rattle.run_inputs.specs.Told.{world};
-ghost use Rattle.secret_words.specs.inner.Words.{wanted_text};
-ghost use Rattle.secrets_top.specs.Top.{WishEnds, Ends, EndsWith, Statuses};
+ghost use Rattle.secrets_top.specs.Top.{Ends, EndsWith, Statuses};
 ghost use Rattle.secrets_top.specs.Promises.{Promises};
 
-use crate::performing::perform;
 use crate::refusal::{Unjudged, note_line, status_of};
-use crate::task::read_task;
 use crate::verdict::Verdict;
-use secret_words::{Wanted, read_wanted};
+use crate::wish::answer_wish;
+use secret_words::read_wanted;
 use std::alloc::Global;
 use tool_io::{Files, Sink};
-
-// What the words want: reads the description, if one is named, and the image, and then tells what the run shows.
-fn answer_wish<F: Files, O: Sink>(
-    alloc: Global,
-    wanted: Wanted<'_>,
-    files: &mut F,
-    out: &mut O,
-) -> Result<Verdict, Unjudged>
-    ensures ends { WishEnds (wanted_text wanted.entry)
-        (world (F.shelf files.old) (O.told out.old)) (world (F.shelf files.new) (O.told out.new)) result }
-    ensures stays { SameContents (F.shelf files.old) (F.shelf files.new) }
-{
-    let task = read_task(alloc, wanted.image, wanted.run, files)?;
-    perform(alloc, task, wanted.secret.as_slice(), wanted.public, out)
-}
 
 // Reads the words, and does what they want: all that the program does but for the note.
 fn answer<F: Files, O: Sink>(

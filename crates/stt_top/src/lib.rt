@@ -13,6 +13,7 @@
 
 mod building;
 mod clocking;
+mod command;
 mod loading;
 mod outcome;
 mod performing;

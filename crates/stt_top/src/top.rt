@@ -5,33 +5,15 @@ ghost use Rattle.std.specs.Prelude.{map};
 ghost use Rattle.tool_io.specs.Outside.{SameContents};
 ghost use Rattle.stt_top.specs.Work.{OneWork};
 ghost use Rattle.run_inputs.specs.Told.{world};
-ghost use Rattle.tool_words.specs.inner.Words.{command_text};
-ghost use Rattle.stt_top.specs.Top.{CommandEnds, Ends, EndsWith, Statuses};
+ghost use Rattle.stt_top.specs.Top.{Ends, EndsWith, Statuses};
 ghost use Rattle.stt_top.specs.Promises.{Promises, TracesAgree};
 
+use crate::command::answer_command;
 use crate::outcome::{Ended, status_of};
-use crate::performing::perform;
-use crate::task::read_task;
 use run_inputs::{Refusal, note_line};
 use std::alloc::Global;
 use tool_io::{Files, Sink};
-use tool_words::{Command, read_words};
-
-// The outcome of a command, with its text written to the output; no note is written. What is read is read first, so a
-// fault of it is never answered by want of memory for what stands behind it.
-fn answer_command<F: Files, O: Sink>(
-    alloc: Global,
-    command: Command<'_>,
-    files: &mut F,
-    out: &mut O,
-) -> Result<Ended, Refusal>
-    ensures ends { CommandEnds (command_text command.entry)
-        (world (F.shelf files.old) (O.told out.old)) (world (F.shelf files.new) (O.told out.new)) result }
-    ensures stays { SameContents (F.shelf files.old) (F.shelf files.new) }
-{
-    let task = read_task(alloc, command, files)?;
-    perform(alloc, task, out)
-}
+use tool_words::read_words;
 
 // The outcome of the words, with its text written to the output; no note is written.
 fn answer<F: Files, O: Sink>(

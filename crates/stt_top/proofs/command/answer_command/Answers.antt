@@ -5,7 +5,7 @@ use Rattle.tool_words.specs.inner.Words.{command_text}
 use Rattle.stt_top.specs.inner.Work.{task_text}
 use Rattle.stt_top.specs.Top.{CommandEnds}
 use Rattle.stt_top.proofs.Outcomes.{command_refused, task_end}
-use Rattle.stt_top.proofs.top.answer_command.Goals as goal
+use Rattle.stt_top.proofs.command.answer_command.Goals as goal
 
 pub returns-in_err-task-clause-ends : goal.returns-in_err-task-clause-ends
 returns-in_err-task-clause-ends g c =

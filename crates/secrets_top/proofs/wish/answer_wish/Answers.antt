@@ -10,7 +10,7 @@ use Rattle.secrets_top.specs.Ranges.{first_faulty}
 use Rattle.secrets_top.specs.Top.{Inputs, WishEnds}
 use Rattle.secrets_top.specs.inner.Top.{PerformsAccepted, image_in, verdict_on}
 use Rattle.secrets_top.proofs.Outcomes.{inputs_refused, told_end}
-use Rattle.secrets_top.proofs.top.answer_wish.Goals as goal
+use Rattle.secrets_top.proofs.wish.answer_wish.Goals as goal
 
 pub returns-in_err-task-clause-ends : goal.returns-in_err-task-clause-ends
 returns-in_err-task-clause-ends g c =
