@@ -6,4 +6,4 @@ pub mod Watching
 pub mod Looking
 pub mod Stamps
 pub mod Unexposed
-pub mod Told
+pub mod Naming

@@ -1,5 +1,5 @@
--- When entries have issued: none in a cycle before its Issue, so where Issue has no event no mark moves.
-use Rattle.std.proofs.Common.{◌≡◌, ℕ, ◌+◌, Bool, true, false, ◌||◌, List, [], ◌∷◌, ◌++◌, map, Option, Some, None, refl, ap, ap₂, sym, ◌∙◌, subst, length, arith}
+-- When entries have issued: none in a cycle before its Issue, and after a cycle none in a later one.
+use Rattle.std.proofs.Common.{◌≡◌, ℕ, ◌+◌, Bool, true, false, List, [], ◌∷◌, ◌++◌, map, Option, Some, None, refl, sym, ◌∙◌, subst, arith}
 use Rattle.std.proofs.lemmas.Bool.Decides.{nat_tests}
 use Rattle.std.specs.Prelude.{if◌then◌else◌, reverse}
 use Rattle.std.specs.List.{AllByRecursion as Each}
@@ -23,9 +23,7 @@ use Rattle.window_model.specs.Order.{each_from}
 use Rattle.window_model.specs.Rename.{rename, renamed}
 use Rattle.window_model.specs.Resolve.{resolve}
 use Rattle.window_model.specs.Retire.{retire, unless_ended}
-use Rattle.window_model.specs.Row.{Row}
-use Rattle.window_model.specs.inner.Row.{with_events}
-use Rattle.window_model.specs.State.{After, Machine, nothing, then_does}
+use Rattle.window_model.specs.State.{Machine, nothing, then_does}
 use Rattle.window_model.proofs.Clearing.{clear_keep}
 use Rattle.window_model.proofs.Issuing.{by_issue, gone_parts}
 use Rattle.window_model.proofs.Placing.{place_keep}
@@ -36,13 +34,8 @@ use Rattle.machine_facts.specs.Timely.{PartDue, PartsDue}
 use Rattle.machine_facts.proofs.Adds.{complete_adds, fill_adds, resolve_adds, retire_turns}
 use Rattle.machine_facts.proofs.ClearPhases.{clear_adds}
 use Rattle.committed_state.specs.Consistent.{IsDueBy}
-use Rattle.quiet_cycles.proofs.Waiting.{issue_nothing, none_begins}
-use Rattle.core_parts.specs.Described.{Described}
-use Rattle.core_cycle.proofs.Moving.{no_more}
-use Rattle.secret_marks.specs.declared.EntryMarks.{EntryMarks}
-use Rattle.secret_marks.specs.Marks.{Marks, after_issue_marks, is_at, issued_from}
+use Rattle.secret_marks.specs.Marks.{is_at}
 use Rattle.entry_marks.proofs.Fitting.{retire_went}
-use Rattle.entry_marks.proofs.YoungestFirst.{keeps}
 use Rattle.marked_core.specs.InStep.{IssuedBy, NotYet}
 
 -- ---- what holds of each entry and doesn't ask for its progress
@@ -181,25 +174,3 @@ cycle_issued d code x h =
     subst (λ (z : Machine). Each (IssuedBy (x.cycle + 1)) z.window) (sym (cycle_is d code x))
     (by_end d code (x.cycle + 1) y.end y (number_found d x)
     (found_by_issue (IssuedBy (x.cycle + 1)) (λ e h. h) (λ d b e may h. h) (λ e h. h) d x (all_later x.cycle x.window h)))
-
--- ---- where Issue has no event, no mark moves
-
-unmoved : (cycle base : ℕ) (m : Marks) (before : List Entry) (marks : List EntryMarks) (window : List Entry) (owns : List EntryMarks) → Each (NotYet cycle) window →
-    issued_from cycle base m before marks window owns ≡ owns
-unmoved cycle base m before marks [] owns h = refl
-unmoved cycle base m before marks (e ∷ window) [] h = refl
-unmoved cycle base m before marks (e ∷ window) (own ∷ owns) h =
-    ap₂ (λ o os. o ∷ os) (keeps cycle base m before marks e own (ap₂ (λ a b. a || b) h.0.0 h.0.1)) (unmoved cycle base m (e ∷ before) (own ∷ marks) window owns h.1)
-
-none_issued : (d : Desc) (x : Machine) (m : Marks) → (issue d x).events ≡ [] → Each (NotYet x.cycle) x.window → after_issue_marks (issue d x).machine m ≡ m
-none_issued d x m e h =
-    ap (λ (a : After). after_issue_marks a.machine m) (issue_nothing d x (none_begins d x e))
-    ∙ ap (λ w. let n : Marks = record m { window = w } in n) (unmoved x.cycle x.ram.base m [] [] x.window m.window h)
-
--- where Issue leaves the row as long as it was, no mark moves
-pub still_marked : (s s2 : Described) (r r2 : Row) (m : Marks) → s2 ≡ record s { machine = (issue s.desc s.machine).machine } →
-    r2 ≡ with_events r (issue s.desc s.machine).events → length r2.events ≡ length r.events → Each (NotYet s.machine.cycle) s.machine.window → m ≡ after_issue_marks s2.machine m
-still_marked s s2 r r2 m e q same h =
-    sym
-    (ap (λ (s : Described). after_issue_marks s.machine m) e
-    ∙ none_issued s.desc s.machine m (no_more r r2 (issue s.desc s.machine).events q same) h)

@@ -3,15 +3,12 @@ use Rattle.std.proofs.Common.{◌≡◌, ℕ, ◌+◌, ◌-◌, ◌≤◌, List,
 use Rattle.std.proofs.lemmas.List.{length-drop}
 use Rattle.circular_buffer.specs.Buffer.{Buffer, buffer}
 use Rattle.visibility.specs.Point.{Point}
-use Rattle.window_model.specs.declared.Event.{Event}
-use Rattle.window_model.specs.Serials.{Rise}
 use Rattle.window_model.specs.State.{Machine}
 use Rattle.core_parts.specs.Described.{Described}
 use Rattle.core_parts.specs.Held.{Held, Whole, described, in_flight}
 use Rattle.secret_marks.specs.declared.EntryMarks.{EntryMarks}
 use Rattle.secret_marks.specs.Marks.{Marks as Beside, after_issue_marks, cut, extended, issued_from, new_entry}
 use Rattle.entry_marks.specs.declared.marks.Marks.{Marks}
-use Rattle.entry_marks.specs.Told.{TellsOfEach}
 use Rattle.entry_marks.specs.Walk.{RefinesBeside, marks_of, marks_with}
 use Rattle.marked_core.specs.InStep.{InStep}
 use Rattle.marked_core.proofs.Lengths.{cut_length, extended_length}
@@ -82,10 +79,6 @@ parts_beside h v ms w s e = record {
   refines = w.refines;
   step = e ∙ sym (ap (λ (v : Described). length v.machine.window) s);
 }
-
--- events tell of the window that Issue leaves, whose serials rise
-pub told_beside : (h : Held) (v : Described) (events : List Event) → Whole h → described h ≡ v → (Rise v.machine.window → TellsOfEach v.machine.cycle v.machine.window events) → TellsOfEach h.cycle h.rob.entries events
-told_beside h v events w s t = subst (λ (v : Described). (Rise v.machine.window → TellsOfEach v.machine.cycle v.machine.window events) → TellsOfEach h.cycle h.rob.entries events) s (λ f. f w.refines.rise) t
 
 pub marks_issued : (h : Held) (v : Described) (m : Beside) (base : ℕ) → Whole h → described h ≡ v → base ≡ v.machine.ram.base →
     ◌≡◌ {A = Beside} record m { window = issued_from h.cycle base m [] [] h.rob.entries m.window } (after_issue_marks v.machine m)

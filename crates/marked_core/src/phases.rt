@@ -11,13 +11,12 @@ ghost use Rattle.window_model.specs.Issue.{issue};
 ghost use Rattle.window_model.specs.Rename.{rename};
 ghost use Rattle.window_model.specs.Resolve.{resolve};
 ghost use Rattle.window_model.specs.Retire.{retire};
-ghost use Rattle.window_model.specs.Serials.{Rise};
 ghost use Rattle.window_model.specs.inner.Row.{HasRoom, IsLonger, most_cleared, most_entries, most_fetched, most_issued, most_resolved, most_retired, with_events};
 ghost use Rattle.secret_marks.specs.Marks.{after_issue_marks, after_retire_marks, cut, extended};
 ghost use Rattle.secret_marks.specs.Published.{published_marks};
 ghost use Rattle.secret_marks.specs.Streams.{public_in};
 ghost use Rattle.secret_marks.specs.Shown.{head_shown, operands_shown, resolved_shown};
-ghost use Rattle.entry_marks.specs.Told.{TellsOfEach};
+ghost use Rattle.entry_marks.specs.Named.{NamesEachIssued};
 ghost use Rattle.entry_marks.specs.Walk.{marks_of};
 ghost use Rattle.marked_core.specs.InStep.{AsNoted, InStep, NotYet};
 
@@ -33,7 +32,7 @@ use resolve::resolve;
 use rv_types::Piece;
 use secret_marks::{PublicStreams, Shown};
 use shown_marks::{head_shown, operands_shown};
-use window_model::{Event, Row};
+use window_model::Row;
 
 // The number of entries in flight.
 fn entries<R: RenameTaint>(parts: &Parts<R>) -> u32
@@ -149,11 +148,10 @@ pub(crate) fn retire_marked<R: RenameTaint>(
     shown
 }
 
-// The entries that issued in this cycle, as the phase's events tell, get the marks of their operands.
-fn mark<R: RenameTaint>(parts: &Parts<R>, marks: &mut Marks, events: &[Event])
+// The entries at these positions, which issued in this cycle, get the marks of their operands.
+fn mark<R: RenameTaint>(parts: &Parts<R>, marks: &mut Marks, issued: &[u32])
     requires step { InStep parts.now marks.old }
-    requires told { Rise parts.now.machine.window
-        → TellsOfEach parts.now.machine.cycle parts.now.machine.window events.now }
+    requires named { NamesEachIssued parts.now.machine.cycle parts.now.machine.window issued.now }
     ensures marks { marks_of marks.new ≡ after_issue_marks parts.now.machine (marks_of marks.old) }
     ensures step { InStep parts.now marks.new }
 {
@@ -161,15 +159,15 @@ fn mark<R: RenameTaint>(parts: &Parts<R>, marks: &mut Marks, events: &[Event])
         &parts.rob,
         &parts.sources,
         marks,
-        events,
+        issued,
         base(parts),
         parts.cycle,
     );
 }
 
-/// Phase Issue, in a cycle in which nothing has issued yet. What issues gets the marks of its operands: where the phase
-/// has no event nothing issues, and no mark moves. What shows is the oldest operand that tells an address or the time
-/// of a division and is marked, as the phase finds it.
+/// Phase Issue, in a cycle in which nothing has issued yet. What issues, as the phase names it, gets the marks of its
+/// operands. What shows is the oldest operand that tells an address or the time of a division and is marked, as the
+/// phase finds it.
 pub(crate) fn issue_marked<R: RenameTaint>(
     parts: &mut Parts<R>,
     marks: &mut Marks,
@@ -190,12 +188,8 @@ pub(crate) fn issue_marked<R: RenameTaint>(
     ensures step { InStep parts.new marks.new }
 {
     let shown = operands_shown(parts, marks);
-    let before = row.events().len();
-    issue(parts, row);
-    if row.events().len() == before {
-        return shown;
-    }
-    mark(parts, marks, &row.events()[before..]);
+    let issued = issue(parts, row);
+    mark(parts, marks, issued.as_slice());
     shown
 }
 

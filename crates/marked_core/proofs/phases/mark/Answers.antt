@@ -1,11 +1,12 @@
 use Rattle.std.proofs.Common.{◌∙◌}
-use Rattle.marked_core.proofs.Steps.{marks_issued, parts_beside, told_beside}
+use Rattle.marked_core.proofs.Steps.{marks_issued, parts_beside}
+use Rattle.marked_core.proofs.Naming.{named_beside}
 use Rattle.marked_core.proofs.phases.mark.Goals as goal
 
 pub mark_issued-requires : goal.mark_issued-requires
 mark_issued-requires g c = record {
   stands = parts_beside _ _ c.args.marks.now.window.items c.parts.invariant c.parts.view_is c.requires.step.entries;
-  told = told_beside _ _ c.args.events.now c.parts.invariant c.parts.view_is c.requires.told;
+  named = named_beside _ _ c.args.issued.now c.parts.invariant c.parts.view_is c.requires.named;
 }
 
 pub returns-clause-marks : goal.returns-clause-marks

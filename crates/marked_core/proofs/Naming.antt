@@ -1,0 +1,62 @@
+-- The entries that Issue names are those that issue in its cycle, where none had before.
+use Rattle.std.proofs.Common.{◌≡◌, ℕ, zero, suc, ◌<◌, ◌≤◌, true, ◌||◌, List, [], ◌∷◌, length, get_or, Some, slice_get, ap, ap₂, sym, subst, ◌∙◌, ◌⊎◌, inl, inr, arith}
+use Rattle.std.specs.List.{AllByRecursion as Each}
+use Rattle.std.proofs.lemmas.Option.{slice_get_past}
+use Rattle.window_model.specs.declared.Entry.{Entry}
+use Rattle.window_model.specs.Issue.{issue}
+use Rattle.window_model.specs.State.{Machine}
+use Rattle.machine_facts.proofs.Ports.{issue_adds}
+use Rattle.core_parts.specs.Described.{Described}
+use Rattle.core_parts.specs.Held.{Held, Whole, described}
+use Rattle.issue.specs.Named.{NamesIssued}
+use Rattle.entry_marks.specs.Named.{NamesEachIssued, has_issued}
+use Rattle.marked_core.specs.InStep.{NotYet}
+use Rattle.marked_core.proofs.Lengths.{issue_keeps}
+
+each_here : (P : Entry → Type 0) (es : List Entry) (i : ℕ) (e : Entry) → Each P es → slice_get es i ≡ Some e → P e
+each_here P [] i e h at = absurd (cc)
+each_here P (x ∷ es) zero e h at = let same : x ≡ e = cc in subst P same h.0
+each_here P (x ∷ es) (suc i) e h at = each_here P es i e h.1 at
+
+not_issued : (cycle : ℕ) (e : Entry) → NotYet cycle e → has_issued cycle e ≡ true → ⊥
+not_issued cycle e n h = let none = ap₂ (λ a b. a || b) n.0 n.1 in absurd (cc)
+
+within_or : (i n : ℕ) → (i < n) ⊎ (n ≤ i)
+within_or i zero = inr (omega arith)
+within_or zero (suc n) = inl (omega arith)
+within_or (suc i) (suc n) = elim (within_or i n) [
+  | inl lt ↦ inl (omega (arith, lt))
+  | inr le ↦ inr (omega (arith, le))
+]
+
+module _ (cycle : ℕ) (old new : List Entry) (positions : List ℕ) (names : NamesIssued old new positions) where
+  -- where the window isn't as it was an entry stands
+  stands : length new ≡ length old → (i : ℕ) → (slice_get new i ≡ slice_get old i → ⊥) → i < length new
+  stands same i h = elim (within_or i (length new)) [
+    | inl lt ↦ lt
+    | inr le ↦ absurd (h (slice_get_past new i le ∙ sym (slice_get_past old i (omega (arith, le, same)))))
+  ]
+
+  -- an entry that has issued in this cycle is named, where none had before
+  names_each : length new ≡ length old → Each (NotYet cycle) old → NamesEachIssued cycle new positions
+  names_each same fresh = record {
+    by_age = names.by_age;
+    within = λ k d lt. stands same (get_or positions k d) (names.each k d lt);
+    each = λ i e here h. elim (names.others i) [
+      | inl as_was ↦ absurd (not_issued cycle e (each_here (NotYet cycle) old i e fresh (sym as_was ∙ here)) h)
+      | inr found ↦ found
+    ];
+  }
+
+-- what Issue names is each entry that has issued in its cycle
+pub issue_names : (s s2 : Described) (positions : List ℕ) → s2 ≡ record s { machine = (issue s.desc s.machine).machine } → Each (NotYet s.machine.cycle) s.machine.window →
+    NamesIssued s.machine.window s2.machine.window positions → NamesEachIssued s2.machine.cycle s2.machine.window positions
+issue_names s s2 positions e fresh names =
+    let machine = ap (λ (s : Described). s.machine) e in
+    let cycle : s2.machine.cycle ≡ s.machine.cycle = ap (λ (x : Machine). x.cycle) machine ∙ (issue_adds s.desc s.machine).cycle in
+    let same : length s2.machine.window ≡ length s.machine.window = ap (λ (x : Machine). length x.window) machine ∙ issue_keeps s.desc s.machine in
+    subst (λ n. NamesEachIssued n s2.machine.window positions) (sym cycle) (names_each s.machine.cycle s.machine.window s2.machine.window positions names same fresh)
+
+-- what is named of the machine is named of the parts
+pub named_beside : (h : Held) (v : Described) (positions : List ℕ) → Whole h → described h ≡ v → NamesEachIssued v.machine.cycle v.machine.window positions → NamesEachIssued h.cycle h.rob.entries positions
+named_beside h v positions w s n = subst (λ (v : Described). NamesEachIssued v.machine.cycle v.machine.window positions) (sym s) n
