@@ -1,0 +1,59 @@
+-- Each stretch is counted, and its line is written where it is whole.
+use Rattle.std.proofs.Common.{◌≡◌, ◌≤◌, ◌<◌, ◌-◌, ◌∙◌, ap, subst, arith}
+use Rattle.std.proofs.lemmas.Result.{MatchResult-from_err}
+use Rattle.tool_io.specs.Outside.{Wrote, WrotePrefix}
+use Rattle.stats_top.specs.Stats.{stretch_line}
+use Rattle.stats_top.proofs.Tally.{same_core, stretch_written, stretch_part, stretches_ended}
+use Rattle.stats_top.proofs.counting.count_stretches.Goals as goal
+
+pub returns-then-cycles-before : goal.returns-then-cycles-before
+returns-then-cycles-before g c =
+    let old = g.C.Clocked.machine c.args.core.now in
+    let y = g.C.Clocked.machine c.loop-left.core in
+    let z = g.C.Clocked.machine c.count_stretch-since.new.core in
+    let before : c.cycles-before.result ≡ y.cycle = c.cycles-before.ensures in
+    let after : c.cycles.result ≡ z.cycle = c.cycles.ensures in
+    let test = c.if-cycles-before.true in
+    let short : z.cycle - y.cycle < c.args.every.cycles = omega (arith, before, after, test) in
+    stretches_ended c.args.every.cycles c.args.every.some (g.C.Clocked.desc c.args.core.now) (g.C.Clocked.code c.args.core.now) c.args.cycles old (g.S.Sink.told c.args.out.now)
+    c.loop-left.left y z c.loop-left.counts c.count_stretch-since.result c.add.new.self c.min-next.result (g.S.Sink.told c.loop-left.out) c.min-next.ensures
+    (same_core _ _ _ _ _ _ _ _ c.loop-left.invariant.desc c.loop-left.invariant.code c.count_stretch-since.ensures.counted) c.add.ensures c.loop-left.invariant.written short
+
+pub returns-in_err-put : goal.returns-in_err-put
+returns-in_err-put g c =
+    let old = g.C.Clocked.machine c.args.core.now in
+    let y = g.C.Clocked.machine c.loop-left.core in
+    let z = g.C.Clocked.machine c.count_stretch-since.new.core in
+    let before : c.cycles-before.result ≡ y.cycle = c.cycles-before.ensures in
+    let after : c.cycles.result ≡ z.cycle = c.cycles.ensures in
+    let test = c.if-cycles-before.false in
+    let whole : c.args.every.cycles ≤ z.cycle - y.cycle = omega (arith, before, after, test) in
+    let line = c.as_slice.ensures ∙ c.stretch_line.ensures ∙ ap (λ n. stretch_line n c.count_stretch-since.result) c.cycles-in-loop-left.ensures in
+    let t = g.S.Sink.told c.loop-left.out in
+    let u = g.S.Sink.told c.put.new.self in
+    MatchResult-from_err _ _ _ c.from_residual.ensures.0
+    (λ _. stretch_part c.args.every.cycles c.args.every.some (g.C.Clocked.desc c.args.core.now) (g.C.Clocked.code c.args.core.now) c.args.cycles old (g.S.Sink.told c.args.out.now)
+    c.loop-left.left y z c.loop-left.counts c.count_stretch-since.result c.add.new.self c.min-next.result t c.min-next.ensures
+    (same_core _ _ _ _ _ _ _ _ c.loop-left.invariant.desc c.loop-left.invariant.code c.count_stretch-since.ensures.counted) c.add.ensures c.loop-left.invariant.written whole
+    u (subst (λ text. WrotePrefix text t u) line c.in_err-put.ensures))
+
+pub loop-left-preserved : goal.loop-left-preserved
+loop-left-preserved g c =
+    let old = g.C.Clocked.machine c.args.core.now in
+    let y = g.C.Clocked.machine c.loop-left.core in
+    let z = g.C.Clocked.machine c.count_stretch-since.new.core in
+    let before : c.cycles-before.result ≡ y.cycle = c.cycles-before.ensures in
+    let after : c.cycles.result ≡ z.cycle = c.cycles.ensures in
+    let test = c.if-cycles-before.false in
+    let whole : c.args.every.cycles ≤ z.cycle - y.cycle = omega (arith, before, after, test) in
+    let line = c.as_slice.ensures ∙ c.stretch_line.ensures ∙ ap (λ n. stretch_line n c.count_stretch-since.result) c.cycles-in-loop-left.ensures in
+    let t = g.S.Sink.told c.loop-left.out in
+    let u = g.S.Sink.told c.put.new.self in
+    record {
+      desc = c.count_stretch-since.ensures.desc ∙ c.loop-left.invariant.desc;
+      code = c.count_stretch-since.ensures.code ∙ c.loop-left.invariant.code;
+      written = stretch_written c.args.every.cycles c.args.every.some (g.C.Clocked.desc c.args.core.now) (g.C.Clocked.code c.args.core.now) c.args.cycles old (g.S.Sink.told c.args.out.now)
+          c.loop-left.left y z c.loop-left.counts c.count_stretch-since.result c.add.new.self c.min-next.result t c.min-next.ensures
+          (same_core _ _ _ _ _ _ _ _ c.loop-left.invariant.desc c.loop-left.invariant.code c.count_stretch-since.ensures.counted) c.add.ensures c.loop-left.invariant.written whole
+          u (subst (λ text. Wrote text t u) line c.in_ok-put.ensures);
+    }

@@ -1,0 +1,4 @@
+pub mod Stats
+pub mod Outcome
+pub mod Top
+pub mod inner

@@ -1,0 +1,56 @@
+//! The lines of what is counted (`docs/formats.md`, "The program stt_stats").
+ghost use Rattle.std.specs.Prelude.{◌≡◌, ◌≤◌, ◌+◌, ◌*◌, ◌++◌, length, flat_map};
+ghost use Rattle.run_counts.specs.Counted.{names};
+ghost use Rattle.stats_top.specs.Stats.{and_number, number_line, number_lines, stretch_line};
+
+use line_text::Line;
+use run_counts::{COUNTED, Counts, NAME_MAX, name_at};
+
+// Adds a blank before each number, and the number.
+fn add_numbers(line: &mut Line, numbers: &[u64])
+    requires { length line.old + 21 * length numbers.now ≤ 1000 }
+    ensures text { line.new ≡ line.old ++ flat_map and_number numbers.now }
+    ensures short { length line.new ≤ length line.old + 21 * length numbers.now }
+{
+    for n in numbers {
+        line.add(b" ");
+        line.add_decimal(*n);
+    }
+}
+
+/// The line of a stretch of cycles: the number of its last cycle, and what is counted in it.
+#[tactic(auto, unfolding(crate::specs::Stats::stretch_line))]
+pub(crate) fn stretch_line(cycle: u32, counts: &Counts) -> Line
+    ensures { result ≡ stretch_line cycle counts.now }
+{
+    let mut line = Line::new();
+    line.add_decimal_word(cycle);
+    add_numbers(&mut line, counts.as_slice());
+    line.add(b"\n");
+    line
+}
+
+// Adds the line of a number.
+fn add_number_line(line: &mut Line, name: &[u8], n: u64)
+    requires room { length line.old ≤ 2000 }
+    requires short { length name.now ≤ NAME_MAX }
+    ensures text { line.new ≡ line.old ++ number_line name.now n }
+    ensures short { length line.new ≤ length line.old + 43 }
+{
+    line.add(name);
+    line.add(b" ");
+    line.add_decimal(n);
+    line.add(b"\n");
+}
+
+/// The lines of all numbers, each with its name.
+pub(crate) fn number_lines(counts: &Counts) -> Line
+    ensures { result ≡ number_lines names counts.now }
+{
+    let mut lines = Line::new();
+    let numbers = counts.as_slice();
+    for place in 0..COUNTED {
+        add_number_line(&mut lines, name_at(place), numbers[place]);
+    }
+    lines
+}
