@@ -30,7 +30,7 @@ BIT, BIT_ITSELF = (f"hidden\npublished 1\nend exit 0 retired {steps} cycles 33\n
 # of docs/formats.md, "The program stt_secrets": the secret goes to stream 2, is loaded anew, and something is looked up by it
 LOOKED_UP = (0x00814283, 0x00510623, 0x00200513, 0x00c10593, 0x00100613, 0x04000893, 0x00000073, 0x00c14383, 0x002383b3, 0xf003c403, ZERO, *EXITS)
 PUBLIC = "--public-stream", "2"
-CLAIM = "every value of these bytes with which the program publishes the same gives the trace of this run, and that is proved"
+CLAIM = "every value of these bytes with which as many steps of the instruction set publish the same gives the trace of this run, and that is proved"
 
 
 def says(said, status=0, name="publishes"):

@@ -20,7 +20,7 @@ The last line is the verdict, and so is the status:
      1  leaks      two images: premises met, traces unequal, under the model off, which promises nothing
      3  certified in the first N cycles, of a run that goes on: the budget ended it; so of other words
     10  certified for what is published  of one image with --public-stream: nothing shows, proved for every value of the bytes with which the
-                   program publishes the same; and so with each of the words of 3, 11 and 12
+                   program publishes the same in as many steps; and so with each of the words of 3, 11 and 12
     11  certified, exit V                the run exited with another value than 0
     12  certified, to a trap in cycle N  a trap ended the run
                    Of a run of the instruction set 3 and 12 are `nothing shows in the first N steps` and `nothing shows, to a trap in step N`:

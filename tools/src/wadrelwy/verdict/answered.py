@@ -6,7 +6,7 @@ EVERY_CORE, EVERY_CORE_PUBLISHED = "certified on every core that delays", "certi
 # of a run of the instruction set that doesn't end by an exit
 NOTHING_SHOWS = "nothing shows"
 OF_ALL = "for every value of these bytes the trace is the one of this run, and that is proved"
-OF_PUBLISHED = "every value of these bytes with which the program publishes the same gives the trace of this run, and that is proved"
+OF_PUBLISHED = "every value of these bytes with which as many steps of the instruction set publish the same gives the trace of this run, and that is proved"
 CORES = "on each core with this memory, stt.defence = \"delay\" and the model spectre or futuristic, whatever its sizes"
 OF_EVERY_CORE = f"every value of these bytes gives one trace {CORES}, and that is proved"
 OF_EVERY_CORE_PUBLISHED = ("every value of these bytes with which as many steps of the instruction set publish the same gives one trace "
