@@ -1,12 +1,13 @@
 """The door: reads the first word, hands the others to that command, and tells what went wrong in one line on standard error."""
 import argparse
+import difflib
 import importlib
 import os
 import sys
 import traceback
 from typing import NoReturn, Optional, Sequence
 
-from wadrelwy import Fault, Unwritten, statuses
+from wadrelwy import Fault, Unwritten, built_programs, statuses
 from wadrelwy.view import faster
 
 # the commands by what one wants, each in a line
@@ -72,16 +73,39 @@ def parser_of(name: str) -> argparse.ArgumentParser:
 
 def top() -> argparse.ArgumentParser:
     parser = Parser(prog="wadrelwy", usage="wadrelwy [-h] COMMAND ..", description="Asks the machine and its traces.",
-                    epilog=f"{listed()}\n\n`wadrelwy COMMAND --help` tells the words of each; docs/using.md has examples.",
+                    epilog=f"{listed()}\n\n`wadrelwy COMMAND --help` tells the words of each; docs/using.md has examples.\n"
+                    "`wadrelwy --version` tells what to cite: the tools and the built programs that are found.",
                     formatter_class=argparse.RawDescriptionHelpFormatter)
     parser.add_argument("command", metavar="COMMAND", choices=COMMANDS, help=argparse.SUPPRESS)
     return parser
+
+
+def refuse_command(word: str) -> NoReturn:
+    """Refuses a word that is no command, with the commands that it may be meant for."""
+    from wadrelwy.commands.view import SUBCOMMANDS
+    near = [f"view {word}"] if word in SUBCOMMANDS else difflib.get_close_matches(word, COMMANDS, n=1)
+    raise Fault(f"no command {word[:40]}; {f'`wadrelwy {near[0]}` is the nearest, and ' if near else ''}`wadrelwy --help` lists all")
+
+
+def versions() -> str:
+    """What to cite: the tools by their commit or version, and each built program that is found by its sha256."""
+    from wadrelwy.sweep import kept
+    found = [(name, built_programs.program(name)) for name in (built_programs.SIMULATOR, built_programs.SECRETS)]
+    programs = [f"{name} {path} sha256 {kept.sha256(kept.content(path))}" if path else f"{name} isn't there" for name, path in found]
+    return "\n".join([f"wadrelwy {kept.tools()}", *programs])
 
 
 def done(words: Sequence[str]) -> int:
     """Does what the words ask for, and answers the status."""
     if not words:
         raise Fault("which command? `wadrelwy --help` lists them")
+    if words[0] == "help":
+        words = [*words[1:2], "--help"]
+    if words[0] == "--version":
+        print(versions())
+        return statuses.HOLDS
+    if not words[0].startswith("-") and words[0] not in COMMANDS:
+        refuse_command(words[0])
     name = top().parse_args(words[:1]).command
     if name in LONG and not faster.by_compiled(words[1:]):
         faster.advise(words[1:])

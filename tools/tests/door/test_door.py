@@ -1,5 +1,6 @@
 """The one door: what it lists, the help and the refusals of each command, where the built programs are looked for, and the statuses."""
 import ast
+import hashlib
 import itertools
 import os
 import re
@@ -27,6 +28,7 @@ WRONG = [[], ["nothing"], ["run"], ["run", "a"], ["run", "a", "b", "c"], ["run",
          ["bench", TWO_FILES[0], "--seed", "x", "--blocks", "1"], ["secrets", *TWO_FILES], ["verdict", *TWO_FILES],
          ["verdict", *TWO_FILES, "--cycles", "x"], ["certify"], ["certify", "f", "--levels", "9"], ["draw", "/nowhere/at/all"],
          ["draw", "f", "--draws", "0"], ["defences", "one"], ["defences", "--set", "x"], ["sweep", "/nowhere/at/all"],
+         ["sample"], ["sample", "x"], ["sample", "x", "y"], ["sample", "-o", "/nowhere/at/all"], ["sample", "x", "y", "--jobs", "0"],
          ["sweep", "f", "--jobs", "0"], ["sweep", "f", "--programs", "x"], ["view"], ["view", "list"], ["view", "list", "x"],
          ["view", "nothing"], ["path", "log"], ["path", "log", "/nowhere/at/all"], ["path", "log", support.ROOT], ["-x"],
          ["secrets", *TWO_FILES, "--secret", "1:1", "--public-stream", "3"], ["verdict", *TWO_FILES, "--secret", "1:1", "--public-stream", "0"],
@@ -50,6 +52,29 @@ class Help(unittest.TestCase):
                 told = run(*words, "--help")
                 self.assertEqual((told.returncode, told.stderr), (0, ""))
                 self.assertTrue(told.stdout.startswith(f"usage: wadrelwy {' '.join(words)} "), told.stdout)
+
+    def test_by_a_word(self):
+        self.assertEqual(run("help").stdout, run("--help").stdout)
+        self.assertEqual(run("help", "sweep").stdout, run("sweep", "--help").stdout)
+
+    def test_what_to_cite(self):
+        """The tools, and each built program by its sha256, or that it isn't there."""
+        with tempfile.NamedTemporaryFile() as file:
+            file.write(b"a program")
+            file.flush()
+            os.chmod(file.name, 0o755)
+            told = run("--version", env=os.environ | {"STT_CLI": file.name, "STT_SECRETS": "/nowhere"})
+        self.assertEqual((told.returncode, told.stderr), (0, ""))
+        first, *rest = told.stdout.splitlines()
+        self.assertRegex(first, r"^wadrelwy kit rattle-.*, commit \w+")
+        self.assertEqual(rest, [f"stt_cli {file.name} sha256 {hashlib.sha256(b'a program').hexdigest()}", "stt_secrets isn't there"])
+
+    def test_a_word_that_is_none(self):
+        """What is nearest is told, be it a command or one of `view`'s."""
+        for word, near in (("verdct", "`wadrelwy verdict` is the nearest"), ("stack", "`wadrelwy view stack` is the nearest"), ("zzzz", "no command zzzz; `wadrelwy --help`")):
+            told = run(word)
+            self.assertEqual((told.returncode, told.stdout, told.stderr.count("\n")), (2, "", 1))
+            self.assertIn(near, told.stderr)
 
     def test_each_of_the_developers_has_one(self):
         for program in DEVELOPERS:

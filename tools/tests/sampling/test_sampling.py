@@ -16,7 +16,7 @@ import unittest
 
 import support
 from generate.generated import generated_image
-from wadrelwy.sampling import chain, estimate, measuring, places
+from wadrelwy.sampling import chain, estimate, measuring, places, planned
 from wadrelwy.sampling.measuring import Taken
 from wadrelwy.sampling.places import Window
 from wadrelwy.verdict.hart import Hart
@@ -167,6 +167,11 @@ class Numbers(unittest.TestCase):
         self.assertAlmostEqual(made.half, estimate.student(2) * statistics.stdev([1, 2, 3]) / 3 ** 0.5)
         self.assertAlmostEqual(made.cold, 1.75 / 4)
         self.assertAlmostEqual(made.wide, made.half + 2 * 1.75 / 4)
+        wide = made._replace(windows=20, half=0.4)
+        self.assertEqual(wide.needed, 320)
+        question = planned.Question("one", 1000, "exit 0", {"windows": 20, "length": 5, "warm": 7})
+        self.assertIn("+- 5 % may take some 320 windows", "\n".join(estimate.told(question, wide)))
+        self.assertNotIn("that is wide", "\n".join(estimate.told(question, made._replace(half=0.09))))
 
 
 class Chain(Folder):

@@ -35,7 +35,7 @@ loads = 4
 model = "spectre"
 """
 # 1000 cycles without protection, 1100 under spectre, 1250 under futuristic, 100 more under hold and 400 under delay; 8 fewer for each entry of the
-# window; each run leaves a mark. What is killed, or retires otherwise, a word of the environment says
+# window, 500 more for what was built at O0; each run leaves a mark. What is killed, or retires otherwise, a word of the environment says
 STAND_IN = """#!/bin/sh
 [ "$1" = isa ] && { grep -q trap $2 && echo "end trap 5 00010010 retired 3" && exit 1; echo "end exit 0 retired ${ISA:-500}"; exit 0; }
 [ "$1 $4" = "run --cycles" ] || exit 2
@@ -51,6 +51,7 @@ grep -q '^model = "spectre"' $2 && cycles=1100
 grep -q '^model = "futuristic"' $2 && cycles=1250
 grep -q '^defence = "hold"' $2 && ! grep -q '^model = "off"' $2 && cycles=$((cycles + 100))
 grep -q '^defence = "delay"' $2 && ! grep -q '^model = "off"' $2 && cycles=$((cycles + 400))
+grep -q 'built at O0' $3 && cycles=$((cycles + 500))
 rob=$(sed -n 's/^rob = \\([0-9]*\\).*/\\1/p' $2)
 echo "out 00"
 echo "end exit 0 retired ${RETIRED:-500} cycles $((cycles - 8 * rob))"
@@ -453,6 +454,30 @@ class Sweeps(Folder):
         self.assertEqual((told.returncode, len(self.rows())), (3, 1))
         self.assertRegex(told.stderr, rf"wadrelwy sweep: missing: \w+ core: its result is none: .*{name}")
         self.assertEqual((self.sweep(self.out).returncode, len(self.rows()), self.runs()), (0, 2, 3))
+
+
+class Builds(Folder):
+    def test_against_one_of_them(self):
+        """Programs of one name in folders are builds of it: each is told by how much longer it takes than that of the named folder."""
+        self.images = []
+        for build in ("O0", "O2"):
+            os.mkdir(os.path.join(self.folder, build))
+            self.images += [self.write(f"{build}/{name}.elf", f"{name} built at {build}") for name in ("one", "two")]
+        told = self.sweep(*self.words("--set", "stt.model=off,spectre", "--against", "O2"))
+        self.assertEqual((told.returncode, told.stderr), (0, ""))
+        against = {(row["program"], row["stt.model"]): row["against"] for row in self.rows()}
+        off, spectre = 1000 - 8 * 32, 1100 - 8 * 32
+        for name in ("one", "two"):
+            for model, cycles in (("off", off), ("spectre", spectre)):
+                self.assertEqual(float(against[f"O2/{name}", model]), 0)
+                self.assertAlmostEqual(float(against[f"O0/{name}", model]), 500 / cycles, places=6)
+        self.assertIn(f"core stt.model=off: O0 takes +{50000 / off:.1f} % against O2 (n 2, ", told.stdout)
+        self.assertIn(f"core stt.model=spectre: O0 takes +{50000 / spectre:.1f} % against O2 (n 2, ", told.stdout)
+        self.assertEqual(self.sweep(self.out, "--gather").returncode, 0)
+        self.assertNotIn("against", self.rows()[0])
+        told = self.sweep(self.out, "--gather", "--against", "O3")
+        self.assertEqual((told.returncode, told.stdout, told.stderr.count("\n")), (2, "", 1))
+        self.assertIn("builds are the folders by which names are told apart: O0, O2", told.stderr)
 
 
 class Plots(Folder):

@@ -7,7 +7,7 @@
 `isa` goes over the run, a hundred times as fast as a core does, and leaves images that go on at M places (as `wadrelwy continue` makes them, each
 of the one before): one in each of M equal parts of the run, by chance within it. In a core that begins cold there W instructions go by, and then L are
 measured. What comes is the mean in cycles per instruction, with the 95 % interval of a mean; and, of ten of the windows, what they take with half
-the warm-up: by so much the cold start may still count. What stays cold longest is the predictor. Without more M is 50, L 10000, W 200000. A run
+the warm-up: by so much the cold start may still count. What stays cold longest is the predictor. Without more M is 50, L 50000, W 200000. A run
 that is hardly longer than M times W is better run as a whole. --steps N takes the first N instructions for the run. --at names the place of the
 instructions that set the registers, as for `continue`; where the program uses their place the command ends so.
 
@@ -40,7 +40,7 @@ def words(parser: ArgumentParser) -> None:
     parser.add_argument("descriptions", nargs="*", default=[], metavar="DESCRIPTION")
     parser.add_argument("-o", dest="output", metavar="FOLDER")
     parser.add_argument("--windows", type=number, default=50, metavar="M")
-    parser.add_argument("--length", type=number, default=10000, metavar="L", help="in instructions")
+    parser.add_argument("--length", type=number, default=50000, metavar="L", help="in instructions")
     parser.add_argument("--warm", type=number, default=200000, metavar="W", help="in instructions")
     parser.add_argument("--steps", type=number, default=4294967295, metavar="N", help="take the first N instructions for the run")
     parser.add_argument("--seed", type=number, default=1, metavar="S", help="of the places within their parts")

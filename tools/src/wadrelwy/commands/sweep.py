@@ -2,7 +2,7 @@
 
     wadrelwy sweep FOLDER --programs IMAGE.. --descriptions DESCRIPTION.. [--set KEY=VALUE,..].. [--defences] [--cycles N] [--jobs N]
     wadrelwy sweep FOLDER --programs .. --descriptions .. [..] --list [--pack] [--tasks N] [--minutes N] [--memory MEGABYTES]
-    wadrelwy sweep FOLDER [--gather [--from FOLDER..]] [--copies]
+    wadrelwy sweep FOLDER [--gather [--from FOLDER..]] [--copies] [--against BUILD]
 
 Each program is run under each description with each combination of the values that are set: --set core.rob=16,32,64 --set
 stt.model=off,spectre makes six runs of each. --defences is the model off, and each defence under both models that protect. Before the
@@ -12,6 +12,9 @@ results.csv, results.json and the plots: bars.svg, the slowdown of each program 
 slowdowns over each size that is set. Where it was stopped, the command that began it, or `wadrelwy sweep FOLDER` alone, goes on: only what
 is missing is run. FOLDER alone is refused where an image, a description or the simulator isn't what it was; --copies goes on with those
 that the folder has.
+
+--against BUILD compares builds: programs of one name, told apart by their folders, as build-O0/sort.elf and build-O2/sort.elf. The column `against` of
+the tables, and a line for each build, say how many cycles more each takes than that of the build's folder, under the same description.
 
 With --list nothing is run. FOLDER gets a list of the runs that are missing, in three forms. They need FOLDER under the name that was
 given here, and no other file; each goes on where it was stopped:
@@ -50,6 +53,7 @@ def words(parser):
     parser.add_argument("--program", metavar="P")
     parser.add_argument("--copies", action="store_true", help="go on with the folder's copies, whatever became of the files")
     lists.words(parser)
+    parser.add_argument("--against", metavar="BUILD", help="compare builds with this one, as `gcc-O2` of gcc-O2/sort and gcc-O0/sort")
     parser.add_argument("--plots", choices=(NONE, SOME, ALL), default=SOME, help=f"some, without it: all but bars of more than {plots.MOST_PANELS} panels")
 
 
@@ -83,9 +87,10 @@ def planned(asked):
 def write_results(made, asked):
     """Writes what is there, names what is missing, and answers the status."""
     found, missing = results.rows(made, running.SWEEP)
+    found = list(results.with_builds(found, asked.against)) if asked.against else found
     files = {"results.csv": results.as_csv(found, made.keys, made.cited), "results.json": results.as_json(found, made.keys, made.cited)}
     files |= plots.all_of(found, asked.plots == ALL) if asked.plots != NONE else {}
-    lines = list(plots.summary(found))
+    lines = [*results.builds(found, asked.against), *plots.summary(found)]
     files["summary"] = "".join(f"{line}\n" for line in [*lines, *results.other_ends(found), f"by {made.cited}"])
     for name, text in files.items():
         write(made.path(name), text.encode())

@@ -15,6 +15,8 @@ from .planned import SAMPLE, Question
 # the share of intervals that hold, where windows are chosen by chance and are many
 SHARE = 95
 NORMAL = 1.959964
+# an interval that is wider is told with how many windows it may take to make it so
+WIDE = 0.05
 OF_A_WINDOW = ("window", "begin", "warm", "halved")
 
 
@@ -39,6 +41,11 @@ class Estimate(NamedTuple):
     @property
     def name(self) -> str:
         return " ".join([self.description, *(f"{key}={value}" for key, value in self.values.items())])
+
+    @property
+    def needed(self) -> int:
+        """How many windows, as unlike as these are, come to an interval that isn't wide."""
+        return math.ceil(self.windows * (self.half / (WIDE * self.mean)) ** 2)
 
     @property
     def wide(self) -> float:
@@ -101,6 +108,8 @@ def told(question: Question, made: Estimate) -> Iterator[str]:
     else:
         yield (f"  cold start: with half the warm-up {made.compared} of the windows take {100 * made.cold:+.1f} %; what is left of it isn't known, "
                "and makes a run longer, mostly")
+    if made.half > WIDE * made.mean:
+        yield f"  that is wide: +- {100 * WIDE:.0f} % may take some {made.needed} windows, as unlike as these are"
     yield f"  with both: {low:.4f} to {high:.4f}, {told_cycles(low * question.retired)} to {told_cycles(high * question.retired)} cycles"
 
 

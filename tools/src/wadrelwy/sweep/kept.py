@@ -116,7 +116,12 @@ def said_by(*words, folder=None):
 def cited(program, name):
     """The line by which a table is cited: the program by its sha256; the kit's line, and the commit of the tree that this package is of, where
     there is one. An installed package has no tree, and is told by its version."""
-    return f"{name} sha256 {sha256(content(program))}, " + (of_tree() if built_programs.IN_TREE else f"tools {installed()}")
+    return f"{name} sha256 {sha256(content(program))}, {tools()}"
+
+
+def tools():
+    """The tools by which a table is made."""
+    return of_tree() if built_programs.IN_TREE else f"tools {installed()}"
 
 
 def of_tree():

@@ -24,7 +24,7 @@ class Refuted(Exception):
 
 class Row(NamedTuple):
     """A run that is over, or that is refused. `slowdown` is how much longer it takes than the same without protection, 0.1 for a tenth; none
-    where no such run is there, or one of the two didn't end by an exit."""
+    where no such run is there, or one of the two didn't end by an exit. `against` is how much longer than the same of another build."""
     program: str
     description: str
     values: dict
@@ -33,6 +33,7 @@ class Row(NamedTuple):
     retired: Optional[int]
     cycles: Optional[int]
     slowdown: Optional[float]
+    against: Optional[float] = None
 
     @property
     def rest(self):
@@ -126,6 +127,38 @@ def with_slowdowns(found):
     return [row._replace(slowdown=row.cycles / free[key_of(row)] - 1) if row.exits and key_of(row) in free else row for row in found]
 
 
+def build_of(program):
+    """The folder and the name of a program: of `gcc-O0/sort` the build `gcc-O0` and the program `sort`."""
+    return os.path.split(program)
+
+
+def with_builds(found, build):
+    """Each row with how much longer it takes than the row of the build's program of its name, under the same description and settings."""
+    of_build = {(build_of(row.program)[1], row.description, tuple(row.values.items())): row for row in found
+                if build_of(row.program)[0] == build and row.exits}
+    if not of_build:
+        builds = sorted({build_of(row.program)[0] for row in found} - {""})
+        raise Fault(f"--against {build}: no program of this build exited; builds are the folders by which names are told apart: "
+                    f"{', '.join(builds) or 'there are none'}")
+    for row in found:
+        base = of_build.get((build_of(row.program)[1], row.description, tuple(row.values.items())))
+        yield row._replace(against=row.cycles / base.cycles - 1) if base and row.exits else row
+
+
+def builds(found, build):
+    """A line for each other build under each description and setting: by how much its programs take longer than those of this one."""
+    parts = {}
+    for row in found:
+        name = build_of(row.program)[0]
+        if row.against is not None and name != build:
+            setting = " ".join([row.description, *(f"{key}={value}" for key, value in row.values.items())])
+            parts.setdefault((setting, name), []).append(row.against)
+    for (setting, name), ratios in parts.items():
+        of = spread(ratios)
+        yield (f"{setting}: {name} takes {100 * of.mean:+.1f} % against {build} (n {of.n}, median {100 * of.median:+.1f} %, {100 * of.least:+.1f} % to "
+               f"{100 * of.most:+.1f} %)")
+
+
 def key_of(row):
     return row.program, row.description, tuple(row.rest.items())
 
@@ -151,11 +184,14 @@ def agree(found, values):
 
 def records(found, keys, cited):
     """The rows as records, with a name for each value."""
+    against = any(row.against is not None for row in found)
     for row in found:
         yield ({"program": row.program, "description": row.description} | {key: row.values[key] for key in keys}
                | {"defence": row.defence, "end": row.end, "retired": row.retired, "cycles": row.cycles,
                   "instructions_per_cycle": round(row.retired / row.cycles, 4) if row.cycles else None,
-                  "slowdown": None if row.slowdown is None else round(row.slowdown, 6), "made_by": cited})
+                  "slowdown": None if row.slowdown is None else round(row.slowdown, 6)}
+               | ({"against": None if row.against is None else round(row.against, 6)} if against else {})
+               | {"made_by": cited})
 
 
 def as_csv(found, keys, cited):
