@@ -41,7 +41,7 @@ number_lines (name ∷ rest) (n ∷ ns) = number_line name n ++ number_lines res
 -- what is told of a run that comes behind this cycle: the lines on the way, the line of each number of the whole run,
 -- and the last line of its trace
 unfoldable pub stats_from : Option ℕ → ℕ → Trace → List ℕ
-stats_from every cycle trace = way_text every cycle trace.rows ++ number_lines names (numbers trace.rows) ++ end_line (ending_of trace)
+stats_from every cycle trace = way_text every cycle trace.rows ++ (number_lines names (numbers trace.rows) ++ end_line (ending_of trace))
 
 -- what is told of a run from its first cycle on
 abbrev pub stats_text : Option ℕ → Trace → List ℕ
