@@ -122,7 +122,8 @@ done_taken d x =
 abbrev pub Takes : Ram → Entry → Type 0
 Takes ram e = is_store e.item.kind ≡ true → is_done e.state ≡ true → fault_of e.outcome ≡ None → store_fault ram (addr_of e.outcome) (byte_count e) ≡ None
 
-each_at : (P : Entry → Type 0) (es : List Entry) → Each P es → (i : ℕ) (e : Entry) → slice_get es i ≡ Some e → P e
+-- what holds of each entry holds of the one at a position
+pub each_at : (P : Entry → Type 0) (es : List Entry) → Each P es → (i : ℕ) (e : Entry) → slice_get es i ≡ Some e → P e
 each_at P [] h i e at = absurd (cc)
 each_at P (y ∷ es) h zero e at = let same : y ≡ e = cc in subst P same h.0
 each_at P (y ∷ es) h (suc i) e at = each_at P es h.1 i e at

@@ -1,7 +1,8 @@
 -- The entries that have issued, by the positions that name them, from the youngest on.
-use Rattle.std.proofs.Common.{◌≡◌, ℕ, zero, suc, ◌+◌, ◌-◌, ◌<◌, ◌≤◌, Bool, true, false, List, [], ◌∷◌, ◌++◌, length, take, drop, get_or, Some, slice_get, ap, refl, ◌∙◌, ◌⊎◌, inl, inr, arith, append-nil}
+use Rattle.std.proofs.Common.{◌≡◌, ℕ, zero, suc, ◌+◌, ◌-◌, ◌<◌, ◌≤◌, Bool, true, false, List, ◌++◌, length, take, drop, get_or, Some, slice_get, ap, refl, ◌∙◌, inl, inr, arith, append-nil}
 use Rattle.std.proofs.Math.Nat.{eq-or-lt_of_le}
-use Rattle.std.proofs.lemmas.List.{drop_all, take_all}
+use Rattle.std.proofs.lemmas.Bool.{cases_lt}
+use Rattle.std.proofs.lemmas.List.{drop_all, get_or_default, take_all}
 use Rattle.window_model.specs.declared.Entry.{Entry}
 use Rattle.window_model.specs.Order.{before_at}
 use Rattle.secret_marks.specs.declared.EntryMarks.{EntryMarks}
@@ -44,26 +45,14 @@ module _ (cycle base : ℕ) (m : Marks) (window : List Entry) (owns : List Entry
 
 -- ---- where the positions that are left end
 
-same_or : (xs : List ℕ) (k d e : ℕ) → k < length xs → get_or xs k d ≡ get_or xs k e
-same_or [] k d e lt = absurd (omega (arith, lt))
-same_or (x ∷ xs) zero d e lt = refl
-same_or (x ∷ xs) (suc k) d e lt = same_or xs k d e (omega (arith, lt))
-
 -- the position behind the youngest entry that the first k positions name, 0 where there are none
 abbrev pub behind : List ℕ → ℕ → ℕ
 behind positions zero = 0
 behind positions (suc k) = get_or positions k 0 + 1
 
+-- that position, by the last of them
 pub behind_last : (positions : List ℕ) (k n : ℕ) → k ≡ n + 1 → behind positions k ≡ get_or positions n 0 + 1
 behind_last positions k n e = let next : k ≡ suc n = omega (arith, e) in ap (behind positions) next
-
-before_or : (m k : ℕ) → (m < k) ⊎ (k ≤ m)
-before_or m zero = inr (omega arith)
-before_or zero (suc k) = inl (omega arith)
-before_or (suc m) (suc k) = elim (before_or m k) [
-  | inl lt ↦ inl (omega (arith, lt))
-  | inr le ↦ inr (omega (arith, le))
-]
 
 module _ (cycle : ℕ) (window : List Entry) (positions : List ℕ) (named : NamesEachIssued cycle window positions) where
   in_order : (m k : ℕ) → m ≤ k → k < length positions → get_or positions m 0 ≤ get_or positions k 0
@@ -97,8 +86,8 @@ module _ (cycle : ℕ) (window : List Entry) (positions : List ℕ) (named : Nam
       let found = named.each j e here h in
       let m = found.0 in
       let within : m < length positions = found.1 in
-      let at : get_or positions m 0 ≡ j = same_or positions m 0 j within ∙ found.2 in
-      elim (before_or m k) [
+      let at : get_or positions m 0 ≡ j = get_or_default positions m 0 j within ∙ found.2 in
+      elim (cases_lt m k) [
         | inl lt ↦ let up = stands_before m k lt le in absurd (omega (arith, up, at, low))
         | inr later ↦ let up = in_order k m later within in let down = high (omega (arith, later, within)) in absurd (omega (arith, up, at, down))
       ])

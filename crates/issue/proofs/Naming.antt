@@ -1,10 +1,11 @@
 -- The positions of the puts are those of the entries that issue.
-use Rattle.std.proofs.Common.{◌≡◌, ℕ, zero, suc, ◌<◌, List, [], ◌∷◌, get_or, Option, None, Some, slice_get, slice_set, refl, ap, sym, subst, ◌∙◌, ◌⊎◌, inl, inr, arith}
+use Rattle.std.proofs.Common.{◌≡◌, ℕ, suc, ◌<◌, List, [], ◌∷◌, get_or, Option, None, Some, slice_get, refl, ap, sym, subst, ◌∙◌, ◌⊎◌, inl, inr, arith}
 use Rattle.std.specs.Prelude.{◌≢◌}
 use Rattle.std.specs.List.{All, AllPairs, Contains}
 use Rattle.std.proofs.lemmas.Bool.{cases_eq}
 use Rattle.std.proofs.lemmas.List.Elements.{All-cons, All-head, All-map, All-nil, All-tail}
 use Rattle.std.proofs.lemmas.List.Kept.{AllPairs-cons}
+use Rattle.circular_buffer.proofs.Places.{slice_get-set_other}
 use Rattle.window_model.specs.declared.Entry.{Entry}
 use Rattle.window_model.proofs.Lists.{set_here}
 use Rattle.rob_ring.specs.Issued.{issued_of, with_issued}
@@ -15,20 +16,13 @@ use Rattle.core_parts.specs.Held.{Held, Whole, described}
 use Rattle.issue.specs.Named.{NamesIssued, positions_of}
 use Rattle.issue.specs.Puts.{ArePuts, IsPut, issue_by, issue_in, placed}
 
-get_elsewhere : (es : List Entry) (m i : ℕ) (e : Entry) → m ≢ i → slice_get (slice_set es m e) i ≡ slice_get es i
-get_elsewhere [] m i e h = refl
-get_elsewhere (x ∷ es) zero zero e h = absurd (h refl)
-get_elsewhere (x ∷ es) zero (suc i) e h = refl
-get_elsewhere (x ∷ es) (suc m) zero e h = refl
-get_elsewhere (x ∷ es) (suc m) (suc i) e h = get_elsewhere es m i e (λ q. h (ap suc q))
-
 -- a put leaves the entries at other positions as they are
 put_elsewhere : (p : Put) (window : List Entry) (i : ℕ) → p.position ≢ i → slice_get (issue_in p window) i ≡ slice_get window i
 put_elsewhere p window i h = by_entry (slice_get window p.position)
   where
     by_entry : (o : Option Entry) → slice_get (issue_by p window o) i ≡ slice_get window i
     by_entry None = refl
-    by_entry (Some e) = get_elsewhere window p.position i (with_issued p.issued e) h
+    by_entry (Some e) = slice_get-set_other window p.position i (with_issued p.issued e) (λ q. h (sym q))
 
 -- an entry is as it was, or a put has its position
 named_or : (puts : List Put) (window : List Entry) (i : ℕ) → (slice_get (placed puts window) i ≡ slice_get window i) ⊎ Contains (positions_of puts) i

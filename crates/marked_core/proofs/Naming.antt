@@ -1,6 +1,7 @@
 -- The entries that Issue names are those that issue in its cycle, where none had before.
-use Rattle.std.proofs.Common.{◌≡◌, ℕ, zero, suc, ◌<◌, ◌≤◌, true, ◌||◌, List, [], ◌∷◌, length, get_or, Some, slice_get, ap, ap₂, sym, subst, ◌∙◌, ◌⊎◌, inl, inr, arith}
+use Rattle.std.proofs.Common.{◌≡◌, ℕ, ◌<◌, true, ◌||◌, List, length, get_or, slice_get, ap, ap₂, sym, subst, ◌∙◌, inl, inr, arith}
 use Rattle.std.specs.List.{AllByRecursion as Each}
+use Rattle.std.proofs.lemmas.Bool.{cases_lt}
 use Rattle.std.proofs.lemmas.Option.{slice_get_past}
 use Rattle.window_model.specs.declared.Entry.{Entry}
 use Rattle.window_model.specs.Issue.{issue}
@@ -10,29 +11,17 @@ use Rattle.core_parts.specs.Described.{Described}
 use Rattle.core_parts.specs.Held.{Held, Whole, described}
 use Rattle.issue.specs.Named.{NamesIssued}
 use Rattle.entry_marks.specs.Named.{NamesEachIssued, has_issued}
+use Rattle.entry_marks.proofs.Fitting.{each_at}
 use Rattle.marked_core.specs.InStep.{NotYet}
 use Rattle.marked_core.proofs.Lengths.{issue_keeps}
-
-each_here : (P : Entry → Type 0) (es : List Entry) (i : ℕ) (e : Entry) → Each P es → slice_get es i ≡ Some e → P e
-each_here P [] i e h at = absurd (cc)
-each_here P (x ∷ es) zero e h at = let same : x ≡ e = cc in subst P same h.0
-each_here P (x ∷ es) (suc i) e h at = each_here P es i e h.1 at
 
 not_issued : (cycle : ℕ) (e : Entry) → NotYet cycle e → has_issued cycle e ≡ true → ⊥
 not_issued cycle e n h = let none = ap₂ (λ a b. a || b) n.0 n.1 in absurd (cc)
 
-within_or : (i n : ℕ) → (i < n) ⊎ (n ≤ i)
-within_or i zero = inr (omega arith)
-within_or zero (suc n) = inl (omega arith)
-within_or (suc i) (suc n) = elim (within_or i n) [
-  | inl lt ↦ inl (omega (arith, lt))
-  | inr le ↦ inr (omega (arith, le))
-]
-
 module _ (cycle : ℕ) (old new : List Entry) (positions : List ℕ) (names : NamesIssued old new positions) where
   -- where the window isn't as it was an entry stands
   stands : length new ≡ length old → (i : ℕ) → (slice_get new i ≡ slice_get old i → ⊥) → i < length new
-  stands same i h = elim (within_or i (length new)) [
+  stands same i h = elim (cases_lt i (length new)) [
     | inl lt ↦ lt
     | inr le ↦ absurd (h (slice_get_past new i le ∙ sym (slice_get_past old i (omega (arith, le, same)))))
   ]
@@ -43,7 +32,7 @@ module _ (cycle : ℕ) (old new : List Entry) (positions : List ℕ) (names : Na
     by_age = names.by_age;
     within = λ k d lt. stands same (get_or positions k d) (names.each k d lt);
     each = λ i e here h. elim (names.others i) [
-      | inl as_was ↦ absurd (not_issued cycle e (each_here (NotYet cycle) old i e fresh (sym as_was ∙ here)) h)
+      | inl as_was ↦ absurd (not_issued cycle e (each_at (NotYet cycle) old fresh i e (sym as_was ∙ here)) h)
       | inr found ↦ found
     ];
   }
