@@ -1,10 +1,9 @@
 -- A cycle keeps two runs together whose paths leak alike, with one row.
-use Rattle.std.proofs.Common.{◌≡◌, ℕ, ◌+◌, ◌≤◌, true, List, [], ◌++◌, Option, Some, None, refl, ap, ap₂, sym, ◌∙◌, subst, arith}
+use Rattle.std.proofs.Common.{◌≡◌, ℕ, ◌+◌, ◌≤◌, true, [], ◌++◌, Option, Some, None, refl, ap, ap₂, sym, ◌∙◌, subst, arith}
 use Rattle.rv_types.specs.Memory.{Code}
 use Rattle.rv_types.specs.declared.End.{End}
 use Rattle.machine_desc.specs.declared.Desc.{Desc}
 use Rattle.window_model.specs.Along.{Along}
-use Rattle.window_model.specs.declared.Event.{Event}
 use Rattle.window_model.specs.State.{Machine, After, then_does, nothing}
 use Rattle.window_model.specs.Taint.{protects}
 use Rattle.window_model.specs.Fill.{fill, complete}
@@ -14,7 +13,6 @@ use Rattle.window_model.specs.Retire.{retire, unless_ended, hart_of}
 use Rattle.window_model.specs.Issue.{issue}
 use Rattle.window_model.specs.Rename.{rename}
 use Rattle.window_model.specs.Fetch.{fetch}
-use Rattle.window_model.specs.Row.{Row}
 use Rattle.window_model.specs.Cycle.{before_retire, begins_cycle, cycle}
 use Rattle.window_model.specs.Committed.{Aligned}
 use Rattle.window_model.specs.Path.{path}

@@ -1,6 +1,6 @@
 -- Resolve: where the branch or JALR that is resolved goes is equal in both runs, where it waits until it is visible.
 use Rattle.std.proofs.Common.{◌≡◌, ℕ, ◌+◌, ◌≤◌, Bool, true, false, not, ◌||◌, List, [], ◌∷◌, ◌++◌, length, Option, Some, None, refl, ap, sym, ◌∙◌, subst, arith}
-use Rattle.std.specs.Prelude.{if◌then◌else◌, reverse, take}
+use Rattle.std.specs.Prelude.{reverse, take}
 use Rattle.rv_types.specs.Memory.{Code}
 use Rattle.rv_types.specs.Value.{one_if}
 use Rattle.rv_types.specs.Isa.{Effect, effect, first_of, second_of}
@@ -39,9 +39,8 @@ use Rattle.two_runs.proofs.Masks.{along_seen, first_same, lengths}
 use Rattle.two_runs.proofs.May.{may_resolve_alike}
 use Rattle.two_runs.proofs.Resolve.{place_alike, resolve_data}
 use Rattle.secret_marks.specs.declared.EntryMarks.{EntryMarks}
-use Rattle.secret_marks.specs.Marks.{Marks, cut}
 use Rattle.secret_marks.specs.Words.{any_byte}
-use Rattle.secret_marks.specs.Alike.{AlikeBut, Beside, SameEntry, StaysAlike}
+use Rattle.secret_marks.specs.Alike.{Beside, SameEntry}
 use Rattle.secret_marks.proofs.Lists.{values_length}
 use Rattle.secret_marks.proofs.Looking.{seen_by_marks, windows_seen}
 use Rattle.secret_marks.proofs.Masks.{stays, under, unmarked_of}

@@ -1,5 +1,5 @@
 -- Whole runs: what leaks alike on the path gives one trace.
-use Rattle.std.proofs.Common.{◌≡◌, ℕ, zero, suc, ◌+◌, ◌≤◌, true, List, [], ◌∷◌, Option, Some, None, refl, ap, ap₂, sym, arith}
+use Rattle.std.proofs.Common.{◌≡◌, ℕ, zero, suc, ◌+◌, ◌≤◌, true, [], ◌∷◌, Option, Some, None, refl, ap, ap₂, sym, arith}
 use Rattle.rv_types.specs.Memory.{Code, Ram}
 use Rattle.rv_types.specs.Isa.{Hart, Step, Goes, Exits, Traps, start}
 use Rattle.rv_types.specs.declared.End.{End}
@@ -7,8 +7,7 @@ use Rattle.machine_desc.specs.declared.Desc.{Desc}
 use Rattle.window_model.specs.State.{Machine, opening}
 use Rattle.window_model.specs.Taint.{protects}
 use Rattle.window_model.specs.Retire.{unless_ended}
-use Rattle.window_model.specs.Row.{Row}
-use Rattle.window_model.specs.Cycle.{Trace, after_cycles, cycle, rows}
+use Rattle.window_model.specs.Cycle.{after_cycles, cycle, rows}
 use Rattle.window_model.specs.Committed.{Aligned}
 use Rattle.window_model.specs.Path.{path}
 use Rattle.two_runs.proofs.Rows.{with_end}

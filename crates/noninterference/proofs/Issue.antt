@@ -10,16 +10,15 @@ use Rattle.machine_desc.specs.declared.Desc.{Desc}
 use Rattle.window_model.specs.declared.Entry.{Entry}
 use Rattle.window_model.specs.declared.Event.{Event}
 use Rattle.window_model.specs.declared.Progress.TheVariants.{Busy}
-use Rattle.window_model.specs.State.{Machine, After}
-use Rattle.window_model.specs.declared.Divider.{Divider}
-use Rattle.window_model.specs.Order.{Place, each, each_from, first, is_load, is_store}
+use Rattle.window_model.specs.State.{Machine}
+use Rattle.window_model.specs.Order.{Place, each_from, first, is_load, is_store}
 use Rattle.window_model.specs.Around.{Around, around}
 use Rattle.window_model.specs.declared.lookup.Access.{Access}
 use Rattle.window_model.specs.declared.lookup.Access.TheVariants.{Faults, Forwards, Looks, Waits}
-use Rattle.window_model.specs.Access.{cache_after, look_events, misses_after, second_after}
+use Rattle.window_model.specs.Access.{look_events}
 use Rattle.window_model.specs.MayIssue.{effect_of, may_issue_as}
 use Rattle.window_model.specs.Ports.{Port, AddressPort, DataPort, DivPort, LoadPort, is_granted, may_at, port_of}
-use Rattle.window_model.specs.Issue.{issue, issue_entry, issue_whole, begin_as, Begun, waits, load_as, access_of, value_loaded, is_division, after_load, divider_after}
+use Rattle.window_model.specs.Issue.{issue, issue_entry, issue_whole, begin_as, Begun, waits, load_as, access_of, value_loaded, is_division}
 use Rattle.window_model.specs.inner.Issue.{parts_as}
 use Rattle.window_model.proofs.Together.{entry_parts, issue_parts}
 use Rattle.window_model.specs.Along.{Along}
@@ -35,7 +34,7 @@ use Rattle.two_runs.specs.Masks.{SamePlace, but_data}
 use Rattle.two_runs.proofs.Choices.{Both, if_both}
 use Rattle.two_runs.proofs.Issue.{DivisionsAsk, LoadsAsk, issue_leaves, issue_left, same_taken}
 use Rattle.two_runs.proofs.Masks.{along, first_same, lengths, peel, where_found}
-use Rattle.noninterference.specs.Alike.{Alike, shown, shown_after, without_outcome}
+use Rattle.noninterference.specs.Alike.{Alike, shown_after, without_outcome}
 use Rattle.noninterference.specs.Outcomes.{SameOutcomes}
 use Rattle.noninterference.specs.Laws.{IssueTellsNothing}
 use Rattle.noninterference.proofs.Looking.{same_kind, seen_by_outcomes}
@@ -129,12 +128,14 @@ module _ (cycle : ℕ) (d : Desc) (code : Code) (x x2 : Machine) (r : Alike x x2
       ∙ sym (ap begun_without (entry_parts d now2 b2 e2))
 
   each_alike : (es es2 b b2 : List Entry) → length es ≡ length es2 → SameOutcomes d.stt_model (reverse_aux es b) (reverse_aux es2 b2) → Along (EntryInvariant d code (bank_in (hart_of x)) cycle) b es →
-      map begun_without (each_from (issue_entry d now) b es) ≡ map begun_without (each_from (issue_entry d now2) b2 es2)
-  each_alike [] [] b b2 l s i = refl
+      let bs = each_from (issue_entry d now) b es in let bs2 = each_from (issue_entry d now2) b2 es2 in
+      (map without_outcome (map (λ b. b.entry) bs) ≡ map without_outcome (map (λ b. b.entry) bs2)) × (flat_map (λ b. b.events) bs ≡ flat_map (λ b. b.events) bs2)
+  each_alike [] [] b b2 l s i = (refl, refl)
   each_alike (e ∷ es) (e2 ∷ es2) b b2 l s i =
       let here = peel (SameOutcomes d.stt_model) (λ e e2 b b2 s. s.1) es es2 (e ∷ b) (e2 ∷ b2) (cc) s in
       let one = entry_alike b b2 e e2 here.1 here.0.but_outcome i.0.item in
-      ap₂ (λ t ts. t ∷ ts) one (each_alike es es2 (e ∷ b) (e2 ∷ b2) (cc) s i.1)
+      let rest = each_alike es es2 (e ∷ b) (e2 ∷ b2) (cc) s i.1 in
+      (ap₂ (λ (t : Begun) ts. t.entry ∷ ts) one rest.0, ap₂ (λ (t : Begun) vs. t.events ++ vs) one rest.1)
   each_alike [] (e2 ∷ es2) b b2 l s i = absurd (cc)
   each_alike (e ∷ es) [] b b2 l s i = absurd (cc)
 
@@ -170,25 +171,14 @@ module _ (cycle : ℕ) (d : Desc) (code : Code) (x x2 : Machine) (r : Alike x x2
       let h = s.known.0.but_outcome in
       same_taken d x x2 (ap but_data r) p.before p2.before (seen_by_outcomes d.stt_model p.before p2.before s.known.1) p.entry p2.entry h (untainted_time d code x x2 r place p.before p2.before s.known.1 p.entry p2.entry h m)
 
-  entries_begun : (bs : List Begun) → map without_outcome (map (λ b. b.entry) bs) ≡ map (λ b. b.entry) (map begun_without bs)
-  entries_begun [] = refl
-  entries_begun (b ∷ bs) = ap (λ t. without_outcome b.entry ∷ t) (entries_begun bs)
-
-  events_begun : (bs : List Begun) → flat_map (λ b. b.events) bs ≡ flat_map (λ b. b.events) (map begun_without bs)
-  events_begun [] = refl
-  events_begun (b ∷ bs) = ap (λ t. b.events ++ t) (events_begun bs)
-
   issue_alike : SameOutcomes d.stt_model (reverse x.window) (reverse x2.window) → Along (EntryInvariant d code (bank_in (hart_of x)) cycle) [] x.window → shown_after (issue d x) ≡ shown_after (issue d x2)
   issue_alike s i =
-      let bs = each (issue_entry d now) x.window in
       let q = each_alike x.window x2.window [] [] (lengths hides x.window x.window x2.window (all_hidden x.window x2.window (ap (λ (m : Machine). m.window) r))).1 s i in
-      let w = entries_begun bs ∙ ap (map (λ (b : Begun). b.entry)) q ∙ sym (entries_begun (each (issue_entry d now2) x2.window)) in
-      let v = events_begun bs ∙ ap (flat_map (λ (b : Begun). b.events)) q ∙ sym (events_begun (each (issue_entry d now2) x2.window)) in
       let o = ap but_data r in
       let loads = where_found (may_at d now LoadPort) (may_at d now2 LoadPort) x.window x2.window Asking (LoadsAsk d x x2 o) (load_asks i) (asking s LoadPort) in
       let divisions = where_found (may_at d now DivPort) (may_at d now2 DivPort) x.window x2.window Asking (DivisionsAsk d x x2 o) division_asks (asking s DivPort) in
       tells hides (issue d x).machine.window (issue d x) (issue d x2) ((issue_leaves d x).kept.0 ∙ ap (λ (m : Machine). m.regs) r ∙ sym (issue_leaves d x2).kept.0)
-      (issue_left d x x2 o hides (issue d x).machine.window loads divisions v (all_hidden (issue d x).machine.window (issue d x2).machine.window w))
+      (issue_left d x x2 o hides (issue d x).machine.window loads divisions q.1 (all_hidden (issue d x).machine.window (issue d x2).machine.window q.0))
 
 pub issue_tells_nothing : IssueTellsNothing
 issue_tells_nothing now d code x x2 c r o p = issue_alike now d code x x2 r p o c.entries

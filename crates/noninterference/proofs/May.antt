@@ -3,7 +3,7 @@ use Rattle.std.proofs.Common.{◌≡◌, not, ◌&&◌, List, [], ◌∷◌, ap}
 use Rattle.machine_desc.specs.declared.Desc.{Desc}
 use Rattle.window_model.specs.declared.Entry.{Entry}
 use Rattle.window_model.specs.State.{Machine}
-use Rattle.window_model.specs.Around.{around, is_free}
+use Rattle.window_model.specs.Around.{around}
 use Rattle.window_model.specs.Ports.{Port, is_granted, may_at}
 use Rattle.window_model.specs.Order.{is_load, is_waiting}
 use Rattle.window_model.specs.Delay.{may_show}
@@ -16,11 +16,13 @@ use Rattle.noninterference.specs.Outcomes.{SameOutcomes}
 use Rattle.noninterference.proofs.Effects.{address_alike}
 use Rattle.noninterference.proofs.Looking.{seen_by_outcomes}
 use Rattle.two_runs.proofs.May as seen
+use Rattle.two_runs.specs.Masks.{but_data}
+use Rattle.two_runs.proofs.Seeing.{seen_machine}
 use Rattle.two_runs.specs.Seen.{AsksAlike, EachAsks, SeenMachine}
 
 module _ (d : Desc) (x x2 : Machine) (r : Alike x x2) (place : SameShape x.ram x2.ram) where
   beside : SeenMachine x x2
-  beside = record { dependence = ap (λ (m : Machine). m.dependence) r; free = ap (λ (m : Machine). is_free (around m)) r; place = place }
+  beside = seen_machine x x2 (ap but_data r) place
 
   -- a load with an untainted base has one address in both runs
   asks : (b b2 : List Entry) → SameOutcomes d.stt_model b b2 → (e e2 : Entry) → without_outcome e ≡ without_outcome e2 → AsksAlike d x x2 b b2 e e2

@@ -55,8 +55,8 @@ module _ (d : Desc) (x x2 : Machine) (o : but_data x ≡ but_data x2) where
   abbrev pub DivisionsAsk : Place → Place → Type 0
   DivisionsAsk p p2 = taken_for (around x) p.before p.entry ≡ taken_for (around x2) p2.before p2.entry
 
-  -- Issue leaves two machines alike under masks, where the load and the division that it takes ask for the same, and the
-  -- entries that it leaves are alike
+  -- Issue leaves two machines alike under masks, where the load and the division that it takes ask for the same, and
+  -- the entries that it leaves are alike
   pub issue_left : {M : Type 0} (mask : M → Mask) (ns : List M) → Both LoadsAsk (oldest_at d LoadPort x) (oldest_at d LoadPort x2) → Both DivisionsAsk (oldest_at d DivPort x) (oldest_at d DivPort x2) →
       (issue d x).events ≡ (issue d x2).events → MaskedAlike mask ns (issue d x).machine.window (issue d x2).machine.window → LeftAlike mask ns (issue d x) (issue d x2)
   issue_left mask ns loads divisions events window =

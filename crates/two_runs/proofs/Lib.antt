@@ -1,5 +1,6 @@
 pub mod Choices
 pub mod Masks
+pub mod Seeing
 pub mod Looking
 pub mod May
 pub mod Fitting

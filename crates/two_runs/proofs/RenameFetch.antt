@@ -11,6 +11,7 @@ use Rattle.window_model.specs.Rename.{rename, rename_up_to, rename_from, rename_
 use Rattle.window_model.specs.Fetch.{fetch, fetch_up_to, fetch_from, fetch_one, item_at}
 use Rattle.two_runs.specs.Laws.{FetchAlike, RenameAlike}
 use Rattle.two_runs.specs.Seen.{Adds, after_data, with_data, without_outcome}
+use Rattle.two_runs.proofs.Choices.{if_both}
 use Rattle.two_runs.proofs.Fitting.{same_fits}
 
 -- the registers, memory and window of the other machine
@@ -46,18 +47,12 @@ module _ (regs : List ℕ) (ram : Ram) where
         same = ap (λ (a : After). then_does y (λ m. a)) r.same ∙ ap (λ t. after_data regs ram t (then_does y more)) (append_assoc w (e ∷ []) r.new);
       }
 
-  rename_if : (d : Desc) (more : Machine → After) → AddsAlike more → (b b2 : Bool) → b ≡ b2 → (i : Item) (rest : List Item) (w : List Entry) (x : Machine) → map without_outcome x.window ≡ map without_outcome w →
-      Adds regs ram x.window w (if b then then_does (rename_one d i rest x) more else nothing x) (if b2 then then_does (rename_one d i rest (with_data regs ram w x)) more else nothing (with_data regs ram w x))
-  rename_if d more f true true q i rest w x h = one_added d more f i rest w x h
-  rename_if d more f false false q i rest w x h = none_added w x h
-  rename_if d more f true false q i rest w x h = absurd (cc)
-  rename_if d more f false true q i rest w x h = absurd (cc)
-
   from_queue : (d : Desc) (more : Machine → After) → AddsAlike more → (q : List Item) (w : List Entry) (x : Machine) → map without_outcome x.window ≡ map without_outcome w →
       Adds regs ram x.window w (rename_from d q x more) (rename_from d q (with_data regs ram w x) more)
   from_queue d more f [] w x h = none_added w x h
   from_queue d more f (i ∷ rest) w x h =
-      rename_if d more f (fits d x.window i) (fits d w i) (sym (same_fits d x.window i) ∙ ap (λ ts. fits d ts i) h ∙ same_fits d w i) i rest w x h
+      if_both (Adds regs ram x.window w) (fits d x.window i) (fits d w i) _ _ _ _ (sym (same_fits d x.window i) ∙ ap (λ ts. fits d ts i) h ∙ same_fits d w i)
+      (λ z. one_added d more f i rest w x h) (λ z. none_added w x h)
 
   rename_times : (d : Desc) (n : ℕ) → AddsAlike (rename_up_to d n)
   rename_times d zero w x h = none_added w x h

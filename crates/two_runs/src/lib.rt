@@ -61,10 +61,10 @@ pub fn who_goes_is_seen_alike()
     ensures fetch { FetchAlike }
 {}
 
-/// What a mask leaves of each outcome is all that two machines have to share, but for registers and memory's bytes, for
-/// Complete, Clear and Resolve to have the same events in both and to leave them alike under their masks: any masks for
-/// Complete; masks that leave the addresses of loads for Clear; and for Resolve masks that leave what it looks at of the
-/// entry that it resolves.
+/// Complete, Clear and Resolve have the same events in two machines that differ in registers, memory's bytes and outcomes
+/// alone, and leave them alike under masks that leave the same of their outcomes: Complete under any masks; Clear, where
+/// two runs see alike each entry, under masks that leave addresses and faults of loads; Resolve, where they do so too, if
+/// what it looks at of the entry that it resolves is equal in both, and so is what the mask leaves of it once resolved.
 pub fn phases_leave_alike_under_masks()
     ensures complete { CompleteLeavesAlike }
     ensures clear { ClearLeavesAlike }
