@@ -15,7 +15,7 @@ use Rattle.two_runs.proofs.Issue.{same_access_of, same_time}
 use Rattle.noninterference.specs.Alike.{Alike, without_outcome}
 use Rattle.noninterference.specs.Outcomes.{SameOutcomes}
 use Rattle.noninterference.proofs.Looking.{seen_by_outcomes}
-use Rattle.noninterference.proofs.Effects.{addresses_alike, base_alike, untainted_base_of}
+use Rattle.noninterference.proofs.Operands.{addresses_alike, base_alike, untainted_base_of}
 use Rattle.noninterference.proofs.Loads.{by_base}
 
 module _ (d : Desc) (code : Code) (x x2 : Machine) (r : Alike x x2) (place : SameShape x.ram x2.ram) (b b2 : List Entry) (same : SameOutcomes d.stt_model b b2) (e e2 : Entry) (h : without_outcome e ≡ without_outcome e2) where

@@ -18,7 +18,7 @@ use Rattle.committed_state.specs.Consistent.{bank_in}
 use Rattle.committed_state.proofs.Onward.{of_item}
 use Rattle.noninterference.specs.Alike.{without_outcome}
 use Rattle.noninterference.specs.Outcomes.{SameOutcomes}
-use Rattle.noninterference.proofs.Effects.{effects_alike, addresses_alike}
+use Rattle.noninterference.proofs.Operands.{effects_alike, addresses_alike}
 use Rattle.noninterference.proofs.Loads.{by_base, load_untainted}
 use Rattle.noninterference.proofs.OneRun.{OneRun, older}
 use Rattle.noninterference.proofs.Replays.{entry_same}

@@ -1,5 +1,5 @@
 pub mod Looking
-pub mod Operand
+pub mod Operands
 pub mod Masks
 pub mod Complete
 pub mod RenameFetch
@@ -10,7 +10,6 @@ pub mod Paths
 pub mod Faults
 pub mod PathStep
 pub mod PathLink
-pub mod Effects
 pub mod Derive
 pub mod Loads
 pub mod OneRun

@@ -13,7 +13,7 @@ use Rattle.window_model.specs.Taint.{address_tainted}
 use Rattle.window_model.proofs.Booleans.{both, not_true}
 use Rattle.noninterference.specs.Alike.{Alike, without_outcome}
 use Rattle.noninterference.specs.Outcomes.{SameOutcomes}
-use Rattle.noninterference.proofs.Effects.{address_alike}
+use Rattle.noninterference.proofs.Operands.{address_alike}
 use Rattle.noninterference.proofs.Looking.{seen_by_outcomes}
 use Rattle.two_runs.proofs.May as seen
 use Rattle.two_runs.specs.Masks.{but_data}

@@ -29,7 +29,7 @@ use Rattle.noninterference.specs.Laws.{RetireTellsNothing}
 use Rattle.noninterference.proofs.StepsAlike.{StepsAlike, step_alike}
 use Rattle.noninterference.proofs.Paths.{path_calls}
 use Rattle.noninterference.proofs.Looking.{untainted_sources, same_entry}
-use Rattle.noninterference.proofs.Operand.{known_outcome}
+use Rattle.noninterference.proofs.Operands.{known_outcome}
 use Rattle.noninterference.proofs.SameReads.{same_window}
 use Rattle.noninterference.proofs.OneRun.{head_alone}
 use Rattle.noninterference.proofs.Turns.{Follows, stays_alike, left_turn, call_turn}
