@@ -1,5 +1,5 @@
 -- A number at a place is the one of the name that stands there, since no name stands twice.
-use Rattle.std.proofs.Common.{◌≡◌, ℕ, zero, suc, ◌+◌, ◌-◌, ◌<◌, ◌^◌, Bool, true, false, List, [], ◌∷◌, length, Option, Some, None, refl, ap, ap₂, sym, ◌∙◌, subst, arith, get_or, set}
+use Rattle.std.proofs.Common.{◌≡◌, ℕ, zero, suc, ◌+◌, Bool, true, false, List, [], ◌∷◌, length, Some, refl, ap, ap₂, sym, ◌∙◌, subst, arith, get_or, set}
 use Rattle.std.specs.List.{list_all}
 use Rattle.std.specs.Prelude.{not, ◌&&◌, slice_get, if◌then◌else◌}
 use Rattle.std.specs.Str.{bytes_eq}
@@ -7,7 +7,7 @@ use Rattle.std.proofs.lemmas.Bool.{and_parts, not-true}
 use Rattle.std.proofs.lemmas.Slice.Eq.{bytes_eq-Decides}
 use Rattle.run_counts.specs.Counted.{names, told}
 use Rattle.run_counts.specs.inner.Counting.{each, more}
-use Rattle.run_counts.proofs.Each.{each_alike, each_stays}
+use Rattle.run_counts.proofs.Each.{each_stays}
 
 -- two names differ
 abbrev pub apart : List ℕ → List ℕ → Bool

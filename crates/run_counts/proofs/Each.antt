@@ -1,5 +1,5 @@
 -- Numbers that are changed one by one, each by its name.
-use Rattle.std.proofs.Common.{◌≡◌, ℕ, zero, suc, List, [], ◌∷◌, length, map, refl, ap, ap₂, sym, ◌∙◌, arith}
+use Rattle.std.proofs.Common.{◌≡◌, ℕ, List, [], ◌∷◌, length, map, refl, ap, ap₂, arith}
 use Rattle.run_counts.specs.inner.Counting.{each}
 
 -- what is done to each number in two steps is done in one

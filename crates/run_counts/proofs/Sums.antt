@@ -1,11 +1,11 @@
 -- What is counted row by row, or of two parts of a run, is what is counted of the whole run.
-use Rattle.std.proofs.Common.{◌≡◌, ℕ, zero, suc, ◌+◌, ◌-◌, ◌^◌, Bool, true, false, List, [], ◌∷◌, ◌++◌, map, Option, Some, None, refl, ap, ap₂, sym, ◌∙◌, arith}
-use Rattle.std.specs.Prelude.{if◌then◌else◌, min}
+use Rattle.std.proofs.Common.{◌≡◌, ℕ, ◌+◌, Bool, true, false, List, [], ◌∷◌, ◌++◌, map, Option, Some, None, refl, ap, ap₂, sym, ◌∙◌, arith}
+use Rattle.std.specs.Prelude.{if◌then◌else◌}
 use Rattle.std.specs.Str.{bytes_eq}
 use Rattle.window_model.specs.declared.Event.{Event}
 use Rattle.window_model.specs.Row.{Row}
-use Rattle.run_counts.specs.Counted.{names, name_of, further_of, further, added_to, amount, counted_in, counted, told, numbers}
-use Rattle.run_counts.specs.inner.Counting.{more, after_further, after_event, after_events, each, together, with_row}
+use Rattle.run_counts.specs.Counted.{names, name_of, further_of, further, added_to, amount, counted_in, counted, told}
+use Rattle.run_counts.specs.inner.Counting.{more, after_further, after_event, after_events, together}
 use Rattle.run_counts.specs.Laws.{RowCounts, PartsCount}
 use Rattle.run_counts.proofs.Each.{each_given}
 

@@ -1,5 +1,5 @@
 -- What is counted row by row, or of two parts of a run, is what is counted of the whole run.
-use Rattle.std.specs.Prelude.{◌≡◌, ℕ, List, [], ◌∷◌, ◌++◌}
+use Rattle.std.specs.Prelude.{◌≡◌, List, [], ◌∷◌, ◌++◌}
 use Rattle.window_model.specs.Row.{Row}
 use Rattle.run_counts.specs.Counted.{numbers}
 use Rattle.run_counts.specs.inner.Counting.{with_row, together}

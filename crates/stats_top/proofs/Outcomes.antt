@@ -1,8 +1,6 @@
 -- How the program ends, from what its parts do.
-use Rattle.std.proofs.Common.{◌≡◌, ℕ, List, [], ◌∷◌, Option, Some, None, Result, Ok, Err, refl, ap, ◌∙◌}
+use Rattle.std.proofs.Common.{◌≡◌, ℕ, List, [], Option, Some, None, Result, Ok, Err, refl, ap, ◌∙◌}
 use Rattle.rv_types.specs.declared.End.{End}
-use Rattle.elf_loader.specs.Image.{ImageText}
-use Rattle.machine_desc.specs.declared.Desc.{Desc}
 use Rattle.tool_io.specs.Outside.{Told, Shelf}
 use Rattle.run_inputs.specs.declared.refusal.Refusal.{Refusal}
 use Rattle.run_inputs.specs.declared.refusal.Refusal.TheVariants.{Words, Write, Memory}

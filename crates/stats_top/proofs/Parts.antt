@@ -1,12 +1,11 @@
 -- A run in two parts: its rows, its last state, and how far it came.
-use Rattle.std.proofs.Common.{◌≡◌, ◌<◌, ◌≤◌, ℕ, zero, suc, ◌+◌, ◌-◌, List, [], ◌∷◌, ◌++◌, length, true, Option, Some, None, refl, ap, ap₂, sym, ◌∙◌, arith}
+use Rattle.std.proofs.Common.{◌≡◌, ◌<◌, ◌≤◌, ℕ, zero, suc, ◌+◌, [], ◌∷◌, ◌++◌, length, true, Option, Some, None, refl, ap, ap₂, sym, ◌∙◌, arith}
 use Rattle.std.specs.Option.{is_some}
 use Rattle.rv_types.specs.Memory.{Code}
 use Rattle.rv_types.specs.declared.End.{End}
 use Rattle.machine_desc.specs.declared.Desc.{Desc}
 use Rattle.machine_facts.proofs.FewEvents.{cycle_number}
 use Rattle.window_model.specs.State.{Machine}
-use Rattle.window_model.specs.Row.{Row}
 use Rattle.window_model.specs.Cycle.{cycle, rows, after_cycles}
 use Rattle.core_cycle.proofs.Going.{goes_on, stops}
 use Rattle.pair_run.proofs.Cycles.{no_rows}
@@ -35,7 +34,7 @@ module _ (d : Desc) (code : Code) where
       let row = (cycle d code x).row in
       let n : suc a + b ≡ suc (a + b) = omega arith in (
         ap (λ k. rows d code k x) n ∙ row_first (a + b) x e ∙ ap (λ r. row ∷ r) (ih z).0
-        ∙ sym (ap₂ (λ p q. p ++ rows d code b q) (row_first a x e) (state_first a x e)),
+            ∙ sym (ap₂ (λ p q. p ++ rows d code b q) (row_first a x e) (state_first a x e)),
         ap (λ k. after_cycles d code k x) n ∙ state_first (a + b) x e ∙ (ih z).1 ∙ sym (ap (after_cycles d code b) (state_first a x e)),
       )
   split_next a b x (Some k) e ih =

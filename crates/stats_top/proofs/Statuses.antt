@@ -13,7 +13,7 @@ use Rattle.run_inputs.specs.declared.refusal.Which.{Which}
 use Rattle.run_inputs.specs.declared.refusal.Refusal.{Refusal}
 use Rattle.run_inputs.specs.declared.refusal.Refusal.TheVariants.{Words, ReadDescription, DescriptionTooLong, Description, ReadImage, ImageTooLong, Image, Write, Memory}
 use Rattle.run_inputs.specs.Refused.{place_of}
-use Rattle.run_inputs.specs.Input.{MayGive, Gives, HasDesc, IsFaultyDescription, NamedRefused, ImageFrom, from_file, IsImage, HasTooMany, HasFault, IsFaultyImage, RefusedAt, FailsToRead}
+use Rattle.run_inputs.specs.Input.{MayGive, Gives, HasDesc, IsFaultyDescription, ImageFrom, from_file, IsImage, HasTooMany, HasFault, IsFaultyImage, RefusedAt, FailsToRead}
 use Rattle.run_inputs.specs.Told.{World}
 use Rattle.run_inputs.proofs.Told.{told_desc, no_desc, not_longer, not_refused, none_faulty, same_images, no_fault, not_too_many}
 use Rattle.stats_words.specs.Words.{AskedText, asked_of}

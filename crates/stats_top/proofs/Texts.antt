@@ -1,8 +1,7 @@
 -- What is told of a run, from what its parts write.
-use Rattle.std.proofs.Common.{◌≡◌, ℕ, zero, suc, ◌+◌, ◌<◌, ◌≤◌, List, [], ◌∷◌, ◌++◌, length, drop, get_or, slice_get, Option, Some, None, refl, ap, ap₂, sym, ◌∙◌, subst, arith, append_assoc, append-nil, add-one}
+use Rattle.std.proofs.Common.{◌≡◌, ℕ, zero, suc, ◌+◌, ◌<◌, ◌≤◌, List, [], ◌∷◌, ◌++◌, length, drop, get_or, slice_get, Option, Some, refl, ap, ap₂, sym, ◌∙◌, subst, arith, append_assoc, append-nil, add-one}
 use Rattle.std.proofs.lemmas.List.{drop_all}
 use Rattle.rv_types.specs.Memory.{Code}
-use Rattle.rv_types.specs.declared.End.{End}
 use Rattle.rv_types.specs.declared.Ending.{Ending}
 use Rattle.line_text.specs.EndLine.{end_line}
 use Rattle.machine_desc.specs.declared.Desc.{Desc}

@@ -1,5 +1,5 @@
 -- The number at the place is the one of the name there.
-use Rattle.std.proofs.Common.{◌≡◌, ◌+◌, ◌∙◌, ap, get_or, set}
+use Rattle.std.proofs.Common.{◌∙◌, ap, set}
 use Rattle.run_counts.specs.Counted.{told}
 use Rattle.run_counts.proofs.Distinct.{number_set}
 use Rattle.run_counts.proofs.counts.add_at.Goals as goal

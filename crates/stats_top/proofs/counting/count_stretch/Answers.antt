@@ -1,5 +1,5 @@
 -- The numbers go on with each row.
-use Rattle.std.proofs.Common.{◌≡◌, ◌≤◌, ◌+◌, ◌∙◌, ap₂, None, arith, refl}
+use Rattle.std.proofs.Common.{◌≡◌, ◌∙◌, ap₂, None, refl}
 use Rattle.window_model.specs.Cycle.{cycle}
 use Rattle.core_cycle.proofs.Going.{ended_at, running_at}
 use Rattle.stats_top.proofs.Tally.{none_counted, one_counted, counted_ended, counted_all}

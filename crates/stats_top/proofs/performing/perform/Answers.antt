@@ -11,5 +11,5 @@ pub returns : goal.returns
 returns g c =
     let every = option_map (λ k. k.cycles) c.args.every in
     let P : Programmed → Type 0 = λ p. Wrote (stats_from every p.machine.cycle (trace_from p.desc (word_at p.code) c.args.cycles p.machine)) (g.O.Sink.told c.args.out.now) (g.O.Sink.told c.write_stats.new.out)
-        × (c.in_ok-end.end ≡ (trace_from p.desc (word_at p.code) c.args.cycles p.machine).end) in
+    × (c.in_ok-end.end ≡ (trace_from p.desc (word_at p.code) c.args.cycles p.machine).end) in
     subst P c.in_ok-core.ensures c.in_ok-end.ensures
