@@ -138,6 +138,12 @@ class Programs(unittest.TestCase):
                 self.assertEqual(written(f"{compiler}/shapes.elf"), ("29\n", "end exit 29"))
 
     @needs_gcc
+    def test_a_library_that_is_missing(self):
+        told = make("picolibc/words.elf", "PICOLIBC_AT=/nowhere")
+        self.assertNotEqual(told.returncode, 0)
+        self.assertIn("no picolibc at /nowhere: apt-get install picolibc-riscv64-unknown-elf", told.stderr)
+
+    @needs_gcc
     def test_constructors_are_never_skipped(self):
         source("constructed.c", CONSTRUCTED)
         refused = make("gcc/constructed.elf")

@@ -429,7 +429,7 @@ class Sweeps(Folder):
         with open(text, "wb") as file:
             file.write(b"\xff\xfe")
         cases = [
-            (self.words("--set", "core.bad=1"), "description K2 core.bad"),
+            (self.words("--set", "core.bad=1"), "description K2 core.bad: there is no key `core.bad`"),
             (self.words("--set", "core.rob"), "KEY=VALUE"),
             (self.words("--set", "core.rob=1", "--set", "core.rob=2"), "core.rob is set twice"),
             (self.words("--set", "stt.model=off", "--defences"), "stt.model is set twice"),

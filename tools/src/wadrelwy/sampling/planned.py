@@ -8,6 +8,7 @@ from argparse import Namespace
 from typing import Any, NamedTuple, Optional
 
 from wadrelwy import Fault
+from wadrelwy.machine import notes
 from wadrelwy.sweep import plan, running, settings
 from wadrelwy.sweep.kept import IMAGE_MAX, cited, content, copied, plain, sha256, source, write
 from wadrelwy.sweep.results import line_of
@@ -141,7 +142,7 @@ class Maker:
         """Refuses what the program refuses, and answers what memory the description gives."""
         said, note, status = running.said_of([self.path(self.copy), "run", self.path(description), self.asked.image, "--cycles", "1"])
         if status not in running.RAN:
-            raise Fault(f"{description}: status {status}, {note or said[-60:].strip()} (docs/using.md, \"Refusals\")")
+            raise Fault(f"{description}: status {status}, {notes.told(note, {}) or said[-60:].strip()} (docs/using.md, \"Refusals\")")
         values = settings.parsed(content(self.path(description)).decode(), description)
         return tuple(values.get(f"ram.{key}", 0) for key in ("base", "size", "misaligned"))
 

@@ -5,6 +5,7 @@ import time
 from concurrent.futures import ThreadPoolExecutor, as_completed
 
 from wadrelwy import built_programs
+from wadrelwy.machine import notes
 from wadrelwy.view import Fault
 from wadrelwy.view.trace import END, read_end
 
@@ -81,7 +82,7 @@ class Checked:
             there = {self.key(run): run for run in there if self.key(run) not in self.notes}
             self.counts = dict(zip(there, pool.map(self.steps, there.values()))) if steps else {}
         if not there and plan.runs:
-            raise Fault(f"{plan.runs[0].name}: {next(iter(self.notes.values()))} (docs/using.md, \"Refusals\")")
+            raise Fault(f"{plan.runs[0].name}: {notes.told(next(iter(self.notes.values())), {})} (docs/using.md, \"Refusals\")")
 
     def key(self, run):
         return run.image, *run.words, run.unit, self.rams[run.description]
@@ -105,7 +106,7 @@ class Checked:
             return None
         if status == refusing or refusing == IMAGE and status == 2 and note:
             return note
-        raise Fault(f"{run.name}: status {status}, {note or said[-60:].strip()} (docs/using.md, \"Refusals\")")
+        raise Fault(f"{run.name}: status {status}, {notes.told(note, {}) or said[-60:].strip()} (docs/using.md, \"Refusals\")")
 
     def steps(self, run):
         """How many instructions a program takes and how it ends, on the instruction set."""
@@ -184,7 +185,7 @@ class Runner:
             return
         found = self.asks.kept(said)
         if child.returncode not in RAN or found is None:
-            raise Fault(f"{run.name}: status {child.returncode}, {note.strip() or said[-60:].strip()} (docs/using.md, \"Refusals\")")
+            raise Fault(f"{run.name}: status {child.returncode}, {notes.told(note.strip(), {}) or said[-60:].strip()} (docs/using.md, \"Refusals\")")
         self.plan.check(run)
         kept.write(self.plan.path(run.result), line_of(run, found).encode())
 
