@@ -1,17 +1,15 @@
 -- The words that tell who may await a serial, as entries come and wake.
-use Rattle.std.proofs.Common.{◌≡◌, ◌≢◌, ℕ, ◌%◌, ◌+◌, ◌<◌, ◌≤◌, Bool, true, false, List, length, get_or, set, Option, Some, None, slice_get, refl, ap, ap₂, sym, ◌∙◌, arith, inl, inr, ⊎_elim}
+use Rattle.std.proofs.Common.{◌≡◌, ◌≢◌, ℕ, ◌%◌, ◌+◌, ◌<◌, ◌≤◌, Bool, true, false, List, length, get_or, set, Option, Some, None, refl, ap, ap₂, sym, ◌∙◌, arith, inl, inr, ⊎_elim}
 use mathlib.Core.Bool.{true≢false}
-use Rattle.std.specs.Prelude.{not, ◌==◌, ◌||◌, if◌then◌else◌}
+use Rattle.std.specs.Prelude.{◌==◌, ◌||◌, if◌then◌else◌}
 use Rattle.std.specs.Int.{bit_at}
-use Rattle.std.specs.Option.{option_map}
 use Rattle.std.proofs.lemmas.Bool.{cases_Bool, cases_eq, cases_lt, eq-eqb}
 use Rattle.std.proofs.lemmas.Bool.Decides.{eqb_tells}
-use Rattle.std.proofs.lemmas.List.{get_or_default, get_or_past, get_or-set_same, get_or-set_other}
-use Rattle.word_bits.specs.Bits.{IsFirstBit, one_if}
+use Rattle.std.proofs.lemmas.List.{get_or_past, get_or-set_same, get_or-set_other}
+use Rattle.word_bits.specs.Bits.{IsFirstBit}
 use Rattle.stations.specs.declared.occupant.Occupant.{Occupant}
-use Rattle.stations.specs.Stations.{able_as, is_able, strike}
-use Rattle.stations.specs.Places.{NotesWaiters, NotesWaiting, awaited, awaits_in, held_of, is_in, nobody, waits, woken}
-use Rattle.stations.proofs.Reading.{entry_at}
+use Rattle.stations.specs.Stations.{strike}
+use Rattle.stations.specs.Places.{NotesWaiters, awaits_in, is_in, nobody, woken}
 
 pub neither : (a b : Bool) → (a || b) ≡ false → (a ≡ false) × (b ≡ false)
 neither true b h = absurd (cc)
@@ -49,13 +47,6 @@ noted_push places waiters waiters2 place o lt few m here others group p h = elim
       let was : awaits_in group (get_or places p nobody) ≡ true = sym (ap (awaits_in group) (get_or-set_other places place p o nobody ne)) ∙ h in
       let low = in_place group p places was in
       others group p (omega (arith, low, few)) (m group p was)
-]
-
-pub waiting_push : (places : List Occupant) (waiting waiting2 : ℕ) (place : ℕ) (o : Occupant) → place < length places → NotesWaiting places waiting →
-    bit_at waiting2 place ≡ one_if (waits o) → ((p : ℕ) → p < 128 → p ≢ place → bit_at waiting2 p ≡ bit_at waiting p) → NotesWaiting (set places place o) waiting2
-waiting_push places waiting waiting2 place o lt m here others p few = elim (cases_eq p place) [
-  | inl q ↦ ap (bit_at waiting2) q ∙ here ∙ ap (λ o. one_if (waits o)) (sym (ap (λ k. get_or (set places place o) k nobody) q ∙ get_or-set_same places place o nobody lt))
-  | inr ne ↦ others p few ne ∙ m p few ∙ ap (λ o. one_if (waits o)) (sym (get_or-set_other places place p o nobody ne))
 ]
 
 or_less : (a b a2 b2 : Bool) → (a ≡ true → a2 ≡ true) → (b ≡ true → b2 ≡ true) → (a || b) ≡ true → (a2 || b2) ≡ true
@@ -137,23 +128,3 @@ module _ (serial : ℕ) (old places : List Occupant) (waiters : List ℕ) (from 
     | inl before ↦ woken_so_far p before
     | inr low ↦ as_it_was p low (none p low)
   ]
-
--- ---- who may issue at all
-
-bit_tells : (a b : Bool) → one_if a ≡ one_if b → not a ≡ not b
-bit_tells true true h = refl
-bit_tells true false h = absurd (omega (arith, h))
-bit_tells false true h = absurd (omega (arith, h))
-bit_tells false false h = refl
-
-not_not : (b : Bool) → not (not b) ≡ b
-not_not true = refl
-not_not false = refl
-
--- an entry whose place isn't noted may issue, or a part of it
-pub able_at : (places : List Occupant) (ages : List ℕ) (waiting i p : ℕ) (b : Bool) → i < length ages → p ≡ get_or ages i p → p < length places → length places ≤ 128 → NotesWaiting places waiting →
-    bit_at waiting p ≡ one_if b → option_map is_able (slice_get (held_of places ages) i) ≡ Some (not b)
-able_at places ages waiting i p b lt at below few m is =
-    let o = get_or places p nobody in
-    ap (option_map is_able) (entry_at places ages i p o lt at below (get_or_default places p nobody o below))
-    ∙ ap Some (sym (not_not (able_as o.wants (awaited o))) ∙ bit_tells (waits o) b (sym (m p (omega (arith, below, few))) ∙ is))

@@ -1,8 +1,7 @@
 pub mod Numbers
 pub mod Placing
 pub mod Reading
-mod Among
 pub mod Dropping
 pub mod Leaving
 mod Awaited
-mod Taken
+mod AbleMarks

@@ -1,12 +1,12 @@
 -- The entries that wait, the places that they have and the places that are free.
-use Rattle.std.specs.Prelude.{ℕ, ◌≡◌, ◌-◌, ◌<◌, ◌%◌, Bool, true, not, false, ◌||◌, ◌==◌, List, [], ◌∷◌, ◌++◌, map, length, Option, Some, None, slice_get, slice_index, slice_index_or, IsPermutation}
+use Rattle.std.specs.Prelude.{ℕ, ◌≡◌, ◌≢◌, ◌-◌, ◌<◌, ◌≤◌, ◌%◌, Bool, true, false, ◌||◌, ◌==◌, List, [], ◌∷◌, ◌++◌, map, length, Option, Some, None, slice_get, slice_index, slice_index_or, IsPermutation}
 use Rattle.std.specs.Int.{bit_at}
-use Rattle.std.specs.List.{All, range_with_len}
+use Rattle.std.specs.List.{range_with_len}
 use Rattle.word_bits.specs.Bits.{one_if}
 use Rattle.stations.specs.declared.occupant.Occupant.{Occupant}
 use Rattle.stations.specs.declared.wants.Wants.{Wants}
 use Rattle.stations.specs.declared.wants.Wants.TheVariants.{Whole}
-use Rattle.stations.specs.Stations.{Rise, Station, able_as, strike}
+use Rattle.stations.specs.Stations.{Rise, Station, able_as, is_able, strike}
 
 -- for each of an entry's two sources the serial of the writer that it awaits, if it awaits one
 abbrev pub awaited : Occupant → List (Option ℕ)
@@ -18,7 +18,7 @@ station place o = record { serial = o.serial; wants = o.wants; awaits = awaited 
 
 -- what stands in a place that no entry has had
 abbrev pub nobody : Occupant
-nobody = record { serial = 0; wants = Whole; first = None; second = None }
+nobody = record { serial = 0; wants = Whole; first = None; second = None; came = 0 }
 
 -- the entry in the place of this number
 abbrev pub station_in : List Occupant → ℕ → Station
@@ -64,15 +64,19 @@ NotesWaiters places waiters = (group place : ℕ) → awaits_in group (slice_ind
 abbrev pub wanting : Wants → Occupant → Occupant
 wanting next o = record o { wants = next }
 
--- neither the entry nor a part of it may issue
-abbrev pub waits : Occupant → Bool
-waits o = not (able_as o.wants (awaited o))
+-- the entry, or a part of it, may issue
+abbrev pub able_in : Occupant → Bool
+able_in o = able_as o.wants (awaited o)
 
--- a word's bits are set for the places whose entries can't issue yet, nor a part of them
-abbrev pub NotesWaiting : List Occupant → ℕ → Type 0
-NotesWaiting places waiting = (place : ℕ) → place < 128 → bit_at waiting place ≡ one_if (waits (slice_index_or places place nobody))
+-- a word's bits are set for the positions of the entries that may issue, or of which a part may, and for no others
+abbrev pub NotesAble : List Station → ℕ → Type 0
+NotesAble held able = (i : ℕ) → i < 128 → bit_at able i ≡ one_if (meets is_able (slice_get held i))
 
--- a word's bits are set for the places that are taken, and for no free one
-pub record NotesTaken (ages free : List ℕ) (taken : ℕ) : Type 0 where
-  pub set : All (λ place. bit_at taken place ≡ 1) ages
-  pub clear : All (λ place. bit_at taken place ≡ 0) free
+-- the word is right at each position, but maybe at that of the entry in one place, if it may issue, or a part of it
+abbrev pub NotesAbleBut : ℕ → List Occupant → List ℕ → ℕ → Type 0
+NotesAbleBut place places ages able = (i : ℕ) → i < 128 → (slice_get ages i ≡ Some place → able_in (slice_index_or places place nobody) ≡ false) → bit_at able i ≡ one_if (meets is_able (slice_get (held_of places ages) i))
+
+-- a position from one on at which a place is among the taken ones, None where it is at none
+abbrev pub IsPosition : List ℕ → ℕ → ℕ → Option ℕ → Type 0
+IsPosition ages place from None = (k : ℕ) → from ≤ k → slice_get ages k ≢ Some place
+IsPosition ages place from (Some i) = slice_get ages i ≡ Some place

@@ -1,8 +1,7 @@
 -- What is seen of the stations: the entries that wait, by age, and what each of them waits for.
-use Rattle.std.specs.Prelude.{◌≡◌, ℕ, zero, suc, ◌<◌, ◌≤◌, Bool, ◌==◌, List, [], ◌∷◌, map, Option, Some, None, is_none, slice_get, slice_index_or, if◌then◌else◌}
-use Rattle.std.specs.Int.{bit_at}
+use Rattle.std.specs.Prelude.{◌≡◌, ℕ, zero, suc, ◌<◌, ◌≤◌, Bool, true, false, ◌==◌, List, [], ◌∷◌, length, map, Option, Some, None, is_none, slice_get, slice_index_or, if◌then◌else◌}
+use Rattle.std.specs.Option.{option_map}
 use Rattle.std.specs.List.{AllPairs, list_all, list_any}
-use Rattle.word_bits.specs.Bits.{one_if}
 use Rattle.stations.specs.declared.wants.Part.{Part}
 use Rattle.stations.specs.declared.wants.Part.TheVariants as part
 use Rattle.stations.specs.declared.wants.Wants.{Wants}
@@ -53,9 +52,21 @@ able_as wants.Data awaits = nothing_at 1 awaits
 abbrev pub is_able : Station → Bool
 is_able s = able_as s.wants s.awaits
 
--- a word tells, at their places, which of the entries from a position on may issue, or a part of them
-abbrev pub PlacesAble : List Station → ℕ → ℕ → Type 0
-PlacesAble held from word = (i : ℕ) (s : Station) → from ≤ i → slice_get held i ≡ Some s → bit_at word s.place ≡ one_if (is_able s)
+-- of the entries from one position on and before another none may issue, nor a part of one
+abbrev pub NoneAble : List Station → ℕ → ℕ → Type 0
+NoneAble held from to = (k : ℕ) → from ≤ k → k < to → option_map is_able (slice_get held k) ≡ Some false
+
+-- i is the first position from this one on whose entry may issue, or a part of it
+pub record IsNextAble (held : List Station) (from i : ℕ) : Type 0 where
+  pub low : from ≤ i
+  pub within : i < length held
+  pub before : NoneAble held from i
+  pub here : option_map is_able (slice_get held i) ≡ Some true
+
+-- the next position from one on whose entry may issue, or a part of it, None where there is none
+abbrev pub NextAble : List Station → ℕ → Option ℕ → Type 0
+NextAble held from None = NoneAble held from (length held)
+NextAble held from (Some i) = IsNextAble held from i
 
 -- which of an entry's sources a part needs
 abbrev pub source_of : Part → ℕ

@@ -1,20 +1,20 @@
 //! The stations by age, each entry in a place of its own.
-ghost use Rattle.std.specs.Prelude.{◌≡◌, ◌≢◌, ◌+◌, ◌-◌, ◌<◌, ◌≤◌, ℕ, [], ◌∷◌, ◌++◌, length, map, IfOk, Some, slice_get, nat_lt, nat_le};
+ghost use Rattle.std.specs.Prelude.{◌≡◌, ◌≢◌, ◌+◌, ◌-◌, ◌<◌, ◌≤◌, ℕ, [], ◌∷◌, ◌++◌, length, map, IfOk, IfSome, Some, slice_get, nat_lt, nat_le};
 ghost use Rattle.std.specs.List.{filter, list_any, remove, All, AllPairs};
 ghost use Rattle.std.specs.Option.{option_map};
-ghost use Rattle.std.specs.Int.{bit_at};
-ghost use Rattle.stations.specs.Stations.{PlacesAble, Rise, Station, Stations, awaits_none, is_able, left_wanting, ready_part, struck};
+ghost use Rattle.stations.specs.Stations.{NextAble, Rise, Station, Stations, awaits_none, is_able, left_wanting, ready_part, struck};
 ghost use Rattle.stations.specs.Places.{station, is_youngest};
 
+use crate::marks::without_mark;
 use crate::occupant::Occupant;
 use crate::places::{all_places, empty_places, push_within, take_free};
-use crate::waking::{GROUPS, first_apart, leave_at, note_waiter, wake_all};
+use crate::waking::{GROUPS, leave_at, note_waiter, wake_all};
 use crate::wants::{Part, Wants};
 use machine_desc::Desc;
 use rv_types::NoMemory;
 use std::alloc::Global;
 use std::marker::Model;
-use word_bits::{has_wide_bit, with_wide_bit};
+use word_bits::{has_wide_bit, next_wide_bit, with_wide_bit};
 
 /// The entries that wait, in `core.stations` places, in which they don't move. Beside the places stand the numbers of
 /// those that are taken, by age, and of those that are free. Positions count the entries by age, from the oldest, which
@@ -26,16 +26,16 @@ pub struct Stations {
     free: Vec<u32>,
     // For each group of serials, the places where such a serial may be awaited, as the bits of a word.
     waiters: [u128; GROUPS],
-    // The places whose entries can't issue yet, nor a part of them, as the bits of a word.
-    waiting: u128,
-    // The places that are taken, as the bits of a word.
-    taken: u128,
+    // The positions of the entries that may issue, or of which a part may, as the bits of a word.
+    able: u128,
+    // How many entries have left their places, modulo 2^32. With it a position is guessed: no more rests on it.
+    gone: u32,
 }
 
 impl Model for Stations {
     ghost use Rattle.std.specs.Prelude.{◌≡◌, ◌+◌, ◌<◌, ◌≤◌, ◌^◌, vec_len, vec_capacity};
     ghost use Rattle.stations.specs.Stations.{Stations};
-    ghost use Rattle.stations.specs.Places.{held_of, NotesTaken, NotesWaiters, NotesWaiting, Placed};
+    ghost use Rattle.stations.specs.Places.{held_of, NotesAble, NotesWaiters, Placed};
 
     ghost Value = { Stations };
 
@@ -45,7 +45,7 @@ impl Model for Stations {
         × (vec_len s.ages + vec_len s.free ≡ vec_len s.places)
         × (vec_len s.places ≤ vec_capacity s.ages) × (vec_len s.places ≤ vec_capacity s.free)
         × (vec_len s.places ≤ 96) × NotesWaiters s.places.items s.waiters
-        × NotesWaiting s.places.items s.waiting × NotesTaken s.ages.items s.free.items s.taken };
+        × NotesAble (held_of s.places.items s.ages.items) s.able };
 }
 
 impl Stations {
@@ -62,8 +62,8 @@ impl Stations {
             ages,
             free,
             waiters: [0; GROUPS],
-            waiting: 0,
-            taken: 0,
+            able: 0,
+            gone: 0,
         })
     }
 
@@ -91,10 +91,12 @@ impl Stations {
         }) }
     {
         let place = take_free(&mut self.free);
-        let occupant = Occupant::new(serial, wants, awaits);
-        note_waiter(&mut self.waiters, &mut self.waiting, place, &occupant);
+        let position = self.ages.len() as u32;
+        let came = self.gone.wrapping_add(position);
+        let occupant = Occupant::new(serial, wants, awaits, came);
+        note_waiter(&mut self.waiters, place, &occupant);
+        self.able = with_wide_bit(self.able, position, occupant.is_able());
         self.places[place as usize] = occupant;
-        self.taken = with_wide_bit(self.taken, place, true);
         push_within(&mut self.ages, place);
     }
 
@@ -104,8 +106,10 @@ impl Stations {
     {
         wake_all(
             &mut self.places,
+            &self.ages,
             &mut self.waiters,
-            &mut self.waiting,
+            &mut self.able,
+            self.gone,
             serial,
         );
     }
@@ -127,46 +131,28 @@ impl Stations {
     }
 
     /// Whether the entry at a position is able to issue: all is there that it, or a part of it, waits for. Kept for who
-    /// looks at stations from outside: Issue asks for all of them at once.
+    /// looks at stations from outside: Issue asks for the next that is.
     pub fn able(&self, i: u32) -> bool
         requires { i < length self.now.held }
         ensures { option_map is_able (slice_get self.now.held i) ≡ Some result }
     {
-        !has_wide_bit(self.waiting, self.ages[i as usize])
+        has_wide_bit(self.able, i)
     }
 
-    /// A word with a bit set for the place of each entry that is able to issue, or of which a part is.
-    pub fn able_places(&self) -> u128
-        ensures { PlacesAble self.now.held 0 result }
+    /// The first position from this one on whose entry is able to issue, or a part of it. None where there is none.
+    pub fn next_able(&self, from: u32) -> Option<u32>
+        requires { from ≤ length self.now.held }
+        ensures next { NextAble self.now.held from result }
+        ensures few { IfSome result (λ i. i < 96) }
     {
-        // The taken places that don't wait, by the two operations of whose bits the proof speaks.
-        self.taken ^ (self.taken & self.waiting)
-    }
-
-    /// Whether the entry at a position is among those that a word tells of the entries from there on.
-    pub fn is_among(&self, able: u128, i: u32) -> bool
-        requires within { i < length self.now.held }
-        requires able { PlacesAble self.now.held i able }
-        ensures { option_map is_able (slice_get self.now.held i) ≡ Some result }
-    {
-        has_wide_bit(able, self.place(i))
-    }
-
-    /// The word without the place of the entry at a position.
-    pub fn without(&self, able: u128, i: u32) -> u128
-        requires within { i < length self.now.held }
-        requires able { PlacesAble self.now.held i able }
-        ensures here { option_map (λ s. bit_at result s.place) (slice_get self.now.held i) ≡ Some 0 }
-        ensures later { PlacesAble self.now.held (i + 1) result }
-    {
-        with_wide_bit(able, self.place(i), false)
+        next_wide_bit(self.able, from)
     }
 
     /// Whether there is an entry that is able to issue, or a part of it.
     pub fn any_able(&self) -> bool
         ensures { result ≡ list_any is_able self.now.held }
     {
-        first_apart(self.taken, self.waiting, self.places.len() as u32).is_some()
+        self.next_able(0).is_some()
     }
 
     /// The entry at a position needs something else from now on: a part of it has issued.
@@ -174,12 +160,8 @@ impl Stations {
         requires { i < length self.old.held }
         ensures { self.new ≡ record self.old { held = left_wanting i wants self.old.held } }
     {
-        leave_at(
-            &mut self.places,
-            &mut self.waiting,
-            self.ages[i as usize],
-            wants,
-        );
+        let able = leave_at(&mut self.places, self.ages[i as usize], wants);
+        self.able = with_wide_bit(self.able, i, able);
     }
 
     /// The serial of the entry at a position.
@@ -208,7 +190,8 @@ impl Stations {
         ensures { self.new ≡ record self.old { held = remove self.old.held i } }
     {
         let place = self.ages.remove(i as usize);
-        self.taken = with_wide_bit(self.taken, place, false);
+        self.able = without_mark(self.able, i);
+        self.gone = self.gone.wrapping_add(1);
         push_within(&mut self.free, place);
     }
 

@@ -16,6 +16,8 @@ pub(crate) struct Occupant {
     pub first: Option<u64>,
     /// The writer of the entry's second source, if it is awaited.
     pub second: Option<u64>,
+    /// How many entries had left their places as this one came, and how many were held then, modulo 2^32.
+    pub came: u32,
 }
 
 // Takes the serial out, where it is the one that is awaited.
@@ -44,7 +46,7 @@ impl Occupant {
     ghost use Rattle.stations.specs.Stations.{able_as, nothing_at, source_of};
 
     /// An entry with the serials that it awaits.
-    pub fn new(serial: u64, wants: Wants, awaits: [Option<u64>; 2]) -> Occupant
+    pub fn new(serial: u64, wants: Wants, awaits: [Option<u64>; 2], came: u32) -> Occupant
         ensures serial { result.serial ≡ serial }
         ensures wants { result.wants ≡ wants }
         ensures awaits { awaited result ≡ awaits }
@@ -55,6 +57,7 @@ impl Occupant {
             wants,
             first,
             second,
+            came,
         }
     }
 
@@ -67,6 +70,7 @@ impl Occupant {
             wants: Wants::Whole,
             first: None,
             second: None,
+            came: 0,
         }
     }
 

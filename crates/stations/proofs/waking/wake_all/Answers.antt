@@ -1,7 +1,9 @@
-use Rattle.std.proofs.Common.{arith, ap, refl, ◌∙◌}
+use Rattle.std.proofs.Common.{arith, ap, get_or, refl, ◌∙◌}
 use Rattle.std.specs.Int.{bit_at}
 use Rattle.std.proofs.lemmas.Nat.Bits.{bit_at-zero}
+use Rattle.stations.specs.Places.{able_in, nobody}
 use Rattle.stations.proofs.Awaited.{woken_one, woken_rest}
+use Rattle.stations.proofs.AbleMarks.{able_but, able_still}
 use Rattle.stations.proofs.waking.wake_all.Goals as goal
 
 pub returns-then-waiters-group-eq0-clause-woken : goal.returns-then-waiters-group-eq0-clause-woken
@@ -20,7 +22,7 @@ loop-place-preserved c =
       rest = λ p past. c.wake_at.ensures.others p (λ q. absurd (omega (arith, q, past))) ∙ at.rest p (omega (arith, past, low));
       len = omega (arith, c.wake_at.ensures.len, at.len);
       noted = c.wake_at.ensures.noted;
-      waiting = c.wake_at.ensures.waiting;
+      able = c.mark_able.ensures;
       within = omega (arith, high, c.wake_at.ensures.len, c.len-room.ensures, at.len);
     }
 
@@ -28,3 +30,8 @@ pub returns-clause-woken : goal.returns-clause-woken
 returns-clause-woken c =
     let at = c.loop-place.invariant in
     woken_rest c.args.serial _ _ _ _ _ (omega (arith, c.len-room.ensures, at.len)) at.noted at.woken at.rest c.in_default.ensures
+
+pub mark_able-requires-clause-noted : goal.mark_able-requires-clause-noted
+mark_able-requires-clause-noted c =
+    let at = c.loop-place.invariant in
+    able_but _ _ _ c.wake_at.ensures.others _ _ (λ h. ap able_in c.wake_at.ensures.here ∙ able_still c.args.serial (get_or c.loop-place.places.items c.in-Some.place nobody) h) at.able

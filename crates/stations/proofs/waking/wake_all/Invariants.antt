@@ -1,6 +1,6 @@
 use Rattle.std.proofs.Common.{◌≡◌, ◌<◌, ◌≤◌, ◌-◌, ℕ, get_or}
 use Rattle.std.specs.Prelude.{vec_len}
-use Rattle.stations.specs.Places.{NotesWaiters, NotesWaiting, nobody, woken}
+use Rattle.stations.specs.Places.{NotesAble, NotesWaiters, held_of, nobody, woken}
 use Rattle.stations.proofs.waking.wake_all.Given as goal
 
 -- the entries in the places so far are woken
@@ -10,7 +10,7 @@ invariant-loop-place l = record {
   rest : (p : ℕ) → l.from ≤ p → get_or l.places.items p nobody ≡ get_or l.initial.places.items p nobody;
   len : vec_len l.places ≡ vec_len l.initial.places;
   noted : NotesWaiters l.places.items l.waiters;
-  waiting : NotesWaiting l.places.items l.waiting;
+  able : NotesAble (held_of l.places.items l.ages.items) l.able;
   within : l.from ≤ vec_len l.places;
 }
 

@@ -1,6 +1,7 @@
 use Rattle.std.proofs.Common.{◌≡◌, length, ap, ap₂, ◌∙◌, arith}
 use Rattle.std.specs.Prelude.{map}
 use Rattle.stations.specs.Stations.{Stations, struck}
+use Rattle.stations.proofs.Leaving.{taken_differ}
 use Rattle.stations.proofs.Placing.{held_woken, placed_woken}
 use Rattle.stations.proofs.by_age.Stations.wake.Goals as goal
 
@@ -10,8 +11,17 @@ wake_all-requires-clause-few c = let few = c.self.invariant.4 in omega (arith, f
 pub wake_all-requires-clause-noted : goal.wake_all-requires-clause-noted
 wake_all-requires-clause-noted c = c.self.invariant.5
 
-pub wake_all-requires-clause-waiting : goal.wake_all-requires-clause-waiting
-wake_all-requires-clause-waiting c = c.self.invariant.6
+pub wake_all-requires-clause-no_more : goal.wake_all-requires-clause-no_more
+wake_all-requires-clause-no_more c =
+    let all = c.self.invariant.1 in
+    let few = c.self.invariant.4 in
+    omega (arith, all, few)
+
+pub wake_all-requires-clause-differ : goal.wake_all-requires-clause-differ
+wake_all-requires-clause-differ c = taken_differ _ _ _ c.self.invariant.0.once
+
+pub wake_all-requires-clause-able : goal.wake_all-requires-clause-able
+wake_all-requires-clause-able c = c.self.invariant.6
 
 pub invariant_of-self : goal.invariant_of-self
 invariant_of-self c =
@@ -24,8 +34,7 @@ invariant_of-self c =
       omega (arith, inside.3, c.wake_all.ensures.len),
       omega (arith, inside.4, c.wake_all.ensures.len),
       c.wake_all.ensures.noted,
-      c.wake_all.ensures.waiting,
-      inside.7,
+      c.wake_all.ensures.able,
     )
 
 pub returns : goal.returns
