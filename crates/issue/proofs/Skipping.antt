@@ -1,13 +1,10 @@
 -- Stations that are able, and a walk past those that aren't.
-use Rattle.std.proofs.Common.{◌≡◌, ℕ, zero, suc, ◌+◌, ◌-◌, ◌<◌, ◌≤◌, Bool, true, false, List, length, Some, refl, ap, sym, subst, ◌∙◌, arith, slice_get}
-use Rattle.std.specs.Prelude.{if◌then◌else◌}
+use Rattle.std.proofs.Common.{◌≡◌, ℕ, zero, suc, ◌+◌, ◌-◌, ◌<◌, ◌≤◌, Bool, true, false, List, length, Some, ap, sym, subst, ◌∙◌, arith, slice_get}
 use Rattle.std.specs.Option.{option_map}
-use Rattle.std.proofs.lemmas.Nat.Bits.{bit_at-zero}
-use Rattle.circular_buffer.proofs.Places.{slice_get-some}
 use Rattle.machine_desc.specs.declared.Desc.{Desc}
 use Rattle.window_model.specs.declared.Entry.{Entry}
 use Rattle.window_model.specs.Order.{before_at, is_waiting}
-use Rattle.stations.specs.Stations.{PlacesAble, Station, is_able}
+use Rattle.stations.specs.Stations.{NoneAble, Station, is_able}
 use Rattle.refinement.specs.InFlight.{InFlight}
 use Rattle.refinement.specs.Refines.{Refines}
 use Rattle.refinement.specs.Stations.{station_of}
@@ -18,34 +15,20 @@ use Rattle.issue.specs.declared.candidate.Candidate.{Candidate}
 use Rattle.issue.specs.Candidates.{IsCandidate}
 use Rattle.issue.proofs.Waiting.{Keeps, Reaches, goes_on, waits_at}
 
--- where a word of flags has no bit set, the first of the stations that it tells of isn't able
-unable_by : (held : List Station) (k : ℕ) → PlacesAble held k 0 → k < length held → option_map is_able (slice_get held k) ≡ Some false
-unable_by held k none lt =
-    let t = slice_get-some held k lt in
-    let marked = none k t.0 (omega arith) t.1 in
-    ap (option_map is_able) t.1 ∙ ap Some (unmarked (is_able t.0) _ marked (bit_at-zero t.0.place))
-  where
-    unmarked : (b : Bool) (bit : ℕ) → bit ≡ (if b then 1 else 0) → bit ≡ 0 → b ≡ false
-    unmarked true bit h none = absurd (omega (arith, h, none))
-    unmarked false bit h none = refl
-
--- a word that tells of the stations from one on tells of those from the next on
-pub places_later : (held : List Station) (k word : ℕ) → PlacesAble held k word → PlacesAble held (k + 1) word
-places_later held k word told i s low is = told i s (omega (arith, low)) is
-
 -- what holds at a station and is kept past one that isn't able
 abbrev pub PassesUnable : List Station → (ℕ → Type 0) → Type 0
 PassesUnable held P = (k : ℕ) → k < length held → option_map is_able (slice_get held k) ≡ Some false → P k → P (k + 1)
 
 module _ (held : List Station) (P : ℕ → Type 0) (passes : PassesUnable held P) where
-  past_some : (n k : ℕ) → k + n ≡ length held → PlacesAble held k 0 → P k → P (length held)
-  past_some zero k end none t = subst P (omega (arith, end)) t
-  past_some (suc n) k end none t =
-      past_some n (k + 1) (omega (arith, end)) (places_later held k 0 none) (passes k (omega (arith, end)) (unable_by held k none (omega (arith, end))) t)
+  past_some : (n k to : ℕ) → k + n ≡ to → to ≤ length held → NoneAble held k to → P k → P to
+  past_some zero k to end le none t = subst P (omega (arith, end)) t
+  past_some (suc n) k to end le none t =
+      past_some n (k + 1) to (omega (arith, end)) le (λ i low lt. none i (omega (arith, low)) lt)
+      (passes k (omega (arith, end, le)) (none k (omega arith) (omega (arith, end))) t)
 
-  -- what is kept past stations that aren't able holds behind the last, where none from here on is able
-  pub past_all : (k : ℕ) → k ≤ length held → PlacesAble held k 0 → P k → P (length held)
-  past_all k le none t = past_some (length held - k) k (omega (arith, le)) none t
+  -- what is kept past stations that aren't able holds at a station, where none before it is able from another on
+  pub past_all : (k to : ℕ) → k ≤ to → to ≤ length held → NoneAble held k to → P k → P to
+  past_all k to low le none t = past_some (to - k) k to (omega (arith, low)) le none t
 
 -- ---- of parts that refine a window, where the point has just moved
 

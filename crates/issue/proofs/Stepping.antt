@@ -7,7 +7,7 @@ use Rattle.window_model.specs.Order.{before_at}
 use Rattle.window_model.specs.Row.{Row}
 use Rattle.window_model.specs.inner.Row.{IsLonger, most_issued, with_events}
 use Rattle.unit_ports.specs.Ports.{Ports}
-use Rattle.stations.specs.Stations.{PlacesAble}
+use Rattle.stations.specs.Stations.{NoneAble}
 use Rattle.core_parts.specs.declared.decided.Decided.{Decided}
 use Rattle.issue.specs.declared.candidate.Candidate.{Candidate}
 use Rattle.issue.specs.declared.seen.Seen.{Seen}
@@ -50,6 +50,10 @@ module _ (s : Seen) (first ports : Ports) (decided : Decided) (start row : Row) 
     cycle = t.cycle;
   }
 
+  -- the walk goes past stations that aren't able to the next one that is
+  pub walks_to : (k to : ℕ) → k ≤ to → to ≤ length s.stations.now.held → NoneAble s.stations.now.held k to → Walks s first ports decided start row k → Walks s first ports decided start row to
+  walks_to = past_all s.stations.now.held _ walks_past
+
   -- the walk goes past all stations that are left, and all is decided
   pub walks_out : (k : ℕ) → k ≡ length s.stations.now.held → Walks s first ports decided start row k → WalksAll s first ports decided start row
   walks_out k end t =
@@ -66,8 +70,8 @@ module _ (s : Seen) (first ports : Ports) (decided : Decided) (start row : Row) 
       }
 
   -- all is decided where no station that is left is able
-  pub walks_rest : (k : ℕ) → k ≤ length s.stations.now.held → PlacesAble s.stations.now.held k 0 → Walks s first ports decided start row k → WalksAll s first ports decided start row
-  walks_rest k le none t = walks_out (length s.stations.now.held) refl (past_all s.stations.now.held _ walks_past k le none t)
+  pub walks_rest : (k : ℕ) → k ≤ length s.stations.now.held → NoneAble s.stations.now.held k (length s.stations.now.held) → Walks s first ports decided start row k → WalksAll s first ports decided start row
+  walks_rest k le none t = walks_out (length s.stations.now.held) refl (walks_to k (length s.stations.now.held) le (omega arith) none t)
 
   -- the ports that are left to the one at a station
   pub left_here : (k : ℕ) (p : Candidate) → HasTurn s p → p.station ≡ k → Walks s first ports decided start row k → LeftFor s p ports

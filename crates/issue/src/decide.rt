@@ -103,8 +103,8 @@ impl<'a> Seen<'a> {
         }
     }
 
-    /// Goes over the stations, oldest first, until none is left whose entry is able to issue: entries that lack what
-    /// they want stay as they are. All ports of the cycle are left, and nothing is decided as yet.
+    /// Goes over the stations whose entries are able to issue, oldest first: entries that lack what they want stay as
+    /// they are. All ports of the cycle are left, and nothing is decided as yet.
     pub(crate) fn decide(&self, ports: &mut Ports, decided: &mut Decided, row: &mut Row)
         requires stands { IssueInvariant self.now }
         requires left { LeftAfter self.now.desc.now (around_of self.now) [] ports.old }
@@ -118,17 +118,11 @@ impl<'a> Seen<'a> {
         ensures only { OnlyPorts ports.old ports.new }
         ensures few { IsLonger most_issued row.old row.new }
     {
-        let mut able = self.stations.able_places();
-        for station in 0..self.stations.len() {
-            if !self.stations.is_among(able, station) {
-                continue;
-            }
-            able = self.stations.without(able, station);
+        let mut from = 0;
+        while let Some(station) = self.stations.next_able(from) {
             let candidate = self.candidate_at(station);
             self.decide_entry(&candidate, ports, decided, row);
-            if able == 0 {
-                return;
-            }
+            from = station + 1;
         }
     }
 }
