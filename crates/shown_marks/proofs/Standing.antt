@@ -1,7 +1,7 @@
 -- The walk from station to station, and what the parts of a core tell as it begins.
 use Rattle.std.proofs.Common.{◌≡◌, ℕ, ◌+◌, ◌≤◌, Bool, true, false, [], length, Some, None, refl, sym, ◌∙◌, arith}
 use Rattle.window_model.specs.Order.{before_at}
-use Rattle.stations.specs.Stations.{PlacesAble}
+use Rattle.stations.specs.Stations.{NoneAble}
 use Rattle.issue.proofs.Asking.{step_at}
 use Rattle.issue.proofs.Skipping.{PassesUnable, passes_unable, past_all}
 use Rattle.issue.proofs.Waiting.{Keeps, Reaches, all_wait, at_end, at_next, goes_on}
@@ -42,6 +42,10 @@ module _ (s : Seen) (stands : ShowsInvariant s) where
       shows_later s.desc.now (marks_in s) (window_of s) (each_marks s) stands.step i e h
       (silent s.desc.now (before_at (window_of s) i) e (marks_in s) (marks_before (each_marks s) i) (unable_silent s.desc.now (before_at (window_of s) i) e w lacks)))
 
+  -- no entry shows before the next station that is able, where none shows before this one
+  pub reached_to : (k to : ℕ) → k ≤ to → to ≤ length s.stations.now.held → NoneAble s.stations.now.held k to → Reached k → Reached to
+  reached_to = past_all s.stations.now.held Reached reached_past
+
   -- behind the last station nothing shows in all, where nothing showed before
   pub reached_end : (k : ℕ) → k ≡ length s.stations.now.held → Reached k → None ≡ operands_shown s.desc.now (marks_in s) [] [] (window_of s) (each_marks s)
   reached_end k end t =
@@ -49,8 +53,8 @@ module _ (s : Seen) (stands : ShowsInvariant s) where
       (at_end (Shows s) (window_of s) k keeps t (all_wait (flight_of stands.rest s) stands.refines ∙ sym end))
 
   -- nothing shows in all, where nothing showed before and no station that is left is able
-  pub reached_rest : (k : ℕ) → k ≤ length s.stations.now.held → PlacesAble s.stations.now.held k 0 → Reached k → None ≡ operands_shown s.desc.now (marks_in s) [] [] (window_of s) (each_marks s)
-  reached_rest k le none t = reached_end (length s.stations.now.held) refl (past_all s.stations.now.held Reached reached_past k le none t)
+  pub reached_rest : (k : ℕ) → k ≤ length s.stations.now.held → NoneAble s.stations.now.held k (length s.stations.now.held) → Reached k → None ≡ operands_shown s.desc.now (marks_in s) [] [] (window_of s) (each_marks s)
+  reached_rest k le none t = reached_end (length s.stations.now.held) refl (reached_to k (length s.stations.now.held) le (omega arith) none t)
 
   -- ---- at a station that is able
 

@@ -35,19 +35,13 @@ impl<'a> Seen<'a> {
         ensures { result ≡ operands_shown self.now.desc.now (marks_in self.now) [] [] (window_of self.now)
             (each_marks self.now) }
     {
-        let mut able = self.stations.able_places();
-        for station in 0..self.stations.len() {
-            if able == 0 {
-                return None;
-            }
-            if !self.stations.is_among(able, station) {
-                continue;
-            }
-            able = self.stations.without(able, station);
+        let mut from = 0;
+        while let Some(station) = self.stations.next_able(from) {
             let candidate = self.candidate_at(station);
             if self.operand_shows(&candidate) {
                 return Some(shown_by(candidate.entry));
             }
+            from = station + 1;
         }
         None
     }
