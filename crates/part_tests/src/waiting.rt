@@ -21,7 +21,7 @@ fn told(stations: &Stations, i: u32) -> [bool; 4] {
     ]
 }
 
-// Two entries with serials 70 and 71, which await these, and what the first needs.
+// Two entries with serials 300 and 301, which await these, and what the first needs.
 fn two(
     alloc: Global,
     desc: &Desc,
@@ -30,8 +30,8 @@ fn two(
     second: [Option<u64>; 2],
 ) -> Result<Stations, Fail> {
     let mut stations = Stations::new(alloc, desc)?;
-    stations.insert(70, wants, first);
-    stations.insert(71, Wants::Whole, second);
+    stations.insert(300, wants, first);
+    stations.insert(301, Wants::Whole, second);
     Ok(stations)
 }
 
@@ -42,21 +42,27 @@ fn who_is_woken_awaits_the_others_yet(rt: HostRuntime) -> Result<(), Fail> {
     // What the first entry needs, who are Done then, and what is told of the first and the second entry.
     let rows = [
         (whole, [9, 9], [false; 4], [false; 4]),
-        (whole, [67, 9], [false, false, true, false], [false; 4]),
+        (whole, [259, 9], [false, false, true, false], [false; 4]),
         (whole, [9, 3], [false, true, false, false], [true; 4]),
-        (whole, [67, 3], [true; 4], [true; 4]),
-        (either, [9, 67], [false, false, true, true], [false; 4]),
+        (whole, [259, 3], [true; 4], [true; 4]),
+        (either, [9, 259], [false, false, true, true], [false; 4]),
         (either, [3, 9], [false, true, false, true], [true; 4]),
-        (either, [3, 67], [true; 4], [true; 4]),
+        (either, [3, 259], [true; 4], [true; 4]),
     ];
     for desc in [small(alloc)?, largest(alloc)?] {
         for (wants, done, first, second) in rows {
-            let awaited = [Some(3), Some(67)];
+            let awaited = [Some(3), Some(259)];
             let mut stations = two(alloc, &desc, wants, awaited, [Some(3), Some(3)])?;
             stations.wake(done[0]);
             stations.wake(done[1]);
             let any = first[3] || second[3];
             let both = [told(&stations, 0), told(&stations, 1)];
+            let next = if first[3] {
+                Some(0)
+            } else {
+                if second[3] { Some(1) } else { None }
+            };
+            assert!(rt; stations.next_able(0) == next);
             assert_same(
                 &rt,
                 &(done, both, stations.any_able()),
@@ -73,13 +79,13 @@ fn a_part_that_is_left_needs_its_own_source(rt: HostRuntime) -> Result<(), Fail>
     // What the entry needs once its other part has issued, who is Done then, and whether the entry may issue.
     let rows = [
         (Wants::Data, 3, false),
-        (Wants::Data, 67, true),
+        (Wants::Data, 259, true),
         (Wants::Address, 3, true),
-        (Wants::Address, 67, false),
+        (Wants::Address, 259, false),
     ];
     let desc = small(alloc)?;
     for (wants, done, able) in rows {
-        let awaited = [Some(3), Some(67)];
+        let awaited = [Some(3), Some(259)];
         let mut stations = two(alloc, &desc, Wants::Either, awaited, [Some(9), None])?;
         assert!(rt; stations.len() == 2);
         stations.leave(0, wants);
@@ -100,8 +106,9 @@ fn an_entry_stays_in_its_place(rt: HostRuntime) -> Result<(), Fail> {
         let place = stations.place(1);
         stations.remove(0);
         assert!(rt; stations.len() == 1 && stations.free() == room - 1);
-        assert_same(&rt, &(stations.place(0), stations.serial(0)), &(place, 71));
-        stations.drop_from(71);
+        assert!(rt; stations.next_able(0) == Some(0) && stations.next_able(1) == None);
+        assert_same(&rt, &(stations.place(0), stations.serial(0)), &(place, 301));
+        stations.drop_from(301);
         assert!(rt; stations.len() == 0 && stations.free() == room);
     }
     Ok(())
