@@ -61,10 +61,11 @@ pub fn who_goes_is_seen_alike()
     ensures fetch { FetchAlike }
 {}
 
-/// Complete, Clear and Resolve have the same events in two machines that differ in registers, memory's bytes and outcomes
-/// alone, and leave them alike under masks that leave the same of their outcomes: Complete under any masks; Clear, where
-/// two runs see alike each entry, under masks that leave addresses and faults of loads; Resolve, where they do so too, if
-/// what it looks at of the entry that it resolves is equal in both, and so is what the mask leaves of it once resolved.
+/// Complete, Clear and Resolve have the same events in two machines that differ in registers, memory's bytes and
+/// outcomes alone, and leave them alike under masks that leave the same of their outcomes: Complete under any masks;
+/// Clear, where two runs see alike each entry, under masks that leave addresses and faults of loads; Resolve, where
+/// they do so too, if what it looks at of the entry that it resolves is equal in both, and so is what the mask leaves
+/// of it once resolved.
 pub fn phases_leave_alike_under_masks()
     ensures complete { CompleteLeavesAlike }
     ensures clear { ClearLeavesAlike }
