@@ -48,7 +48,8 @@ pub record ResolvedAlike (e e2 : Entry) : Type 0 where
 -- ---- the oldest entry with a property
 
 -- two tests answer alike of each entry of two windows, and the entries and those before them are related
-abbrev pub AnswerAlike : (List Entry → Entry → Bool) → (List Entry → Entry → Bool) → (List Entry → List Entry → Type 0) → List Entry → List Entry → List Entry → List Entry → Type 0
+abbrev pub AnswerAlike : (List Entry → Entry → Bool) → (List Entry → Entry → Bool) → (List Entry → List Entry → Type 0) →
+    List Entry → List Entry → List Entry → List Entry → Type 0
 AnswerAlike f f2 S b b2 (e ∷ es) (e2 ∷ es2) = (f b e ≡ f2 b2 e2) × S (e ∷ b) (e2 ∷ b2) × AnswerAlike f f2 S (e ∷ b) (e2 ∷ b2) es es2
 AnswerAlike f f2 S b b2 _ _ = Unit {0}
 
