@@ -16,7 +16,7 @@ import unittest
 
 import support
 from generate.generated import generated_image
-from wadrelwy.sampling import chain, estimate, measuring, places, planned
+from wadrelwy.sampling import chain, estimate, measuring, places, planned, touching
 from wadrelwy.sampling.measuring import Taken
 from wadrelwy.sampling.places import Window
 from wadrelwy.verdict.hart import Hart
@@ -24,6 +24,7 @@ from wadrelwy.verdict.loaded import load
 from wadrelwy.view import Fault
 from wadrelwy.view.description import read_description
 
+BASE = 0x10000
 SRC = os.path.join(support.ROOT, "tools", "src")
 STAND_IN = f"""#!{sys.executable}
 import os, sys
@@ -64,10 +65,10 @@ except BrokenPipeError:
     os.dup2(os.open(os.devnull, os.O_WRONLY), 1)
     sys.exit(7)
 """
-# 200 rounds of 50 rounds of `addi, bne`, and 50 of `mul, addi, bne`; each stores its number in a word of its own from 0x20000 on
-WORDS = (0x00020437, 0x0c800293, 0x03200313, 0xfff30313, 0xfe031ee3, 0x03200313, 0x026383b3, 0xfff30313, 0xfe031ce3, 0x00542023, 0x00440413,
+# 60 rounds of 50 rounds of `addi, bne`, and 50 of `mul, addi, bne`; each stores its number in a word of its own from 0x20000 on
+WORDS = (0x00020437, 0x03c00293, 0x03200313, 0xfff30313, 0xfe031ee3, 0x03200313, 0x026383b3, 0xfff30313, 0xfe031ce3, 0x00542023, 0x00440413,
          0xfff28293, 0xfc029ce3, 0x00000513, 0x05d00893, 0x00000073)
-RETIRED = 2 + 200 * (1 + 100 + 1 + 150 + 4) + 3
+RETIRED = 2 + 60 * (1 + 100 + 1 + 150 + 4) + 3
 
 
 class Folder(unittest.TestCase):
@@ -174,26 +175,62 @@ class Numbers(unittest.TestCase):
         self.assertNotIn("that is wide", "\n".join(estimate.told(question, made._replace(half=0.09))))
 
 
+class Touching(unittest.TestCase):
+    def test_lines(self):
+        """The lines that aren't zero, without code and without what is cut at memory's end."""
+        memory = bytearray(1000)
+        for at in (0, 63, 64, 200, 640, 990):
+            memory[at] = 1
+        self.assertEqual(touching.lines_of(memory, 0x10000, 64, [(0x10040, 0x10044)]), [0x10000, 0x100c0, 0x10280])
+        self.assertEqual(touching.lines_of(memory, 0x10010, 64, []), [0x10040, 0x10080 + 0x40, 0x10280])
+
+    def test_chosen(self):
+        """Where there are more lines than the caches hold, those that changed come first."""
+        lines = [64 * at for at in range(10)]
+        self.assertEqual(touching.chosen(lines, [300, 600], 64, 10), lines)
+        self.assertEqual(touching.chosen(lines, [300, 600], 64, 4), [0, 64, 256, 576])
+
+    def test_stretches(self):
+        """Each line is in a stretch, and there are 40 at most: the smallest gaps are closed."""
+        self.assertEqual(touching.stretches([0, 64, 192], 64), [(0, 128), (192, 256)])
+        lines = [1024 * at for at in range(30)] + [30 * 1024 + 128 * at for at in range(30)]
+        found = touching.stretches(lines, 64)
+        self.assertEqual((len(found), found[-1]), (30 + 1, (30 * 1024, 30 * 1024 + 29 * 128 + 64)))
+        self.assertEqual(touching.stretches([], 64), [])
+
+    def test_code(self):
+        """The code loads a word of each line, in as many steps as it says, and stores nothing."""
+        for line, found in ((64, [(0x20000, 0x20040), (0x20800, 0x20980)]), (4, [(0x30ffc, 0x31004)])):
+            code, steps = touching.touching(found, line)
+            self.assertLessEqual(len(code), touching.SIZE)
+            path = support.file_of("touching.elf", support.elf([(5, BASE, code, len(code))]))
+            image = load(path, read_description(support.example("medium.toml")))
+            run = Hart(image)
+            taken = list(run.run(steps))
+            self.assertEqual((len(taken), run.pc, run.end, bytes(run.memory.data)), (steps, BASE + len(code), None, bytes(image.memory)))
+            self.assertEqual([step.access.address for step in taken if step.access], [at for low, high in found for at in range(low, high, line)])
+
+
 class Chain(Folder):
-    def chain(self, image, at=None):
+    def chain(self, image, at=None, caches=None):
         loaded = load(image, read_description(self.description))
-        return chain.Chain(self.program, loaded, self.description, chain.report(self.program, image, 1 << 30, self.description), at)
+        return chain.Chain(self.program, loaded, self.description, chain.report(self.program, image, 1 << 30, self.description), at, caches)
 
     def test_each_image_goes_on(self):
-        """Behind the 63 instructions registers, pc and memory are those of the whole run, in each of several images, and the chain ends alike."""
+        """Behind the instructions that come first registers, pc and memory are those of the whole run, in each of several images, and the chain ends alike."""
         chance = random.Random(3)
-        for seed in range(5):
-            path = support.file_of(f"sampled{seed}.elf", generated_image(seed, 12))
-            going = self.chain(path)
+        images = [(support.file_of(f"sampled{seed}.elf", generated_image(seed, 12)), None) for seed in range(4)]
+        for path, caches in [*images, (self.image, chain.Caches(64, 100)), (self.image, chain.Caches(16, 2))]:
+            going = self.chain(path, caches=caches)
             for steps in sorted(chance.sample(range(1, going.whole.retired), 5)):
                 whole, machine = Hart(load(path, read_description(self.description))), read_description(self.description)
                 list(whole.run(steps))
                 going.path = support.file_of(f"on{steps}.elf", going.to(steps))
                 run = Hart(load(going.path, machine))
-                self.assertEqual(len(list(run.run(63))), 63)
-                with self.subTest(seed=seed, steps=steps):
+                self.assertEqual((len(list(run.run(going.extra))), going.extra > 63), (going.extra, bool(caches)))
+                with self.subTest(path, steps=steps):
                     self.assertEqual((run.registers, run.pc), (whole.registers, whole.pc))
-                    run.memory.data[going.at - machine.base:going.at - machine.base + 252] = bytes(252)
+                    run.memory.data[going.at - machine.base:going.at - machine.base + going.size] = bytes(going.size)
                     self.assertEqual(run.memory.data, whole.memory.data)
             going.check_end()
 
@@ -203,7 +240,7 @@ class Chain(Folder):
         self.assertTrue(all(row not in range(going.at - 15, going.at + 252) for row in going.whole.rows))
         going.path = support.file_of("late.elf", going.to(100))
         first = going.at
-        going.to(40000)
+        going.to(12000)
         self.assertEqual(going.at, first)
 
     def test_a_program_that_uses_the_place(self):
@@ -231,7 +268,7 @@ class Sampling(Folder):
         costs = {mul: self.costs(mul) for mul in (3, 5)}
         self.assertEqual(len(costs[3]), RETIRED)
         rows = self.rows()
-        self.assertEqual(len(rows), 2 * (10 + 10))
+        self.assertEqual(len(rows), 2 * (10 + 9))
         for row in rows:
             begin, taken = int(row["begin"]), int(row["last_cycle"]) - int(row["first_cycle"])
             with self.subTest(row):
@@ -242,13 +279,13 @@ class Sampling(Folder):
             whole = (sum(costs[int(row["units.mul_latency"])]) + 100) / RETIRED
             self.assertLess(abs(float(row["cycles_per_instruction"]) - whole), float(row["half_interval"]))
             self.assertEqual((row["retired"], row["end"], row["windows"], row["is_proved"]), (str(RETIRED), "exit 0", "10", "False"))
-            self.assertEqual((row["halved_windows"], float(row["halved_adds"])), ("10", 0))
+            self.assertEqual((row["halved_windows"], float(row["halved_adds"])), ("9", 0))
         self.assertIn("No theorem ties an estimate to a run.", told.stdout)
         self.assertEqual(json.loads(open(os.path.join(self.out, "estimates.json"), encoding="utf-8").read())[0]["retired"], RETIRED)
 
     def test_cold_start(self):
         """Of a warm-up of 60, behind the 63 that set the registers, nothing is cold; with half of it seven of the 100 are."""
-        told = self.sample(*SHORT, "--warm", "60", "--set", "units.mul_latency=1")
+        told = self.sample(*SHORT, "--warm", "60", "--no-touch", "--set", "units.mul_latency=1")
         self.assertEqual(told.returncode, 0)
         half = [row for row in self.rows() if row["halved"] == "True"]
         self.assertEqual({int(row["last_cycle"]) - int(row["first_cycle"]) for row in half}, {107})
@@ -267,7 +304,7 @@ class Sampling(Folder):
         self.assertEqual((again.returncode, again.stdout, self.measured()), (0, first.stdout, 24))
         self.assertEqual((self.sample(*words).returncode, self.measured()), (0, 24))
         self.assertEqual((self.sample(*words, "--seed", "2").returncode, self.measured()), (0, 44))
-        shutil.copy(support.image_of_words("other", (*WORDS[:1], 0x0c700293, *WORDS[2:])), self.image)
+        shutil.copy(support.image_of_words("other", (*WORDS[:1], 0x03b00293, *WORDS[2:])), self.image)
         told = self.sample(image=False)
         self.assertEqual(told.returncode, 2)
         self.assertIn("isn't what it was", told.stderr)
@@ -316,10 +353,10 @@ class Sampling(Folder):
 
     def test_first_steps_alone(self):
         """--steps takes the first instructions for the run, which is told."""
-        told = self.sample(*SHORT, "--warm", "60", "--steps", "20000")
+        told = self.sample(*SHORT, "--warm", "60", "--steps", "8000")
         self.assertEqual(told.returncode, 0)
-        self.assertIn("two_loops: 20000 instructions, cut there by --steps", told.stdout)
-        self.assertLess(max(int(row["begin"]) for row in self.rows()), 20000)
+        self.assertIn("two_loops: 8000 instructions, cut there by --steps", told.stdout)
+        self.assertLess(max(int(row["begin"]) for row in self.rows()), 8000)
 
 
 @unittest.skipUnless(support.PROGRAM, support.NO_PROGRAM)

@@ -5,8 +5,8 @@
     wadrelwy sample -o FOLDER [--gather [--from FOLDER..]]
 
 `isa` goes over the run, a hundred times as fast as a core does, and leaves images that go on at M places (as `wadrelwy continue` makes them, each
-of the one before): one in each of M equal parts of the run, by chance within it. In a core that begins cold there W instructions go by, and then L are
-measured. What comes is the mean in cycles per instruction, with the 95 % interval of a mean; and, of ten of the windows, what they take with half
+of the one before): one in each of M equal parts of the run, by chance within it. In a core that begins cold there, memory that isn't zero is
+loaded, line by line, so that the caches aren't empty (--no-touch: they are); W instructions go by, and then L are measured. What comes is the mean in cycles per instruction, with the 95 % interval of a mean; and, of ten of the windows, what they take with half
 the warm-up: by so much the cold start may still count. What stays cold longest is the predictor. Without more M is 50, L 50000, W 200000. A run
 that is hardly longer than M times W is better run as a whole. --steps N takes the first N instructions for the run. --at names the place of the
 instructions that set the registers, as for `continue`; where the program uses their place the command ends so.
@@ -23,7 +23,7 @@ The status is 0 where all windows are measured, 3 where some are missing, 16 whe
 what is proved, 2 for a refusal, 130 if interrupted."""
 import os
 import sys
-from argparse import ArgumentParser, Namespace
+from argparse import ArgumentParser, BooleanOptionalAction, Namespace
 
 from wadrelwy import Fault, built_programs, statuses
 from wadrelwy.sampling import estimate, planned
@@ -44,6 +44,7 @@ def words(parser: ArgumentParser) -> None:
     parser.add_argument("--warm", type=number, default=200000, metavar="W", help="in instructions")
     parser.add_argument("--steps", type=number, default=4294967295, metavar="N", help="take the first N instructions for the run")
     parser.add_argument("--seed", type=number, default=1, metavar="S", help="of the places within their parts")
+    parser.add_argument("--touch", action=BooleanOptionalAction, default=True, help="load what may be in the caches before the warm-up")
     parser.add_argument("--at", type=number, metavar="ADDRESS")
     parser.add_argument("--set", action="append", default=[], metavar="KEY=VALUE,..")
     parser.add_argument("--defences", action="store_true", help=settings.TOLD)

@@ -24,30 +24,31 @@ def gaps(standing: Standing) -> Iterator[tuple[int, int]]:
             first = None
 
 
-def middle(low: int, high: int, pc: int) -> int | None:
+def middle(low: int, high: int, pc: int, size: int) -> int | None:
     """The place in a gap, a multiple of 16, that is nearest to its middle and from which a jump reaches the pc."""
-    places = [place for place in range(low, high - SIZE + 1, ROW) if reaches(place, pc)]
-    return min(places, key=lambda place: abs(2 * place + SIZE - low - high)) if places else None
+    places = [place for place in range(low, high - size + 1, ROW) if reaches(place + size - SIZE, pc)]
+    return min(places, key=lambda place: abs(2 * place + size - low - high)) if places else None
 
 
-def find_room(standing: Standing) -> int:
-    """The place for the stub in the middle of the largest gap: a heap grows up from a gap's low end, a stack down from its high one."""
+def find_room(standing: Standing, size: int = SIZE) -> int:
+    """The place for the stub, with what stands before it so many bytes, in the middle of the largest gap: a heap grows up from a gap's low end,
+    a stack down from its high one."""
     pc = standing.report.pc
     for low, high in sorted(gaps(standing), key=lambda gap: gap[0] - gap[1]):
-        place = middle(low, high, pc)
+        place = middle(low, high, pc, size)
         if place is not None:
             return place
-    raise Fault(f"{standing.image.name}: no {SIZE} bytes within 1 MiB of the pc {pc:08x} that no segment takes and the run has left alone; "
+    raise Fault(f"{standing.image.name}: no {size} bytes within 1 MiB of the pc {pc:08x} that no segment takes and the run has left alone; "
                 "--at ADDRESS names a place that the program doesn't use")
 
 
-def named_room(standing: Standing, address: int) -> int:
-    """The place that was named, if the stub may stand there."""
+def named_room(standing: Standing, address: int, size: int = SIZE) -> int:
+    """The place that was named, if the stub, with what stands before it so many bytes, may stand there."""
     image, pc = standing.image, standing.report.pc
     if address % 4:
         raise Fault(f"--at {address:#x}: code stands at multiples of 4")
-    if not any(low <= address and address + SIZE <= high for low, high in gaps(standing)):
-        raise Fault(f"--at {address:#x}: these {SIZE} bytes aren't all of memory that no segment takes and the run has left alone")
-    if not reaches(address, pc):
+    if not any(low <= address and address + size <= high for low, high in gaps(standing)):
+        raise Fault(f"--at {address:#x}: these {size} bytes aren't all of memory that no segment takes and the run has left alone")
+    if not reaches(address + size - SIZE, pc):
         raise Fault(f"--at {address:#x}: a jump from there doesn't reach the pc {pc:08x}, which is more than 1 MiB away")
     return address

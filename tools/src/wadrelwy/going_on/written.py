@@ -5,7 +5,6 @@ from typing import Iterator, NamedTuple
 from elftools.elf.elffile import ELFFile
 
 from .standing import Standing
-from .stub import SIZE
 
 HEADER, PROGRAM_HEADER, SECTION_HEADER = 52, 32, 40
 CODE, DATA = 5, 6
@@ -47,10 +46,10 @@ def runs_of_bytes(address: int, data: bytes) -> Iterator[tuple[int, bytes]]:
 def segments(standing: Standing, at: int, stub: bytes) -> list[Segment]:
     """All of memory that isn't zero, with the code where it was and the stub at its place."""
     image = standing.image
-    codes = sorted([(start, start + len(data)) for start, data in image.pieces] + [(at, at + SIZE)])
+    codes = sorted([(start, start + len(data)) for start, data in image.pieces] + [(at, at + len(stub))])
     found, behind = [], image.base
     memory = bytearray(standing.memory)
-    memory[at - image.base:at - image.base + SIZE] = stub
+    memory[at - image.base:at - image.base + len(stub)] = stub
 
     def part(low: int, high: int) -> bytes:
         return bytes(memory[low - image.base:high - image.base])

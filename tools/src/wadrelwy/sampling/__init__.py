@@ -2,6 +2,7 @@
 
     places      which windows: one in each of as many equal parts of the run
     chain       the images that begin before them, each made of the one before, so that the instruction set's run is gone over once
+    touching    what an image does first, so that its caches aren't empty
     measuring   what a window takes: the only module that knows how a core's run is looked at
     planned     all windows under all descriptions as a plan of the module `sweep`, and the question that they are of
     estimate    the mean over the windows, its interval, and what the cold start adds

@@ -1,5 +1,5 @@
 """Images that begin at places of a run, each made of the one before it: so the instruction set's run is gone over once, however many there are."""
-from typing import Optional
+from typing import NamedTuple, Optional
 
 from wadrelwy import Fault, built_programs
 from wadrelwy.going_on import room, stub, written
@@ -9,7 +9,9 @@ from wadrelwy.machine import notes
 from wadrelwy.sweep.running import RAN, said_of
 from wadrelwy.verdict.loaded import Loaded
 
-ROW, STUB = 16, stub.STEPS
+from . import touching
+
+ROW = 16
 
 
 def report(program: str, image: str, steps: int, description: str) -> Report:
@@ -21,20 +23,28 @@ def report(program: str, image: str, steps: int, description: str) -> Report:
     return read_report(said)
 
 
+class Caches(NamedTuple):
+    """How many bytes a line has, and how many lines the levels of a description hold together."""
+    line: int
+    lines: int
+
+
 class Chain:
     """The images of one run, whose end is known. All have the 63 instructions that set the registers at one place, which no segment takes and
-    at which the whole run left nothing."""
+    at which the whole run left nothing; before them stand those that touch what may be in the caches, where they are told. `extra` is how
+    many steps the last image takes before it goes on."""
 
-    def __init__(self, program: str, image: Loaded, description: str, whole: Report, at: Optional[int]) -> None:
+    def __init__(self, program: str, image: Loaded, description: str, whole: Report, at: Optional[int], caches: Optional[Caches] = None) -> None:
         self.program, self.image, self.description, self.whole = program, image, description, whole
         self.memory, self.path, self.done, self.extra = bytearray(image.memory), image.name, 0, 0
         self.symbols = written.symbols_of(image.name)
         standing = Standing(image, whole._replace(pc=image.entry), bytes(self.memory), frozenset(whole.rows))
-        self.at = room.find_room(standing) if at is None else room.named_room(standing, at)
+        self.caches, self.size = caches, stub.SIZE + (touching.SIZE if caches else 0)
+        self.at = room.find_room(standing, self.size) if at is None else room.named_room(standing, at, self.size)
 
     def moved(self, told: Report, steps: int) -> None:
         """Takes over what a run of the last image has changed."""
-        own = range(self.at - self.at % ROW, self.at + stub.SIZE)
+        own = range(self.at - self.at % ROW, self.at + self.size)
         if any(address in own for address in told.rows):
             raise Fault(f"{self.image.name}: the run uses {self.at:08x}, where the instructions stand that set the registers; --at ADDRESS "
                         "names another place")
@@ -50,9 +60,19 @@ class Chain:
         self.moved(told, steps)
         standing = Standing(self.image, told, bytes(self.memory), frozenset(told.rows))
         see_code(standing)
-        self.extra = stub.STEPS
-        code = stub.stub(self.at, told.registers, told.pc)
+        code, steps = self.touched(told)
+        code += stub.stub(self.at + len(code), told.registers, told.pc)
+        self.extra = steps + stub.STEPS
         return written.elf_file(written.segments(standing, self.at, code), self.symbols, self.at)
+
+    def touched(self, told: Report) -> tuple[bytes, int]:
+        """The code that loads what may be in the caches, and its steps."""
+        if self.caches is None:
+            return b"", 0
+        codes = [(start, start + len(data)) for start, data in self.image.pieces]
+        lines = touching.lines_of(self.memory, self.image.base, self.caches.line, codes)
+        lines = touching.chosen(lines, told.rows, self.caches.line, self.caches.lines)
+        return touching.touching(touching.stretches(lines, self.caches.line), self.caches.line)
 
     def check_end(self) -> None:
         """The run of the last image ends as the whole run does: so the program used the place of the 63 instructions for nothing."""

@@ -18,7 +18,7 @@ from wadrelwy.view.description import read_description
 from . import chain, measuring, places
 
 PLAN, QUESTION = "windows.json", "sample.json"
-KEYS = ("windows", "length", "warm", "seed", "steps", "at", "set", "defences")
+KEYS = ("windows", "length", "warm", "seed", "steps", "at", "touch", "set", "defences")
 
 
 class Question(NamedTuple):
@@ -103,8 +103,20 @@ def read_question(folder: str) -> Question:
         raise Fault(f"{os.path.join(folder, QUESTION)}: no question of these tools: give the whole command again") from None
 
 
+class Begin(NamedTuple):
+    """An image, and how many steps it takes before it goes on where its name says."""
+    image: str
+    extra: int
+
+
+def caches_of(values: dict[str, Any]) -> chain.Caches:
+    """The lines of a description's caches."""
+    number = {key: values.get(f"cache.{key}", 0) for key in ("line", "sets", "ways", "second_sets", "second_ways")}
+    return chain.Caches(number["line"], number["sets"] * number["ways"] + number["second_sets"] * max(number["second_ways"], 1))
+
+
 class Maker:
-    """Makes a plan: the windows are those of the image's run, their images one chain for each memory that the descriptions give."""
+    """Makes a plan: the windows are those of the image's run, their images one chain for each memory, and caches, that the descriptions give."""
 
     def __init__(self, asked: Namespace, simulator: str, words: dict[str, Any]) -> None:
         self.asked, self.words, self.folder = asked, words, asked.output
@@ -120,12 +132,12 @@ class Maker:
     def made(self) -> tuple[plan.Plan, Question]:
         sets, keys = plan.sets_of(self.asked)
         runs: list[plan.Run] = []
-        chains: dict[tuple[Any, ...], tuple[list[places.Window], dict[int, str]]] = {}
+        chains: dict[tuple[Any, ...], tuple[list[places.Window], dict[int, Begin]]] = {}
         wholes: set[tuple[str, int]] = set()
         for base, values, description, text in plan.described(self.folder, self.asked, sets):
             memory = self.memory_of(description)
             if memory not in chains:
-                chains[memory], whole = self.images(description)
+                chains[memory], whole = self.images(description, memory[-1] if self.asked.touch else None)
                 wholes.add(whole)
             windows, images = chains[memory]
             runs += [self.run(base, values, description, text, window, images[window.start]) for window in windows]
@@ -144,31 +156,31 @@ class Maker:
         if status not in running.RAN:
             raise Fault(f"{description}: status {status}, {notes.told(note, {}) or said[-60:].strip()} (docs/using.md, \"Refusals\")")
         values = settings.parsed(content(self.path(description)).decode(), description)
-        return tuple(values.get(f"ram.{key}", 0) for key in ("base", "size", "misaligned"))
+        return *(values.get(f"ram.{key}", 0) for key in ("base", "size", "misaligned")), *((caches_of(values),) if self.asked.touch else ())
 
-    def images(self, description: str) -> tuple[tuple[list[places.Window], dict[int, str]], tuple[str, int]]:
+    def images(self, description: str, caches: Optional[chain.Caches]) -> tuple[tuple[list[places.Window], dict[int, Begin]], tuple[str, int]]:
         """The windows of the whole run in a description's memory, the image before each by the steps before it, and how the run ends."""
         asked, program, where = self.asked, self.path(self.copy), self.path(description)
         image = load(asked.image, read_description(where))
         whole = chain.report(program, asked.image, asked.steps, where)
         windows = places.windows(whole.retired, asked.windows, asked.length, asked.warm, asked.seed)
         windows += places.halved(windows)
-        begin, images = time.monotonic(), {}
-        going = chain.Chain(program, image, where, whole, asked.at)
+        begun, images = time.monotonic(), {}
+        going = chain.Chain(program, image, where, whole, asked.at, caches)
         starts = sorted({window.start for window in windows})
         for done, start in enumerate(starts, 1):
             data = going.to(start) if start else content(asked.image, IMAGE_MAX)
-            images[start] = copied(self.folder, "images", f"{self.name}-{start}", ".elf", data)
+            images[start] = Begin(copied(self.folder, "images", f"{self.name}-{start}", ".elf", data), going.extra if start else 0)
             if start:
-                going.path = self.path(images[start])
-            running.tell(sys.stderr, "places", done, len(starts), time.monotonic() - begin)
+                going.path = self.path(images[start].image)
+            running.tell(sys.stderr, "places", done, len(starts), time.monotonic() - begun)
         going.check_end()
         running.clear(sys.stderr)
         return (windows, images), (whole.end, whole.retired)
 
-    def run(self, base: str, values: dict[str, Any], description: str, text: bytes, window: places.Window, image: str) -> plan.Run:
+    def run(self, base: str, values: dict[str, Any], description: str, text: bytes, window: places.Window, begin: Begin) -> plan.Run:
         """A window as a run of the plan: its words are how many retire in the new image before the window, and behind it."""
-        first = window.warm + (chain.STUB if window.start else 0)
+        image, first = begin.image, begin.extra + window.warm
         words = [str(first), str(first + self.asked.length)]
         digest = sha256(content(self.path(image)))
         name = sha256(" ".join([self.sources[0].sha256, digest, sha256(text), *words]).encode())[:16]
