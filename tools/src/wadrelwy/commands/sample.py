@@ -4,12 +4,13 @@
     wadrelwy sample IMAGE DESCRIPTION.. [..] --list [--pack] [--tasks N] [--minutes N] [--memory MEGABYTES]
     wadrelwy sample -o FOLDER [--gather [--from FOLDER..]]
 
-`isa` goes over the run, a hundred times as fast as a core does, and leaves images that go on at M places (as `wadrelwy continue` makes them, each
-of the one before): one in each of M equal parts of the run, by chance within it. In a core that begins cold there, memory that isn't zero is
-loaded, line by line, so that the caches aren't empty (--no-touch: they are); W instructions go by, and then L are measured. What comes is the mean in cycles per instruction, with the 95 % interval of a mean; and, of ten of the windows, what they take with half
-the warm-up: by so much the cold start may still count. What stays cold longest is the predictor. Without more M is 50, L 50000, W 200000. A run
-that is hardly longer than M times W is better run as a whole. --steps N takes the first N instructions for the run. --at names the place of the
-instructions that set the registers, as for `continue`; where the program uses their place the command ends so.
+`isa` goes over the run, a hundred times as fast as a core does, and leaves images that go on at M places, each made of the one before as
+`wadrelwy continue` makes them: one in each of M equal parts of the run, by chance within its part. In a core that begins cold there, a word of
+each line of data that isn't zero is loaded, so that the caches aren't empty (--no-touch: they are); W instructions go by, and then L are
+measured. What comes is the mean in cycles per instruction, with the 95 % interval of a mean; and, of ten of the windows, what they take with
+half the warm-up: by so much the cold start may still count. What stays cold longest is the predictor. Without more M is 50, L 50000, W 200000. A
+run that is hardly longer than M times W is better run as a whole. --steps N takes the first N instructions for the run. --at names the place of
+the instructions that come first, as for `continue`; a program that uses their place is refused.
 
 No theorem ties an estimate to a run. Each image is one of which all promises hold; that they are like the run that was asked for is what the two
 numbers are for.

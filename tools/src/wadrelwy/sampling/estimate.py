@@ -102,7 +102,8 @@ def about(question: Question) -> Iterator[str]:
 def told(question: Question, made: Estimate) -> Iterator[str]:
     """An estimate in words."""
     low, high = max(made.mean - made.wide, 0), made.mean + made.wide
-    yield f"{made.name}: {made.mean:.4f} cycles per instruction, +- {made.half:.4f} ({100 * made.half / made.mean:.1f} %); {told_cycles(made.mean * question.retired)} cycles"
+    yield (f"{made.name}: {made.mean:.4f} cycles per instruction, +- {made.half:.4f} ({100 * made.half / made.mean:.1f} %); "
+           f"{told_cycles(made.mean * question.retired)} cycles")
     if made.cold is None:
         yield "  cold start: not asked; all windows have the run's own begin before them"
     else:
