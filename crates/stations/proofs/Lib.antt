@@ -5,3 +5,4 @@ pub mod Dropping
 pub mod Leaving
 mod Awaited
 mod AbleMarks
+mod MarkGone

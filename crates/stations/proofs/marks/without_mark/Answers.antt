@@ -1,6 +1,6 @@
 use Rattle.std.proofs.Common.{arith}
 use Rattle.std.proofs.lemmas.Nat.{pow_below}
-use Rattle.stations.proofs.AbleMarks.{left_last, left_older, left_younger, positive}
+use Rattle.stations.proofs.MarkGone.{left_last, left_older, left_younger, positive}
 use Rattle.stations.proofs.marks.without_mark.Goals as goal
 
 pub returns-clause-older : goal.returns-clause-older

@@ -3,7 +3,7 @@ use Rattle.std.specs.List.{remove}
 use Rattle.std.proofs.lemmas.List.{length-map}
 use Rattle.stations.specs.Stations.{Stations}
 use Rattle.stations.specs.Places.{NotesAble, held_of, station_in}
-use Rattle.stations.proofs.AbleMarks.{able_remove}
+use Rattle.stations.proofs.MarkGone.{able_remove}
 use Rattle.stations.proofs.Placing.{placed_remove, held_remove}
 use Rattle.stations.proofs.by_age.Stations.remove.Goals as goal
 
