@@ -116,6 +116,7 @@ impl MarkedPath {
         let base = self.isa.ram().base();
         let stream = self.isa.regs()[10];
         let from = self.isa.regs()[11];
+        // marks move first, by registers and memory as the instruction finds them
         move_next(&mut self.regs, &mut self.bytes, &self.isa);
         let stepped = self.isa.step(out);
         if let Stepped::Next = stepped {

@@ -6,7 +6,6 @@ use Rattle.rv_types.specs.Memory.{Ram}
 use Rattle.window_model.specs.Fetch.{instr_at}
 use Rattle.secret_marks.specs.Streams.{public_in}
 use Rattle.constant_time.specs.PathMarks.{PathMarks, after_step}
-use Rattle.path_marks.specs.Moved.{access_at}
 use Rattle.path_marks.specs.State.{MarkedState}
 use Rattle.path_marks.proofs.Going.{going, marks_behind, memory_stays, piece_inside, store_inside}
 use Rattle.path_marks.proofs.Words.{goes_there, some_there}
