@@ -3,3 +3,4 @@ pub mod Distinct
 pub mod Each
 pub mod Events
 pub mod Sums
+pub mod Worked
