@@ -350,6 +350,9 @@ class Sampling(Folder):
                 self.assertIn(said, told.stderr)
         told = self.sample(image=False)
         self.assertEqual((told.returncode, told.stderr.count("\n")), (2, 1))
+        told = self.sample(self.description, self.image, image=False)
+        self.assertEqual((told.returncode, told.stdout, told.stderr.count("\n")), (2, "", 1))
+        self.assertIn("the image comes first, and the descriptions behind it", told.stderr)
 
     def test_first_steps_alone(self):
         """--steps takes the first instructions for the run, which is told."""

@@ -81,6 +81,8 @@ def question_of(asked: Namespace, simulator: str) -> dict[str, Any]:
 
 def make(asked: Namespace, simulator: str) -> tuple[plan.Plan, Question]:
     """The plan of these words with its images; the one that the folder has, where it is of these very words and files."""
+    if content(asked.image)[:4] != b"\x7fELF":
+        raise Fault(f"{asked.image}: no ELF image; the image comes first, and the descriptions behind it")
     words = question_of(asked, simulator)
     if os.path.exists(os.path.join(asked.output, QUESTION)):
         found = read_question(asked.output)
