@@ -244,13 +244,18 @@ class Chain(Folder):
         self.assertEqual(going.at, first)
 
     def test_a_program_that_uses_the_place(self):
-        """A place that the run writes is found before the first image; one that it only reads by its other end; one that it writes and puts
-        back when that is met."""
+        """A place that the run writes is found before the first image; one that it only reads, or puts out, by the other
+        end or output; one that it writes and puts back when that is met."""
         with self.assertRaisesRegex(Fault, "aren't all of memory that no segment takes"):
             self.chain(self.image, 0x20000)
         reads = (0x00020337, 0x00000013, 0x00000013, 0x00032503, 0x05d00893, 0x00000073)
         going = self.chain(support.image_of_words("reads", reads), 0x20000)
         going.path = support.file_of("read.elf", going.to(2))
+        with self.assertRaisesRegex(Fault, "ends otherwise than the whole one"):
+            going.check_end()
+        puts_out = (0x000205b7, 0x00400613, 0x00100513, 0x04000893, 0x00000073, 0x00000513, 0x05d00893, 0x00000073)
+        going = self.chain(support.image_of_words("puts_out", puts_out), 0x20000)
+        going.path = support.file_of("put.elf", going.to(2))
         with self.assertRaisesRegex(Fault, "ends otherwise than the whole one"):
             going.check_end()
         back = (0x00020337, 0x00000013, 0x00632023, 0x00000013, 0x00032023, 0x05d00893, 0x00000073)

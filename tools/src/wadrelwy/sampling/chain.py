@@ -37,6 +37,7 @@ class Chain:
     def __init__(self, program: str, image: Loaded, description: str, whole: Report, at: Optional[int], caches: Optional[Caches] = None) -> None:
         self.program, self.image, self.description, self.whole = program, image, description, whole
         self.memory, self.path, self.done, self.extra = bytearray(image.memory), image.name, 0, 0
+        self.out: tuple[str, ...] = ()
         self.symbols = written.symbols_of(image.name)
         standing = Standing(image, whole._replace(pc=image.entry), bytes(self.memory), frozenset(whole.rows))
         self.caches, self.size = caches, stub.SIZE + (touching.SIZE if caches else 0)
@@ -50,7 +51,7 @@ class Chain:
                         "names another place")
         for address, row in told.rows.items():
             self.memory[address - self.image.base:address - self.image.base + len(row)] = row
-        self.done = steps
+        self.done, self.out = steps, self.out + told.out
 
     def to(self, steps: int) -> bytes:
         """The image that goes on after so many steps, more than those of the one before; `path` is to be where it stands."""
@@ -75,7 +76,8 @@ class Chain:
         return touching.touching(touching.stretches(lines, self.caches.line), self.caches.line)
 
     def check_end(self) -> None:
-        """The run of the last image ends as the whole run does: so the program used the place of the 63 instructions for nothing."""
+        """The run of the last image ends as the whole run does, with what all put out: so the program used the place of the first instructions
+        for nothing."""
         left = self.whole.retired - self.done + self.extra
         # a trap is told by the step behind the last
         told = report(self.program, self.path, left + (not self.whole.goes_on), self.description)
@@ -83,7 +85,7 @@ class Chain:
         memory = bytearray(self.image.memory)
         for address, row in self.whole.rows.items():
             memory[address - self.image.base:address - self.image.base + len(row)] = row
-        ended = told._replace(rows={}, retired=told.retired - left) == self.whole._replace(rows={}, retired=0)
+        ended = told._replace(rows={}, retired=told.retired - left, out=self.out) == self.whole._replace(rows={}, retired=0)
         if not ended or memory != self.memory:
             raise Fault(f"{self.image.name}: gone on with from one place to the next, the run ends otherwise than the whole one: it uses "
                         f"{self.at:08x}, where the instructions stand that set the registers; --at ADDRESS names another place")
