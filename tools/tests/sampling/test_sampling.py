@@ -114,6 +114,13 @@ class Folder(unittest.TestCase):
 SHORT = ("--windows", "10", "--length", "100", "--jobs", "2")
 
 
+def taken_in(rows, first, last, size=1 << 16):
+    """What a trace of these rows tells, read in pieces of so many bytes."""
+    whole = b"".join(rows)
+    pieces = iter([whole[at:at + size] for at in range(0, len(whole), size)])
+    return measuring.taken_in(lambda: next(pieces, b""), first, last)
+
+
 class Places(unittest.TestCase):
     def test_one_in_each_part(self):
         for steps, count, length, warm, seed in ((1000, 10, 100, 50, 1), (51205, 20, 100, 300, 2), (1 << 32, 50, 10000, 200000, 3)):
@@ -148,10 +155,11 @@ class Numbers(unittest.TestCase):
     def test_taken_in(self):
         """Of rows that retire none, one, three and two."""
         rows = [b"1 fet:00010000\n", b"2 ret:0 fet:00010004\n", b"7 ret:1 ret:2 ret:3\n", b"8\n", b"9 done:4 ret:4 ret:5\n", b"end exit 0 retired 6 cycles 9\n"]
-        for first, last, told in ((0, 1, (0, 0, 2, 1)), (1, 2, (2, 1, 7, 4)), (2, 5, (7, 4, 9, 6)), (1, 6, (2, 1, 9, 6))):
-            self.assertEqual(measuring.taken_in(rows, first, last), Taken(*told))
-        for first, last in ((0, 7), (7, 8), (2, 7)):
-            self.assertIsNone(measuring.taken_in(rows, first, last))
+        for size in (1, 7, 30, 1000):
+            for first, last, told in ((0, 1, (0, 0, 2, 1)), (1, 2, (2, 1, 7, 4)), (2, 5, (7, 4, 9, 6)), (1, 6, (2, 1, 9, 6))):
+                self.assertEqual(taken_in(rows, first, last, size), Taken(*told))
+            for first, last in ((0, 7), (7, 8), (2, 7)):
+                self.assertIsNone(taken_in(rows, first, last, size))
 
     def test_lines(self):
         taken = Taken(5, 10, 105, 60)
@@ -380,7 +388,7 @@ class Program(Folder):
         for row in self.rows():
             begin = int(row["begin"])
             self.assertEqual(row["warm"], row["begin"])
-            self.assertEqual([int(row[name]) for name in Taken._fields], list(measuring.taken_in(trace, begin, begin + 5)))
+            self.assertEqual([int(row[name]) for name in Taken._fields], list(taken_in(trace, begin, begin + 5)))
         self.assertIn("cold start: not asked", told.stdout)
 
     def test_estimate_beside_the_run(self):

@@ -1,5 +1,6 @@
 """What a window takes. A run of the core tells when an instruction retires in its trace alone: so this reads `trace` from a pipe, counts what
 retires, and ends it behind the window. Whatever tells more cheaply in which cycle so many have retired takes this module's place."""
+import os
 import re
 import subprocess
 import tempfile
@@ -8,6 +9,8 @@ from typing import Callable, Iterable, NamedTuple, Optional
 from wadrelwy import Fault, built_programs
 
 RETIRES = b" ret:"
+# so many bytes of a trace are read at once
+PIECE = 1 << 20
 # more cycles than any window takes
 FOREVER = 4294967295
 TOLD = re.compile(r"cycle (\d+) retired (\d+) to cycle (\d+) retired (\d+)")
@@ -46,18 +49,44 @@ def read_taken(line: str) -> Optional[Taken]:
     return taken if taken and taken.first < taken.last and taken.first_cycle < taken.last_cycle else None
 
 
-def taken_in(lines: Iterable[bytes], first: int, last: int) -> Optional[Taken]:
-    """What the rows of a trace tell of the window from `first` to `last` retired instructions; none where they end before."""
-    retired, begin = 0, None if first else (0, 0)
-    for line in lines:
-        retired += line.count(RETIRES)
-        if retired < first or begin is not None and retired < last:
-            continue
-        cycle = int(line.split(b" ", 1)[0])
-        if retired >= last and begin is not None:
-            return Taken(*begin, cycle, retired)
-        begin = cycle, retired
-    return None
+class Counting:
+    """Counts what retires in rows of a trace, until the window is behind: `found` is what it took."""
+
+    def __init__(self, first: int, last: int) -> None:
+        self.first, self.last, self.retired = first, last, 0
+        self.begin: Optional[tuple[int, int]] = None if first else (0, 0)
+        self.found: Optional[Taken] = None
+
+    def rows(self, lines: Iterable[bytes]) -> None:
+        """Takes these rows one by one."""
+        for line in lines:
+            self.retired += line.count(RETIRES)
+            if self.retired < self.first or self.begin is not None and self.retired < self.last:
+                continue
+            cycle = int(line.split(b" ", 1)[0])
+            if self.begin is not None:
+                self.found = Taken(*self.begin, cycle, self.retired)
+                return
+            self.begin = cycle, self.retired
+
+    def piece(self, rows: bytes) -> None:
+        """Takes whole rows: all at once where neither end of the window is among them."""
+        more = rows.count(RETIRES)
+        if self.retired + more < (self.first if self.begin is None else self.last):
+            self.retired += more
+        else:
+            self.rows(rows.splitlines())
+
+
+def taken_in(read: Callable[[], bytes], first: int, last: int) -> Optional[Taken]:
+    """What a trace tells of the window from `first` to `last` retired instructions; none where it ends before. `read` answers its next bytes,
+    and none at its end."""
+    counting, rest = Counting(first, last), b""
+    while counting.found is None and (data := read()):
+        whole, newline, rest = (rest + data).rpartition(b"\n")
+        if newline:
+            counting.piece(whole)
+    return counting.found
 
 
 Begun = Callable[["subprocess.Popen[bytes]"], None]
@@ -67,11 +96,12 @@ def measured(program: str, description: str, image: str, first: int, last: int, 
     """What a window takes under a description, in a run of the image from its start. `begun` is given the process."""
     words = [program, "trace", description, image, "--cycles", str(FOREVER)]
     with tempfile.TemporaryFile() as said:
-        child = subprocess.Popen(words, stdout=subprocess.PIPE, stderr=said, bufsize=1 << 20, start_new_session=True)
+        child = subprocess.Popen(words, stdout=subprocess.PIPE, stderr=said, bufsize=0, pipesize=PIECE, start_new_session=True)
         begun(child)
         assert child.stdout is not None
+        pipe = child.stdout.fileno()
         try:
-            found = taken_in(child.stdout, first, last)
+            found = taken_in(lambda: os.read(pipe, PIECE), first, last)
         finally:
             child.stdout.close()
             status = child.wait()
