@@ -53,7 +53,9 @@ class Parser(argparse.ArgumentParser):
     """A parser whose refusal is one line."""
 
     def error(self, message: str) -> NoReturn:
-        raise Fault(f"{message}; `{self.prog} --help` tells the words")
+        names = [action.metavar for action in self._actions if not action.option_strings and isinstance(action.metavar, str)]
+        order = f" of `{' '.join([self.prog, *names])}`" if message.startswith("the following arguments are required") and len(names) > 1 else ""
+        raise Fault(f"{message}{order}; `{self.prog} --help` tells the words")
 
 
 def listed() -> str:

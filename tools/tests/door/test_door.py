@@ -76,6 +76,12 @@ class Help(unittest.TestCase):
             self.assertEqual((told.returncode, told.stdout, told.stderr.count("\n")), (2, "", 1))
             self.assertIn(near, told.stderr)
 
+    def test_a_word_that_is_missing(self):
+        """Where one is missing the order of all is told: an image alone is taken for the description."""
+        told = run("run", TWO_FILES[1])
+        self.assertEqual((told.returncode, told.stdout), (2, ""))
+        self.assertIn("required: IMAGE of `wadrelwy run DESCRIPTION IMAGE`; `wadrelwy run --help`", told.stderr)
+
     def test_each_of_the_developers_has_one(self):
         for program in DEVELOPERS:
             with self.subTest(program=program):
