@@ -4,6 +4,10 @@ use Rattle.std.specs.List.{All, AllPairs, Contains}
 use Rattle.window_model.specs.declared.Entry.{Entry}
 use Rattle.core_parts.specs.declared.decided.Put.{Put}
 
+-- positions of entries in flight, oldest first
+pub record Positions : Type 0 where
+  pub items : List ℕ
+
 -- the positions of the entries that are put in their places
 abbrev pub positions_of : List Put → List ℕ
 positions_of puts = map (λ p. p.position) puts

@@ -11,7 +11,7 @@
 //! memory and registers in this cycle; the stations of the entries that begin are freed, and the parts go on to refine
 //! the window. The answer names the entries that have issued, or of which a part has, and no others.
 //!
-//! Clauses: `issue`.
+//! Clauses: `issue`; `Positions::as_slice`.
 #![tactic(auto)]
 
 ghost use Rattle.issue.specs.Telling.{TellsIssue};
@@ -31,6 +31,7 @@ mod seen;
 mod shared;
 
 pub use candidate::{Candidate, candidate_at};
+pub use named::Positions;
 pub use phase::issue;
 
 /// What taint lets go by an entry's roots, with what Issue asks besides, is what lets it issue, where the parts refine

@@ -7,12 +7,11 @@ ghost use Rattle.window_model.specs.inner.Row.{HasRoom, IsLonger, most_issued, w
 ghost use Rattle.visibility.specs.Point.{HasAdvanced};
 ghost use Rattle.issue.specs.Named.{NamesIssued};
 
-use crate::named::positions;
+use crate::named::{Positions, name_each};
 use crate::placing::place;
 use crate::seen::Seen;
 use crate::shared::{take_registers, touch};
-use arrayvec::ArrayVec;
-use core_parts::{PUTS_MAX, Parts};
+use core_parts::Parts;
 use rename_taint::RenameTaint;
 use window_model::Row;
 
@@ -25,7 +24,7 @@ use window_model::Row;
 /// goes on to say which entries are visible. It answers the positions of the entries that have issued, or of which a
 /// part has, oldest first. It is built into its caller, so that nothing is made where the answer is dropped.
 #[inline(always)]
-pub fn issue<R: RenameTaint>(parts: &mut Parts<R>, row: &mut Row) -> ArrayVec<u32, PUTS_MAX>
+pub fn issue<R: RenameTaint>(parts: &mut Parts<R>, row: &mut Row) -> Positions
     requires advanced { HasAdvanced parts.old.point parts.old.machine.window }
     requires settled { Each WaitsOrDone parts.old.machine.window }
     requires room { HasRoom most_issued row.old }
@@ -36,7 +35,7 @@ pub fn issue<R: RenameTaint>(parts: &mut Parts<R>, row: &mut Row) -> ArrayVec<u3
     ensures named { NamesIssued parts.old.machine.window parts.new.machine.window result.items }
 {
     if !parts.stations.any_able() {
-        return ArrayVec::new();
+        return Positions::none();
     }
     let divider = parts.ports.divider();
     parts.ports.begin(parts.cycle as u64);
@@ -76,5 +75,5 @@ pub fn issue<R: RenameTaint>(parts: &mut Parts<R>, row: &mut Row) -> ArrayVec<u3
         parts.cycle,
         &parts.desc,
     );
-    positions(&parts.decided.puts)
+    name_each(&parts.decided.puts)
 }

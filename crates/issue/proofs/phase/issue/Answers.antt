@@ -76,4 +76,4 @@ returns-clause-advanced g c =
 
 pub returns-clause-named : goal.returns-clause-named
 returns-clause-named g c =
-    machine_named _ _ c.decide.new.decided.puts.items _ _ c.parts.invariant c.parts.view_is c.decide.ensures.puts (ap (λ (r : Ring). r.entries) c.place.ensures.window) c.positions.ensures
+    machine_named _ _ c.decide.new.decided.puts.items _ _ c.parts.invariant c.parts.view_is c.decide.ensures.puts (ap (λ (r : Ring). r.entries) c.place.ensures.window) c.name_each.ensures
