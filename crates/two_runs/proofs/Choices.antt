@@ -7,8 +7,7 @@ pub if_both : {A : Type 0} (R : A → A → Type 0) (c c2 : Bool) (a a2 k k2 : A
     R (if c then a else k) (if c2 then a2 else k2)
 if_both R true true a a2 k k2 q p n = p refl
 if_both R false false a a2 k k2 q p n = n refl
-if_both R true false a a2 k k2 q p n = absurd (cc)
-if_both R false true a a2 k k2 q p n = absurd (cc)
+if_both R _ _ a a2 k k2 q p n = absurd (cc)
 
 -- two runs both have nothing, or things that are related
 abbrev pub Both : {A : Type 0} → (A → A → Type 0) → Option A → Option A → Type 0
@@ -21,5 +20,4 @@ pub by_both : {A : Type 0} (R : A → A → Type 0) (P : Option A → Option A �
     (o o2 : Option A) → Both R o o2 → P o o2
 by_both R P none some None None s = none
 by_both R P none some (Some a) (Some a2) s = some a a2 s
-by_both R P none some None (Some a2) s = absurd s
-by_both R P none some (Some a) None s = absurd s
+by_both R P none some _ _ s = absurd s

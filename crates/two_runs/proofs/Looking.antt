@@ -10,7 +10,7 @@ use Rattle.window_model.specs.Order.{writes, sources, base_of, is_load, is_store
 use Rattle.window_model.specs.Taint.{address_tainted, any_tainted, permits, tainted, visible}
 use Rattle.window_model.specs.Ready.{all_known, gives, holds, is_known}
 use Rattle.window_model.specs.Access.{all_covered, any_store_hidden, covers}
-use Rattle.window_model.proofs.Booleans.{and_when, is_some_if, neither}
+use Rattle.window_model.proofs.Booleans.{and_no, and_not, and_when, is_some_if, neither}
 use Rattle.window_model.proofs.Taints.{any_agree, tainted_cons}
 use Rattle.two_runs.specs.Laws.{AddressTaintedAlike, ForwardedAlike, KnownAlike, LetAlike, OperandsTaintedAlike, StoresDoneAlike, TaintedAlike, VisibleAlike}
 use Rattle.two_runs.specs.Seen.{SeenEntries, without_outcome}
@@ -19,8 +19,7 @@ use Rattle.two_runs.specs.Seen.{SeenEntries, without_outcome}
 pub same_rest : (model : SttModel) (b b2 : List Entry) → SeenEntries model b b2 → map without_outcome b ≡ map without_outcome b2
 same_rest model [] [] s = refl
 same_rest model (e ∷ b) (e2 ∷ b2) s = ap₂ (λ t ts. t ∷ ts) s.0.but_outcome (same_rest model b b2 s.1)
-same_rest model [] (e2 ∷ b2) s = absurd s
-same_rest model (e ∷ b) [] s = absurd s
+same_rest model _ _ s = absurd s
 
 -- ---- lists of tests
 
@@ -38,12 +37,9 @@ all_same f g rs rs2 p h = ap (list_all f) p ∙ over rs2
 
 -- the first of two tests is asked where the second holds
 and_same : (a a2 b b2 : Bool) → b ≡ b2 → (b ≡ true → a ≡ a2) → (a && b) ≡ (a2 && b2)
-and_same true true b b2 p h = p
-and_same false false b b2 p h = refl
-and_same true false true b2 p h = absurd (let d = h refl in cc)
-and_same true false false b2 p h = p ∙ sym p
-and_same false true true b2 p h = absurd (let d = h refl in cc)
-and_same false true false b2 p h = p
+and_same a a2 true true p h = ap (λ c. c && true) (h refl)
+and_same a a2 false false p h = and_no a false refl ∙ sym (and_no a2 false refl)
+and_same a a2 _ _ p h = absurd (cc)
 
 -- ---- what is visible, tainted, known
 
@@ -52,8 +48,7 @@ pub same_visible : VisibleAlike
 same_visible model [] [] s = refl
 same_visible model (e ∷ b) (e2 ∷ b2) s =
     and_same (permits model e) (permits model e2) (visible model b) (visible model b2) (same_visible model b b2 s.1) s.0.permits_alike
-same_visible model [] (e2 ∷ b2) s = absurd s
-same_visible model (e ∷ b) [] s = absurd s
+same_visible model _ _ s = absurd s
 
 -- two runs see alike whether a register is tainted
 pub same_tainted : TaintedAlike
@@ -67,8 +62,7 @@ same_tainted model (e ∷ b) (e2 ∷ b2) r s =
     let c = tainted_cons model e b r in
     let c2 = tainted_cons model e2 b2 r in
     cc
-same_tainted model [] (e2 ∷ b2) r s = absurd s
-same_tainted model (e ∷ b) [] r s = absurd s
+same_tainted model _ _ r s = absurd s
 
 -- two runs see alike whether some operand of an entry is tainted
 pub same_any : OperandsTaintedAlike
@@ -89,8 +83,7 @@ same_known d (e ∷ b) (e2 ∷ b2) r s =
     ∙ ap (λ v. not (holds d.stt_defence && is_load e2.item.kind && not v) && is_done e2.state) v in
     let more = same_known d b b2 r s.1 in
     ap (λ k. if writes r e then gives d b e else k) more ∙ ap (λ k. if writes r e then k else is_known d b2 r) g ∙ ap (λ w. if w then gives d b2 e2 else is_known d b2 r) w
-same_known d [] (e2 ∷ b2) r s = absurd s
-same_known d (e ∷ b) [] r s = absurd s
+same_known d _ _ r s = absurd s
 
 -- two runs see alike whether the writers of equal registers all give their values
 pub same_all_known : (d : Desc) (b b2 : List Entry) (rs rs2 : List ℕ) → SeenEntries d.stt_model b b2 → rs ≡ rs2 → all_known d b rs ≡ all_known d b2 rs2
@@ -103,8 +96,7 @@ pub same_stores_done : StoresDoneAlike
 same_stores_done model [] [] s = refl
 same_stores_done model (e ∷ b) (e2 ∷ b2) s =
     ap₂ (λ x y. x && y) (ap (λ (t : Entry). not (is_store t.item.kind) || is_done t.state) s.0.but_outcome) (same_stores_done model b b2 s.1)
-same_stores_done model [] (e2 ∷ b2) s = absurd s
-same_stores_done model (e ∷ b) [] s = absurd s
+same_stores_done model _ _ s = absurd s
 
 -- two runs see alike whether some older store has a hidden address
 pub same_hidden : (model : SttModel) (b b2 : List Entry) → SeenEntries model b b2 → any_store_hidden model b ≡ any_store_hidden model b2
@@ -114,8 +106,7 @@ same_hidden model (e ∷ b) (e2 ∷ b2) s =
     let a = same_address model b b2 s.1 e e2 s.0.but_outcome in
     let rest = same_hidden model b b2 s.1 in
     cc
-same_hidden model [] (e2 ∷ b2) s = absurd s
-same_hidden model (e ∷ b) [] s = absurd s
+same_hidden model _ _ s = absurd s
 
 -- two runs see alike whether a byte is covered, where no older store has a hidden address
 same_covered : (model : SttModel) (b b2 : List Entry) (a : ℕ) → SeenEntries model b b2 → any_store_hidden model b ≡ false → is_some (find (covers a) b) ≡ is_some (find (covers a) b2)
@@ -124,18 +115,13 @@ same_covered model (e ∷ b) (e2 ∷ b2) a s h =
     let none = neither (is_store e.item.kind && address_tainted model b e) (any_store_hidden model b) h in
     let c : covers a e ≡ covers a e2 = s.0.covers_alike a (λ st. and_when (is_store e.item.kind) (address_tainted model b e) st none.0) in
     is_some_if (covers a e) (covers a e2) e e2 (find (covers a) b) (find (covers a) b2) c (same_covered model b b2 a s.1 none.1)
-same_covered model [] (e2 ∷ b2) a s h = absurd s
-same_covered model (e ∷ b) [] a s h = absurd s
+same_covered model _ _ a s h = absurd s
 
 -- full forwarding is alike: where a store is hidden, neither forwards
 forward_if : (c c2 h h2 : Bool) → h ≡ h2 → (h ≡ false → c ≡ c2) → (c && not h) ≡ (c2 && not h2)
 forward_if c c2 false false q p = ap (λ b. b && true) (p refl)
-forward_if true true true true q p = refl
-forward_if true false true true q p = refl
-forward_if false true true true q p = refl
-forward_if false false true true q p = refl
-forward_if c c2 true false q p = absurd (cc)
-forward_if c c2 false true q p = absurd (cc)
+forward_if c c2 true true q p = and_not c true refl ∙ sym (and_not c2 true refl)
+forward_if c c2 _ _ q p = absurd (cc)
 
 -- two runs see alike whether older stores forward all bytes of an access
 pub same_forward : ForwardedAlike
@@ -149,8 +135,7 @@ by_tests false a p t t2 c c2 q h = refl
 by_tests true a true t t2 c c2 q h = refl
 by_tests true a false true true c c2 q h = refl
 by_tests true a false false false c c2 q h = ap (λ c. a && not c) (h refl refl)
-by_tests true a false true false c c2 q h = absurd (cc)
-by_tests true a false false true c c2 q h = absurd (cc)
+by_tests true a false _ _ c c2 q h = absurd (cc)
 
 -- two runs see alike whether older stores let a load of these bytes go
 pub stores_let_alike : LetAlike
@@ -164,5 +149,4 @@ stores_let_alike model passes bytes (e ∷ b) (e2 ∷ b2) s =
     (λ k n. any_same (λ a. covers a e) (λ a. covers a e2) bytes bytes refl (λ a. s.0.covers_alike a (λ k. n)))
     ∙ ap (λ (u : Entry). not (is_store u.item.kind) || ((has_address u || passes) && (has_data u || not tainted2 && not covered2))) s.0.but_outcome in
     ap₂ (λ l r. l && r) one (stores_let_alike model passes bytes b b2 s.1)
-stores_let_alike model passes bytes [] (e2 ∷ b2) s = absurd s
-stores_let_alike model passes bytes (e ∷ b) [] s = absurd s
+stores_let_alike model passes bytes _ _ s = absurd s

@@ -76,8 +76,7 @@ module _ (S : List Entry → List Entry → Type 0) (older : (e e2 : Entry) (b b
   pub peel : (es es2 b b2 : List Entry) → length es ≡ length es2 → S (reverse_aux es b) (reverse_aux es2 b2) → S b b2
   peel [] [] b b2 l s = s
   peel (e ∷ es) (e2 ∷ es2) b b2 l s = older e e2 b b2 (peel es es2 (e ∷ b) (e2 ∷ b2) (cc) s)
-  peel [] (e2 ∷ es2) b b2 l s = absurd (cc)
-  peel (e ∷ es) [] b b2 l s = absurd (cc)
+  peel _ _ b b2 l s = absurd (cc)
 
   -- tests that answer alike of related entries do so along two windows
   pub along : (f f2 : List Entry → Entry → Bool) → ((b b2 : List Entry) (e e2 : Entry) → S (e ∷ b) (e2 ∷ b2) → f b e ≡ f2 b2 e2) →

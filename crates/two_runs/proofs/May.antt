@@ -136,8 +136,7 @@ module _ (d : Desc) (x x2 : Machine) (m : SeenMachine x x2) where
   asking_alike : (port : Port) (b b2 : List Entry) → SeenEntries d.stt_model b b2 → EachAsks d x x2 b b2 → asking d now port b ≡ asking d now2 port b2
   asking_alike port [] [] s n = refl
   asking_alike port (e ∷ b) (e2 ∷ b2) s n = ap₂ (λ a c. one_if a + c) (at_alike b b2 s.1 e e2 s.0.but_outcome port n.0) (asking_alike port b b2 s.1 n.1)
-  asking_alike port [] (e2 ∷ b2) s n = absurd s
-  asking_alike port (e ∷ b) [] s n = absurd s
+  asking_alike port _ _ s n = absurd s
 
   -- two runs see alike whether an entry is granted a port
   pub granted_alike : (b b2 : List Entry) → SeenEntries d.stt_model b b2 → EachAsks d x x2 b b2 → (e e2 : Entry) → without_outcome e ≡ without_outcome e2 →

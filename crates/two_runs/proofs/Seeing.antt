@@ -39,8 +39,7 @@ safe_by _ e o h = refl
 same_reaches : (a n : ℕ) (o o2 : Option Outcome) → is_some o ≡ is_some o2 → addr_of o ≡ addr_of o2 → fault_of o ≡ fault_of o2 → reaches a n o ≡ reaches a n o2
 same_reaches a n None None i ad f = refl
 same_reaches a n (Some o) (Some o2) i ad f = cc
-same_reaches a n None (Some o2) i ad f = absurd (cc)
-same_reaches a n (Some o) None i ad f = absurd (cc)
+same_reaches a n _ _ i ad f = absurd (cc)
 
 covers_by : (k : Kind) (a n : ℕ) (h : Bool) (o o2 : Option Outcome) → (is_store k ≡ true → (is_some o ≡ is_some o2) × (addr_of o ≡ addr_of o2) × (fault_of o ≡ fault_of o2)) →
     (is_store k && h && reaches a n o) ≡ (is_store k && h && reaches a n o2)
