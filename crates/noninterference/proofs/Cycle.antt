@@ -127,8 +127,7 @@ module _ (d : Desc) (code : Code) (total : ℕ) (protected : protects d.stt_mode
       let a = rest_alike now x x2 s (p refl) (le refl) in
       record { alike = a.0.alike; events = a.1; together = λ z. a.0 }
   after_alike now (Some e) (Some e2) x x2 s q n r p le = record { alike = r; events = refl; together = λ z. absurd (cc) }
-  after_alike now None (Some e) x x2 s q n r p le = absurd (cc)
-  after_alike now (Some e) None x x2 s q n r p le = absurd (cc)
+  after_alike now _ _ x x2 s q n r p le = absurd (cc)
 
   -- ---- a cycle as a whole
 

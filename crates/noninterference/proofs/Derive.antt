@@ -66,5 +66,4 @@ module _ (now : ℕ) (d : Desc) (code : Code) (x x2 : Machine) (regs : x.regs �
         },
         same,
       )
-  derive [] (e2 ∷ b2) a w w2 = absurd a
-  derive (e ∷ b) [] a w w2 = absurd a
+  derive _ _ a w w2 = absurd a

@@ -61,35 +61,12 @@ same_bound secret = (refl, (refl, (refl, (refl, tt))))
 
 -- ---- what the paths load: the bound alone
 
-bypass_loads : (model : SttModel) (steps : ℕ) → loads model bounds_check (eleven_more steps) ≡ bound
+bound_alone : (model : SttModel) (steps : ℕ) → let Alone : List ℕ → Type 0 = λ words. loads model words (eleven_more steps) ≡ bound in
+    Alone bounds_check × Alone store × Alone branch × Alone divisor × Alone injection
 unfolding memory code_of decode isa_step pass_step
-bypass_loads Spectre steps = refl
-bypass_loads Futuristic steps = refl
-bypass_loads Off steps = refl
-
-store_loads : (model : SttModel) (steps : ℕ) → loads model store (eleven_more steps) ≡ bound
-unfolding memory code_of decode isa_step pass_step
-store_loads Spectre steps = refl
-store_loads Futuristic steps = refl
-store_loads Off steps = refl
-
-branch_loads : (model : SttModel) (steps : ℕ) → loads model branch (eleven_more steps) ≡ bound
-unfolding memory code_of decode isa_step pass_step
-branch_loads Spectre steps = refl
-branch_loads Futuristic steps = refl
-branch_loads Off steps = refl
-
-divisor_loads : (model : SttModel) (steps : ℕ) → loads model divisor (eleven_more steps) ≡ bound
-unfolding memory code_of decode isa_step pass_step
-divisor_loads Spectre steps = refl
-divisor_loads Futuristic steps = refl
-divisor_loads Off steps = refl
-
-injection_loads : (model : SttModel) (steps : ℕ) → loads model injection (eleven_more steps) ≡ bound
-unfolding memory code_of decode isa_step pass_step
-injection_loads Spectre steps = refl
-injection_loads Futuristic steps = refl
-injection_loads Off steps = refl
+bound_alone Spectre steps = (refl, refl, refl, refl, refl)
+bound_alone Futuristic steps = (refl, refl, refl, refl, refl)
+bound_alone Off steps = (refl, refl, refl, refl, refl)
 
 -- the bytes that the path of the store bypass loads: the bound, a byte past the secret, and a word at an address made
 -- of that
@@ -127,19 +104,19 @@ fault_shows steps secret same = same.0
 -- ---- what the programs hide
 
 pub bypass_hides : BoundsCheckBypass
-bypass_hides d protected = hides d bounds_check bound protected (bypass_loads d.stt_model) same_bound
+bypass_hides d protected = hides d bounds_check bound protected (λ steps. (bound_alone d.stt_model steps).0) same_bound
 
 pub store_hides : TaintedStoreAddress
-store_hides d protected = hides d store bound protected (store_loads d.stt_model) same_bound
+store_hides d protected = hides d store bound protected (λ steps. (bound_alone d.stt_model steps).1) same_bound
 
 pub branch_hides : TaintedBranch
-branch_hides d protected = hides d branch bound protected (branch_loads d.stt_model) same_bound
+branch_hides d protected = hides d branch bound protected (λ steps. (bound_alone d.stt_model steps).2) same_bound
 
 pub divisor_hides : TaintedDivisor
-divisor_hides d protected = hides d divisor bound protected (divisor_loads d.stt_model) same_bound
+divisor_hides d protected = hides d divisor bound protected (λ steps. (bound_alone d.stt_model steps).3) same_bound
 
 pub injection_hides : TargetInjection
-injection_hides d protected = hides d injection bound protected (injection_loads d.stt_model) same_bound
+injection_hides d protected = hides d injection bound protected (λ steps. (bound_alone d.stt_model steps).4) same_bound
 
 pub store_bypass_hides : SpeculativeStoreBypass
 store_bypass_hides d protected = hides d store_bypass past_store protected (store_bypass_loads d.stt_model) same_past_store

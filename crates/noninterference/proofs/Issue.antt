@@ -136,8 +136,7 @@ module _ (cycle : ℕ) (d : Desc) (code : Code) (x x2 : Machine) (r : Alike x x2
       let one = entry_alike b b2 e e2 here.1 here.0.but_outcome i.0.item in
       let rest = each_alike es es2 (e ∷ b) (e2 ∷ b2) (cc) s i.1 in
       (ap₂ (λ (t : Begun) ts. t.entry ∷ ts) one rest.0, ap₂ (λ (t : Begun) vs. t.events ++ vs) one rest.1)
-  each_alike [] (e2 ∷ es2) b b2 l s i = absurd (cc)
-  each_alike (e ∷ es) [] b b2 l s i = absurd (cc)
+  each_alike _ _ b b2 l s i = absurd (cc)
 
   -- ---- the load that is tried, and the division
 

@@ -75,5 +75,4 @@ seen_by_outcomes model (e ∷ b) (e2 ∷ b2) s =
       },
       seen_by_outcomes model b b2 s.1,
     )
-seen_by_outcomes model [] (e2 ∷ b2) s = absurd s
-seen_by_outcomes model (e ∷ b) [] s = absurd s
+seen_by_outcomes model _ _ s = absurd s

@@ -26,8 +26,7 @@ hides m i r o = None
 pub all_hidden : (es es2 : List Entry) → map without_outcome es ≡ map without_outcome es2 → MaskedAlike hides es es es2
 all_hidden [] [] h = tt
 all_hidden (e ∷ es) (e2 ∷ es2) h = (cc, all_hidden es es2 (cc))
-all_hidden [] (e2 ∷ es2) h = absurd (cc)
-all_hidden (e ∷ es) [] h = absurd (cc)
+all_hidden _ _ h = absurd (cc)
 
 -- a phase tells nothing that leaves two machines alike under masks, with the same registers
 pub tells : {M : Type 0} (mask : M → Mask) (ms : List M) (a a2 : After) → a.machine.regs ≡ a2.machine.regs → LeftAlike mask ms a a2 → TellsNothing a a2
@@ -68,8 +67,7 @@ entry_left model b e e2 s =
 older_left : (model : SttModel) (b b2 : List Entry) → SameOutcomes model b b2 → MaskedAlike leaves_loads b b b2
 older_left model [] [] s = tt
 older_left model (e ∷ b) (e2 ∷ b2) s = (entry_left model b e e2 s.0, older_left model b b2 s.1)
-older_left model [] (e2 ∷ b2) s = absurd s
-older_left model (e ∷ b) [] s = absurd s
+older_left model _ _ s = absurd s
 
 -- two windows whose outcomes agree are alike in what is left of loads
 pub loads_left : (model : SttModel) (x x2 : Machine) → OutcomesAgree model x x2 → MaskedAlike leaves_loads x.window x.window x2.window

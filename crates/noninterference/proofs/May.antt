@@ -35,8 +35,7 @@ module _ (d : Desc) (x x2 : Machine) (r : Alike x x2) (place : SameShape x.ram x
   each_asks : (b b2 : List Entry) → SameOutcomes d.stt_model b b2 → EachAsks d x x2 b b2
   each_asks [] [] s = tt
   each_asks (e ∷ b) (e2 ∷ b2) s = (asks b b2 s.1 e e2 s.0.but_outcome, each_asks b b2 s.1)
-  each_asks [] (e2 ∷ b2) s = absurd s
-  each_asks (e ∷ b) [] s = absurd s
+  each_asks _ _ s = absurd s
 
   -- two runs see alike whether an entry may issue at a port
   pub at_alike : (b b2 : List Entry) (s : SameOutcomes d.stt_model b b2) (e e2 : Entry) (h : without_outcome e ≡ without_outcome e2) (port : Port) → may_at d (around x) port b e ≡ may_at d (around x2) port b2 e2

@@ -26,15 +26,13 @@ use Rattle.noninterference.specs.Outcomes.{but_value, SameOutcome}
 by_outcomes : {A : Type 0} (g : Outcome → A) (o o2 : Option Outcome) (v v2 : Outcome) → is_some o ≡ is_some o2 → ComesTo o v → ComesTo o2 v2 → (is_some o ≡ true → g v ≡ g v2) → option_map g o ≡ option_map g o2
 by_outcomes g None None v v2 h r r2 p = refl
 by_outcomes g (Some o) (Some o2) v v2 h r r2 p = ap (λ o. Some (g o)) r ∙ ap Some (p refl) ∙ ap (λ o. Some (g o)) (sym r2)
-by_outcomes g None (Some o2) v v2 h r r2 p = absurd (cc)
-by_outcomes g (Some o) None v v2 h r r2 p = absurd (cc)
+by_outcomes g _ _ v v2 h r r2 p = absurd (cc)
 
 -- two outcomes are equal where what they come to is, and there are both or none
 pub same_outcome : (o o2 : Option Outcome) (v v2 : Outcome) → is_some o ≡ is_some o2 → ComesTo o v → ComesTo o2 v2 → (is_some o ≡ true → v ≡ v2) → o ≡ o2
 same_outcome None None v v2 h r r2 p = refl
 same_outcome (Some o) (Some o2) v v2 h r r2 p = ap Some (r ∙ p refl ∙ sym r2)
-same_outcome None (Some o2) v v2 h r r2 p = absurd (cc)
-same_outcome (Some o) None v v2 h r r2 p = absurd (cc)
+same_outcome _ _ v v2 h r r2 p = absurd (cc)
 
 -- the address and fault of an outcome
 part : Outcome → ℕ × Option Cause
@@ -46,8 +44,7 @@ from_part None None h = (refl, refl)
 from_part (Some o) (Some o2) h =
     let pick : Option (ℕ × Option Cause) → ℕ × Option Cause = λ q. unwrap_or q (0, None) in
     (ap (λ q. (pick q).0) h, ap (λ q. (pick q).1) h)
-from_part None (Some o2) h = absurd (cc)
-from_part (Some o) None h = absurd (cc)
+from_part _ _ h = absurd (cc)
 
 -- over memories of one place equal effects make equal a load's outcome but its value, and equal addresses a store's
 -- address and fault

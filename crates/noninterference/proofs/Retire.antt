@@ -49,8 +49,7 @@ module _ (now : ℕ) (d : Desc) (protected : protects d.stt_model ≡ true) (cod
       off : (l v u : Bool) → v ≡ true → u ≡ false → (l && not v || u) ≡ false
       off true true false p q = refl
       off false true false p q = refl
-      off l false u p q = absurd (cc)
-      off l true true p q = absurd (cc)
+      off l _ _ p q = absurd (cc)
 
   -- ---- one turn of one entry, and all turns
 
@@ -96,8 +95,7 @@ module _ (now : ℕ) (d : Desc) (protected : protects d.stt_model ≡ true) (cod
       leaves_or : (b : Bool) → may_leave e ≡ b → Holds d code (hart_of x2) now (e ∷ rest2) x2.queue x2.fetch_pc → map without_outcome rest ≡ map without_outcome rest2 → R (if b then turn d stored (trap_of e) e rest x (turns d n) else stays x) (if b then turn d stored (trap_of e) e rest2 x2 (turns d n) else stays x2)
       leaves_or true may h2 l2 = by_trap (trap_of e) n stored x x2 e rest rest2 refl ne h h2 may l2 (omega (arith, le)) r a m
       leaves_or false may h2 l2 = stays_alike now d code total x x2 r a
-  by_head n stored x x2 [] (e ∷ w) ne h h2 l le r a m = absurd (cc)
-  by_head n stored x x2 (e ∷ w) [] ne h h2 l le r a m = absurd (cc)
+  by_head n stored x x2 _ _ ne h h2 l le r a m = absurd (cc)
 
   turns_alike : (n : ℕ) (stored : Bool) → Follows now d code total (turns d n stored)
   turns_alike zero stored x x2 ne h h2 le r a = stays_alike now d code total x x2 r a
@@ -108,8 +106,7 @@ module _ (now : ℕ) (d : Desc) (protected : protects d.stt_model ≡ true) (cod
     where
       goes : (o o2 : Option End) → o ≡ None → o2 ≡ None → {s s2 : Retired} → R s s2 → R (unless_ended o (stays x) s) (unless_ended o2 (stays x2) s2)
       goes None None q q2 h = h
-      goes (Some z) o2 q q2 h = absurd (cc)
-      goes None (Some z) q q2 h = absurd (cc)
+      goes _ _ q q2 h = absurd (cc)
 
 pub retire_tells_nothing : RetireTellsNothing
 unfolding retire

@@ -63,8 +63,7 @@ module _ (d : Desc) (code : Code) (total : ℕ) (protected : protects d.stt_mode
           let t = cycle_tells_nothing d code total x x2 protected aligned q (p q) (omega (arith, m, le)) in
           let rest = more t.alike t.together le in
           (ap (λ w. w ∷ rows d code n c) t.row ∙ ap (λ ws. (cycle d code x2).row ∷ ws) rest.0, rest.1)
-      by_end None (Some e) q z le more = absurd (cc)
-      by_end (Some e) None q z le more = absurd (cc)
+      by_end _ _ q z le more = absurd (cc)
 
 -- ---- what is loaded in fewer steps
 

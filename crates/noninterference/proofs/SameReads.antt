@@ -115,8 +115,7 @@ module _ (now : ℕ) (d : Desc) (protected : protects d.stt_model ≡ true) (cod
         },
         rest,
       )
-  same_reads [] (e2 ∷ b2) lt w w2 h = absurd (cc)
-  same_reads (e ∷ b) [] lt w w2 h = absurd (cc)
+  same_reads _ _ lt w w2 h = absurd (cc)
 
   -- two runs whose paths run in step have equal outcomes where they may be looked at
   pub same_window : (b b2 : List Entry) → length b ≤ limit → One b → Two b2 → map without_outcome b ≡ map without_outcome b2 → SameOutcomes model b b2
