@@ -19,19 +19,14 @@ use Rattle.secret_marks.proofs.Puts.{Puts, alone_in, retire_puts}
 
 module _ (public : Public) (d : Desc) (code : Code) (aligned : Aligned code) where
   -- a cycle puts out nothing, or retires one instruction
-  puts_one : (x : Machine) → Consistent d code x → ((cycle d code x).piece ≡ []) ⊎ ((cycle d code x).machine.retired ≡ x.retired + 1)
-  puts_one x c = by_puts (retire_puts d (at_retire d x) (alone_in (x.cycle + 1) d code (at_retire d x) (consistent_before code d x c)))
+  pub one_step : (k : ℕ) (x : Machine) → Consistent d code x → (cycle d code x).machine.retired ≡ x.retired + k → ((cycle d code x).piece ≡ []) ⊎ (k ≡ 1)
+  one_step k x c q = by_puts (retire_puts d (at_retire d x) (alone_in (x.cycle + 1) d code (at_retire d x) (consistent_before code d x c)))
     where
-      by_puts : Puts (at_retire d x) (retire d (at_retire d x)) → ((cycle d code x).piece ≡ []) ⊎ ((cycle d code x).machine.retired ≡ x.retired + 1)
+      by_puts : Puts (at_retire d x) (retire d (at_retire d x)) → ((cycle d code x).piece ≡ []) ⊎ (k ≡ 1)
       by_puts (inl e) = inl (piece_is d code x ∙ e)
-      by_puts (inr p) = inr (retired_is d code x ∙ p.one ∙ ap (λ k. k + 1) (before_quiet d x).retired)
-
-  one_step : (k : ℕ) (x : Machine) → Consistent d code x → (cycle d code x).machine.retired ≡ x.retired + k → ((cycle d code x).piece ≡ []) ⊎ (k ≡ 1)
-  one_step k x c q = by_one (puts_one x c)
-    where
-      by_one : ((cycle d code x).piece ≡ []) ⊎ ((cycle d code x).machine.retired ≡ x.retired + 1) → ((cycle d code x).piece ≡ []) ⊎ (k ≡ 1)
-      by_one (inl e) = inl e
-      by_one (inr e) = inr (omega (arith, q, e))
+      by_puts (inr p) =
+          let one : (cycle d code x).machine.retired ≡ x.retired + 1 = retired_is d code x ∙ p.one ∙ ap (λ k. k + 1) (before_quiet d x).retired in
+          inr (omega (arith, q, one))
 
   publish_steps : (n : ℕ) (x : Machine) → (x.end ≡ None → Consistent d code x) → (t : ℕ) → (after_cycles d code n x).retired ≡ x.retired + t →
       published_by public d code n x ≡ published_in public code t (hart_of x)

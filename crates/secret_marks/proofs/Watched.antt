@@ -33,7 +33,7 @@ use Rattle.secret_marks.proofs.Issue.{issue_keeps}
 use Rattle.secret_marks.proofs.RenameFetch.{rename_keeps}
 use Rattle.secret_marks.proofs.Lists.{values_length}
 use Rattle.secret_marks.proofs.Moved.{head_alike, marks_issued, marks_published, marks_retired, operands_alike, resolved_alike}
-use Rattle.secret_marks.proofs.Cycle.{or_false, published_is}
+use Rattle.secret_marks.proofs.Cycle.{published_is, shows_after, shows_before}
 
 -- nothing shows in the second of two parts that are watched, and its marks are those of the first
 pub record Watches (a a2 : Watched) : Type 0 where
@@ -111,17 +111,6 @@ module _ (d : Desc) (m : Marks) (x x2 : Machine) (h : AlikeBut m x x2) where
       record { shows = refl; marks = extended_alike m y.window y2.window (values_length SameEntry (extended y.window m).window y.window y2.window s.window) }
 
 module _ (public : Public) (d : Desc) (code : Code) (aligned : Aligned code) (m : Marks) (x x2 : Machine) (c : Consistent d code x) (ne : x.end ≡ None) (h : AlikeBut m x x2) (n : (watch_cycle public d code x m).shows ≡ false) (q : published public (hart_of x) (cycle d code x).piece ≡ published public (hart_of x2) (cycle d code x2).piece) where
-  shows_before : (o : Option End) →
-      (unless_ended o (watch_before public d x m) (then_watches (then_watches (watch_before public d x m) (watch_issue d)) (watch_fetch d code))).shows ≡ false → (watch_before public d x m).shows ≡ false
-  shows_before None k = (neither (watch_before public d x m).shows _ (or_false _ k)).0
-  shows_before (Some e) k = k
-
-  shows_after : (o : Option End) →
-      (unless_ended o (watch_before public d x m) (then_watches (then_watches (watch_before public d x m) (watch_issue d)) (watch_fetch d code))).shows ≡ false →
-      o ≡ None → (watch_issue d (watch_before public d x m).machine (watch_before public d x m).marks).shows ≡ false
-  shows_after None k p = (neither (watch_before public d x m).shows _ (or_false _ k)).1
-  shows_after (Some e) k p = absurd (cc)
-
   by_end : (o o2 : Option End) → o ≡ o2 → (R R2 : Watched) → Watches R R2 → AlikeBut R.marks R.machine R2.machine →
       ConsistentIn R.machine.cycle d code R.machine → (o ≡ None → (watch_issue d R.machine R.marks).shows ≡ false) →
       Watches (unless_ended o R (then_watches (then_watches R (watch_issue d)) (watch_fetch d code))) (unless_ended o2 R2 (then_watches (then_watches R2 (watch_issue d)) (watch_fetch d code)))
@@ -131,8 +120,7 @@ module _ (public : Public) (d : Desc) (code : Code) (aligned : Aligned code) (m 
       (joined R R2 (watch_issue d) w (issue_watched d R.marks R.machine R2.machine a code k (f refl)))
       (fetch_watched d (watch_issue d R.machine R.marks).marks (issue d R.machine).machine (issue d R2.machine).machine i.alike code)
   by_end (Some e) (Some e2) p R R2 w a k f = w
-  by_end None (Some e) p R R2 w a k f = absurd (cc)
-  by_end (Some e) None p R R2 w a k f = absurd (cc)
+  by_end _ _ p R R2 w a k f = absurd (cc)
 
   pub cycle_watched : Watches (watch_cycle public d code x m) (watch_cycle public d code x2 m)
   cycle_watched =
@@ -145,8 +133,8 @@ module _ (public : Public) (d : Desc) (code : Code) (aligned : Aligned code) (m 
       let s2 = complete_keeps m y y2 s1.alike in
       let z = (complete y).machine in
       let z2 = (complete y2).machine in
-      let parts = neither _ _ (shows_before (watch_before public d x m).machine.end n) in
-      let resolves = or_false _ parts.0 in
+      let parts = neither _ _ (shows_before d code public x m (watch_before public d x m).machine.end n) in
+      let resolves = (neither _ false parts.0).0 in
       let s3 = resolve_keeps d m z z2 s2.alike resolves in
       let w = (resolve d z).machine in
       let w2 = (resolve d z2).machine in
@@ -173,4 +161,4 @@ module _ (public : Public) (d : Desc) (code : Code) (aligned : Aligned code) (m 
       let c5 = consistent_retire now code aligned d v c4 ne4 in
       let at : r.cycle ≡ now = retire_cycle d v ∙ before_cycle d x in
       by_end r.end (retire d v2).machine.end (ap (λ (t : Machine). t.end) s5.alike.others) (watch_before public d x m) (watch_before public d x2 m) before s5.alike
-      (subst (λ k. ConsistentIn k d code r) (sym at) c5) (shows_after (watch_before public d x m).machine.end n)
+      (subst (λ k. ConsistentIn k d code r) (sym at) c5) (shows_after d code public x m (watch_before public d x m).machine.end n)
