@@ -1,6 +1,5 @@
 -- Retire tells nothing: the head has nothing older, so what retires is one entry in both runs.
 use Rattle.std.proofs.Common.{◌≡◌, ℕ, zero, suc, ◌+◌, ◌≤◌, Bool, true, false, not, ◌&&◌, ◌||◌, List, [], ◌∷◌, length, map, Option, Some, None, refl, ap, sym, ◌∙◌, subst, arith}
-use Rattle.std.specs.Prelude.{if◌then◌else◌}
 use Rattle.rv_types.specs.Memory.{Code}
 use Rattle.rv_types.specs.Isa.{call}
 use Rattle.rv_types.specs.declared.Cause.{Cause}
@@ -22,6 +21,7 @@ use Rattle.committed_state.specs.Consistent.{Holds, EntryInvariant, bank_in}
 use Rattle.committed_state.proofs.Turn.{head_leaves_so}
 use Rattle.committed_state.proofs.Ends.{head_calls}
 use Rattle.committed_state.proofs.Calls.{only_call}
+use Rattle.two_runs.proofs.Choices.{if_both}
 use Rattle.noninterference.specs.Alike.{Alike, without_outcome}
 use Rattle.noninterference.specs.InStep.{InStepUpTo}
 use Rattle.noninterference.specs.Together.{RetiresAlike}
@@ -76,11 +76,9 @@ module _ (now : ℕ) (d : Desc) (protected : protects d.stt_model ≡ true) (cod
       R (turn d stored o e rest x (turns d n)) (turn d stored o e rest2 x2 (turns d n))
   by_trap (Some c) n stored x x2 e rest rest2 t ne h h2 may w le r a m =
       record { alike = ap (λ (m : Machine). let u : Machine = record m { end = Some (Trap c e.item.pc) } in u) r; events = refl; piece = refl; in_step = λ z. absurd (cc) }
-  by_trap None n stored x x2 e rest rest2 t ne h h2 may w le r a m = waits_or (store_waits stored e) refl (λ q. by_call (is_call e.item.kind) n _ x x2 e rest rest2 refl ne h h2 may t (is_cleared stored e q) w le r a (m (stored || is_store e.item.kind)))
-    where
-      waits_or : (b : Bool) {s s2 : Retired} → store_waits stored e ≡ b → (store_waits stored e ≡ false → R s s2) → R (if b then stays x else s) (if b then stays x2 else s2)
-      waits_or true q h = stays_alike now d code total x x2 r a
-      waits_or false q h = h q
+  by_trap None n stored x x2 e rest rest2 t ne h h2 may w le r a m =
+      if_both R (store_waits stored e) (store_waits stored e) _ _ _ _ refl (λ q. stays_alike now d code total x x2 r a)
+      (λ q. by_call (is_call e.item.kind) n _ x x2 e rest rest2 refl ne h h2 may t (is_cleared stored e q) w le r a (m (stored || is_store e.item.kind)))
 
   by_head : (n : ℕ) (stored : Bool) (x x2 : Machine) (w w2 : List Entry) → x.end ≡ None → Holds d code (hart_of x) now w x.queue x.fetch_pc → Holds d code (hart_of x2) now w2 x2.queue x2.fetch_pc →
       map without_outcome w ≡ map without_outcome w2 → x.retired + length w ≤ total → Alike x x2 → InStepUpTo d.stt_model code total x x2 → ((b : Bool) → Follows now d code total (turns d n b)) → R (head_turn d stored w x (turns d n)) (head_turn d stored w2 x2 (turns d n))
@@ -90,11 +88,9 @@ module _ (now : ℕ) (d : Desc) (protected : protects d.stt_model ≡ true) (cod
       let l2 : map without_outcome rest ≡ map without_outcome rest2 = cc in
       let same = head_same x x2 e e2 a (omega (arith, le)) h.registers h2.registers h.entries.0 h2.entries.0 (some_of _ _ h.chain.0) (some_of _ _ h2.chain.0) l1 in
       subst (λ t. R (head_turn d stored (e ∷ rest) x (turns d n)) (head_turn d stored (t ∷ rest2) x2 (turns d n))) same
-      (leaves_or (may_leave e) refl (subst (λ t. Holds d code (hart_of x2) now (t ∷ rest2) x2.queue x2.fetch_pc) (sym same) h2) l2)
-    where
-      leaves_or : (b : Bool) → may_leave e ≡ b → Holds d code (hart_of x2) now (e ∷ rest2) x2.queue x2.fetch_pc → map without_outcome rest ≡ map without_outcome rest2 → R (if b then turn d stored (trap_of e) e rest x (turns d n) else stays x) (if b then turn d stored (trap_of e) e rest2 x2 (turns d n) else stays x2)
-      leaves_or true may h2 l2 = by_trap (trap_of e) n stored x x2 e rest rest2 refl ne h h2 may l2 (omega (arith, le)) r a m
-      leaves_or false may h2 l2 = stays_alike now d code total x x2 r a
+      (if_both R (may_leave e) (may_leave e) _ _ _ _ refl
+      (λ may. by_trap (trap_of e) n stored x x2 e rest rest2 refl ne h (subst (λ t. Holds d code (hart_of x2) now (t ∷ rest2) x2.queue x2.fetch_pc) (sym same) h2) may l2 (omega (arith, le)) r a m)
+      (λ q. stays_alike now d code total x x2 r a))
   by_head n stored x x2 _ _ ne h h2 l le r a m = absurd (cc)
 
   turns_alike : (n : ℕ) (stored : Bool) → Follows now d code total (turns d n stored)
