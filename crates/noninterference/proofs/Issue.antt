@@ -11,7 +11,7 @@ use Rattle.window_model.specs.declared.Entry.{Entry}
 use Rattle.window_model.specs.declared.Event.{Event}
 use Rattle.window_model.specs.declared.Progress.TheVariants.{Busy}
 use Rattle.window_model.specs.State.{Machine}
-use Rattle.window_model.specs.Order.{Place, each_from, first, is_load, is_store}
+use Rattle.window_model.specs.Order.{Place, each_from, is_load, is_store}
 use Rattle.window_model.specs.Around.{Around, around}
 use Rattle.window_model.specs.declared.lookup.Access.{Access}
 use Rattle.window_model.specs.declared.lookup.Access.TheVariants.{Faults, Forwards, Looks, Waits}
@@ -31,9 +31,9 @@ use Rattle.window_model.proofs.Places.{Found}
 use Rattle.window_model.proofs.Issuing.{asks_division, asks_load, may_own, may_parts, load_clean, division_clean}
 use Rattle.committed_state.specs.Consistent.{IsItem, EntryInvariant, bank_in}
 use Rattle.two_runs.specs.Masks.{SamePlace, but_data}
-use Rattle.two_runs.proofs.Choices.{Both, if_both}
+use Rattle.two_runs.proofs.Choices.{if_both}
 use Rattle.two_runs.proofs.Issue.{DivisionsAsk, LoadsAsk, issue_leaves, issue_left, same_taken}
-use Rattle.two_runs.proofs.Masks.{along, first_same, lengths, peel, where_found}
+use Rattle.two_runs.proofs.Masks.{along, lengths, peel}
 use Rattle.noninterference.specs.Alike.{Alike, shown_after, without_outcome}
 use Rattle.noninterference.specs.Outcomes.{SameOutcomes}
 use Rattle.noninterference.specs.Laws.{IssueTellsNothing}
@@ -144,12 +144,6 @@ module _ (cycle : ℕ) (d : Desc) (code : Code) (x x2 : Machine) (r : Alike x x2
   abbrev Asking : Place → Place → Type 0
   Asking p p2 = SamePlace hides (SameOutcomes d.stt_model) x.window p p2
 
-  asking : SameOutcomes d.stt_model (reverse x.window) (reverse x2.window) → (port : Port) → Both Asking (first (may_at d now port) x.window) (first (may_at d now2 port) x2.window)
-  asking s port =
-      let w = all_hidden x.window x2.window (ap (λ (m : Machine). m.window) r) in
-      first_same hides (may_at d now port) (may_at d now2 port) (SameOutcomes d.stt_model) [] x.window [] [] x.window x2.window tt w
-      (along (SameOutcomes d.stt_model) (λ e e2 b b2 s. s.1) _ _ (λ b b2 e e2 s. at_alike d x x2 r place b b2 s.1 e e2 s.0.but_outcome port) [] [] x.window x2.window (lengths hides x.window x.window x2.window w).1 s)
-
   -- an entry of a consistent window is an instruction of the program
   item_at : (b older es : List Entry) (e : Entry) → Along (EntryInvariant d code (bank_in (hart_of x)) cycle) b (older ++ e ∷ es) → IsItem code e.item
   item_at b [] es e i = i.0.item
@@ -172,12 +166,13 @@ module _ (cycle : ℕ) (d : Desc) (code : Code) (x x2 : Machine) (r : Alike x x2
 
   issue_alike : SameOutcomes d.stt_model (reverse x.window) (reverse x2.window) → Along (EntryInvariant d code (bank_in (hart_of x)) cycle) [] x.window → shown_after (issue d x) ≡ shown_after (issue d x2)
   issue_alike s i =
-      let q = each_alike x.window x2.window [] [] (lengths hides x.window x.window x2.window (all_hidden x.window x2.window (ap (λ (m : Machine). m.window) r))).1 s i in
-      let o = ap but_data r in
-      let loads = where_found (may_at d now LoadPort) (may_at d now2 LoadPort) x.window x2.window Asking (LoadsAsk d x x2 o) (load_asks i) (asking s LoadPort) in
-      let divisions = where_found (may_at d now DivPort) (may_at d now2 DivPort) x.window x2.window Asking (DivisionsAsk d x x2 o) division_asks (asking s DivPort) in
+      let w = all_hidden x.window x2.window (ap (λ (m : Machine). m.window) r) in
+      let l = (lengths hides x.window x.window x2.window w).1 in
+      let q = each_alike x.window x2.window [] [] l s i in
+      let S = SameOutcomes d.stt_model in
+      let answers = λ (port : Port). along S (λ e e2 b b2 s. s.1) (may_at d now port) (may_at d now2 port) (λ b b2 e e2 s. at_alike d x x2 r place b b2 s.1 e e2 s.0.but_outcome port) [] [] x.window x2.window l s in
       tells hides (issue d x).machine.window (issue d x) (issue d x2) ((issue_leaves d x).kept.0 ∙ ap (λ (m : Machine). m.regs) r ∙ sym (issue_leaves d x2).kept.0)
-      (issue_left d x x2 o hides (issue d x).machine.window loads divisions q.1 (all_hidden (issue d x).machine.window (issue d x2).machine.window q.0))
+      (issue_left d x x2 (ap but_data r) hides x.window (issue d x).machine.window S w answers (load_asks i) division_asks q.1 (all_hidden (issue d x).machine.window (issue d x2).machine.window q.0))
 
 pub issue_tells_nothing : IssueTellsNothing
 issue_tells_nothing now d code x x2 c r o p = issue_alike now d code x x2 r p o c.entries

@@ -1,5 +1,5 @@
 -- What Issue does to two machines, where the load and the division that it takes ask for the same.
-use Rattle.std.proofs.Common.{◌≡◌, ℕ, ◌+◌, List, Option, Some, None, refl, ap, ap₂, sym, ◌∙◌}
+use Rattle.std.proofs.Common.{◌≡◌, ℕ, ◌+◌, List, [], Option, Some, None, refl, ap, ap₂, sym, ◌∙◌}
 use Rattle.rv_types.specs.Causes.{load_misaligned, load_outside}
 use Rattle.rv_types.specs.Memory.{load_fault}
 use Rattle.rv_types.specs.Value.{div_time}
@@ -13,15 +13,17 @@ use Rattle.window_model.specs.Around.{around}
 use Rattle.window_model.specs.Issue.{access_of, after_load, divider_after, issue, oldest_at, taken_for, time_of}
 use Rattle.window_model.specs.MayIssue.{effect_of, first_operand}
 use Rattle.window_model.specs.Order.{Place, sources}
-use Rattle.window_model.specs.Ports.{DivPort, LoadPort}
+use Rattle.window_model.specs.Ports.{DivPort, LoadPort, Port, may_at}
 use Rattle.window_model.specs.Retire.{byte_count, op_of}
 use Rattle.window_model.specs.Shape.{SameShape}
 use Rattle.window_model.proofs.LookedUp.{same_access_at}
 use Rattle.window_model.proofs.Memory.{same_fault}
-use Rattle.two_runs.specs.Masks.{LeftAlike, Mask, MaskedAlike, but_data}
+use Rattle.window_model.proofs.Places.{Found}
+use Rattle.two_runs.specs.Masks.{AnswerAlike, LeftAlike, Mask, MaskedAlike, SamePlace, but_data}
 use Rattle.two_runs.specs.Seen.{SeenEntries, without_outcome}
 use Rattle.two_runs.proofs.Choices.{Both, by_both}
 use Rattle.two_runs.proofs.Looking.{same_forward}
+use Rattle.two_runs.proofs.Masks.{first_same, where_found}
 
 module _ (d : Desc) (x x2 : Machine) (o : but_data x ≡ but_data x2) where
   module _ (b b2 : List Entry) (s : SeenEntries d.stt_model b b2) (e e2 : Entry) (h : without_outcome e ≡ without_outcome e2) where
@@ -55,14 +57,22 @@ module _ (d : Desc) (x x2 : Machine) (o : but_data x ≡ but_data x2) where
   abbrev pub DivisionsAsk : Place → Place → Type 0
   DivisionsAsk p p2 = taken_for (around x) p.before p.entry ≡ taken_for (around x2) p2.before p2.entry
 
-  -- Issue leaves two machines alike under masks, where the load and the division that it takes ask for the same, and
-  -- the entries that it leaves are alike
-  pub issue_left : {M : Type 0} (mask : M → Mask) (ns : List M) → Both LoadsAsk (oldest_at d LoadPort x) (oldest_at d LoadPort x2) → Both DivisionsAsk (oldest_at d DivPort x) (oldest_at d DivPort x2) →
-      (issue d x).events ≡ (issue d x2).events → MaskedAlike mask ns (issue d x).machine.window (issue d x2).machine.window → LeftAlike mask ns (issue d x) (issue d x2)
-  issue_left mask ns loads divisions events window =
+  -- the oldest entry that may issue at a port stands at one place in both runs, and asks there for the same
+  abbrev pub AsksAt : {M : Type 0} → (M → Mask) → List M → (List Entry → List Entry → Type 0) → Port → (Place → Place → Type 0) → Type 0
+  AsksAt mask ms S port R = (p p2 : Place) → SamePlace mask S ms p p2 → Found (may_at d (around x) port) [] x.window p → R p p2
+
+  -- Issue leaves two machines alike under masks, where who may issue is seen alike, the load and the division that it
+  -- takes ask for the same, and the entries that it leaves are alike
+  pub issue_left : {M : Type 0} (mask : M → Mask) (ms ns : List M) (S : List Entry → List Entry → Type 0) → MaskedAlike mask ms x.window x2.window →
+      ((port : Port) → AnswerAlike (may_at d (around x) port) (may_at d (around x2) port) S [] [] x.window x2.window) →
+      AsksAt mask ms S LoadPort LoadsAsk → AsksAt mask ms S DivPort DivisionsAsk → (issue d x).events ≡ (issue d x2).events →
+      MaskedAlike mask ns (issue d x).machine.window (issue d x2).machine.window → LeftAlike mask ns (issue d x) (issue d x2)
+  issue_left mask ms ns S w answers load division events window =
+      let oldest : (port : Port) (R : Place → Place → Type 0) → AsksAt mask ms S port R → Both R (oldest_at d port x) (oldest_at d port x2) = λ port R f.
+      where_found (may_at d (around x) port) (may_at d (around x2) port) x.window x2.window (SamePlace mask S ms) R f (first_same mask _ _ S [] ms [] [] x.window x2.window tt w (answers port)) in
       let T : Access → Machine → Machine = λ a u. record u { cache = cache_after a d u.cache; second = second_after a d u.second; misses = misses_after a d u.cycle u.misses } in
-      let l = by_both LoadsAsk (λ q q2. but_data (after_load d q x) ≡ but_data (after_load d q2 x2)) o (λ p p2 s. ap₂ T s o) (oldest_at d LoadPort x) (oldest_at d LoadPort x2) loads in
-      let v = by_both DivisionsAsk (λ q q2. divider_after x q ≡ divider_after x2 q2) (ap (λ (t : Machine). t.divider) o) (λ p p2 s. s) (oldest_at d DivPort x) (oldest_at d DivPort x2) divisions in
+      let l = by_both LoadsAsk (λ q q2. but_data (after_load d q x) ≡ but_data (after_load d q2 x2)) o (λ p p2 s. ap₂ T s o) (oldest_at d LoadPort x) (oldest_at d LoadPort x2) (oldest LoadPort LoadsAsk load) in
+      let v = by_both DivisionsAsk (λ q q2. divider_after x q ≡ divider_after x2 q2) (ap (λ (t : Machine). t.divider) o) (λ p p2 s. s) (oldest_at d DivPort x) (oldest_at d DivPort x2) (oldest DivPort DivisionsAsk division) in
       record { events = events; others = ap₂ (λ (u : Machine) v. let w : Machine = record u { divider = v } in w) l v; window = window }
 
 -- what Issue leaves of a machine besides: its registers, its memory and its cycle
