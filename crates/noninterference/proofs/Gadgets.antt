@@ -61,7 +61,8 @@ same_bound secret = (refl, (refl, (refl, (refl, tt))))
 
 -- ---- what the paths load: the bound alone
 
-bound_alone : (model : SttModel) (steps : ℕ) → let Alone : List ℕ → Type 0 = λ words. loads model words (eleven_more steps) ≡ bound in
+bound_alone : (model : SttModel) (steps : ℕ) →
+    let Alone : List ℕ → Type 0 = λ words. loads model words (eleven_more steps) ≡ bound in
     Alone bounds_check × Alone store × Alone branch × Alone divisor × Alone injection
 unfolding memory code_of decode isa_step pass_step
 bound_alone Spectre steps = (refl, refl, refl, refl, refl)

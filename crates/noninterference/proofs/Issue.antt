@@ -170,9 +170,11 @@ module _ (cycle : ℕ) (d : Desc) (code : Code) (x x2 : Machine) (r : Alike x x2
       let l = (lengths hides x.window x.window x2.window w).1 in
       let q = each_alike x.window x2.window [] [] l s i in
       let S = SameOutcomes d.stt_model in
-      let answers = λ (port : Port). along S (λ e e2 b b2 s. s.1) (may_at d now port) (may_at d now2 port) (λ b b2 e e2 s. at_alike d x x2 r place b b2 s.1 e e2 s.0.but_outcome port) [] [] x.window x2.window l s in
+      let answers = λ (port : Port).
+      along S (λ e e2 b b2 s. s.1) (may_at d now port) (may_at d now2 port) (λ b b2 e e2 s. at_alike d x x2 r place b b2 s.1 e e2 s.0.but_outcome port) [] [] x.window x2.window l s in
       tells hides (issue d x).machine.window (issue d x) (issue d x2) ((issue_leaves d x).kept.0 ∙ ap (λ (m : Machine). m.regs) r ∙ sym (issue_leaves d x2).kept.0)
-      (issue_left d x x2 (ap but_data r) hides x.window (issue d x).machine.window S w answers (load_asks i) division_asks q.1 (all_hidden (issue d x).machine.window (issue d x2).machine.window q.0))
+      (issue_left d x x2 (ap but_data r) hides x.window (issue d x).machine.window S w answers (load_asks i) division_asks q.1
+      (all_hidden (issue d x).machine.window (issue d x2).machine.window q.0))
 
 pub issue_tells_nothing : IssueTellsNothing
 issue_tells_nothing now d code x x2 c r o p = issue_alike now d code x x2 r p o c.entries

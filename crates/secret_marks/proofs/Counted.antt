@@ -19,7 +19,8 @@ use Rattle.secret_marks.proofs.Puts.{Puts, alone_in, retire_puts}
 
 module _ (public : Public) (d : Desc) (code : Code) (aligned : Aligned code) where
   -- a cycle puts out nothing, or retires one instruction
-  pub one_step : (k : ℕ) (x : Machine) → Consistent d code x → (cycle d code x).machine.retired ≡ x.retired + k → ((cycle d code x).piece ≡ []) ⊎ (k ≡ 1)
+  pub one_step : (k : ℕ) (x : Machine) → Consistent d code x → (cycle d code x).machine.retired ≡ x.retired + k →
+      ((cycle d code x).piece ≡ []) ⊎ (k ≡ 1)
   one_step k x c q = by_puts (retire_puts d (at_retire d x) (alone_in (x.cycle + 1) d code (at_retire d x) (consistent_before code d x c)))
     where
       by_puts : Puts (at_retire d x) (retire d (at_retire d x)) → ((cycle d code x).piece ≡ []) ⊎ (k ≡ 1)

@@ -58,15 +58,19 @@ module _ (d : Desc) (x x2 : Machine) (o : but_data x ≡ but_data x2) where
   DivisionsAsk p p2 = taken_for (around x) p.before p.entry ≡ taken_for (around x2) p2.before p2.entry
 
   -- the oldest entry that may issue at a port stands at one place in both runs, and asks there for the same
-  abbrev pub AsksAt : {M : Type 0} → (M → Mask) → List M → (List Entry → List Entry → Type 0) → Port → (Place → Place → Type 0) → Type 0
-  AsksAt mask ms S port R = (p p2 : Place) → SamePlace mask S ms p p2 → Found (may_at d (around x) port) [] x.window p → R p p2
+  abbrev pub AsksAt : {M : Type 0} → (M → Mask) → List M → (List Entry → List Entry → Type 0) → Port →
+      (Place → Place → Type 0) → Type 0
+  AsksAt mask ms S port R =
+      (p p2 : Place) → SamePlace mask S ms p p2 → Found (may_at d (around x) port) [] x.window p → R p p2
 
   -- Issue leaves two machines alike under masks, where who may issue is seen alike, the load and the division that it
   -- takes ask for the same, and the entries that it leaves are alike
-  pub issue_left : {M : Type 0} (mask : M → Mask) (ms ns : List M) (S : List Entry → List Entry → Type 0) → MaskedAlike mask ms x.window x2.window →
+  pub issue_left : {M : Type 0} (mask : M → Mask) (ms ns : List M) (S : List Entry → List Entry → Type 0) →
+      MaskedAlike mask ms x.window x2.window →
       ((port : Port) → AnswerAlike (may_at d (around x) port) (may_at d (around x2) port) S [] [] x.window x2.window) →
-      AsksAt mask ms S LoadPort LoadsAsk → AsksAt mask ms S DivPort DivisionsAsk → (issue d x).events ≡ (issue d x2).events →
-      MaskedAlike mask ns (issue d x).machine.window (issue d x2).machine.window → LeftAlike mask ns (issue d x) (issue d x2)
+      AsksAt mask ms S LoadPort LoadsAsk → AsksAt mask ms S DivPort DivisionsAsk →
+      (issue d x).events ≡ (issue d x2).events → MaskedAlike mask ns (issue d x).machine.window (issue d x2).machine.window →
+      LeftAlike mask ns (issue d x) (issue d x2)
   issue_left mask ms ns S w answers load division events window =
       let oldest : (port : Port) (R : Place → Place → Type 0) → AsksAt mask ms S port R → Both R (oldest_at d port x) (oldest_at d port x2) = λ port R f.
       where_found (may_at d (around x) port) (may_at d (around x2) port) x.window x2.window (SamePlace mask S ms) R f (first_same mask _ _ S [] ms [] [] x.window x2.window tt w (answers port)) in
