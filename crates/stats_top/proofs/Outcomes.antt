@@ -19,7 +19,7 @@ pub inputs_refused : (words : List (List ℕ)) (old new : Shelf) (out : Told) (a
     → RefusedInputs asked old new e → Ends words (world old out) (world new out) (Err e)
 inputs_refused words old new out asked Words k c = absurd c
 inputs_refused words old new out asked Write k c = absurd c
-inputs_refused words old new out asked Memory k c = (not_empty words asked k, c, refl)
+inputs_refused words old new out asked Memory k c = (not_empty words asked k, c.1, refl)
 inputs_refused words old new out asked _ k c = ((asked, k, c), refl)
 
 -- the program ends as it has to where the run that is asked for is told
