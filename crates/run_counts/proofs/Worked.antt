@@ -4,7 +4,7 @@ use Rattle.window_model.specs.declared.Event.TheVariants.{Res, Bp, Bt, Sq, Clr, 
 use Rattle.window_model.specs.declared.Look.TheVariants.{Miss, Second}
 use Rattle.window_model.specs.declared.Way.TheVariants.{Taken, Jump}
 use Rattle.window_model.specs.Row.{Row}
-use Rattle.run_counts.specs.Counted.{names, told, numbers}
+use Rattle.run_counts.specs.Counted.{names, as_told, numbers}
 
 -- a branch that is wrongly predicted, a load that passed a store wrongly, a call and a division; a JALR whose target
 -- faults; and a JALR that is wrongly predicted
@@ -18,5 +18,5 @@ worked_rows =
 
 rows_counted : numbers worked_rows
     ≡ 1 ∷ 0 ∷ 0 ∷ 0 ∷ 0 ∷ 1 ∷ 20 ∷ 0 ∷ 0 ∷ 0 ∷ 0 ∷ 1 ∷ 0 ∷ 0 ∷ 0 ∷ 1 ∷ 0 ∷ 0 ∷ 0 ∷ 1 ∷ 0 ∷ 2 ∷ 1 ∷ 2 ∷ 1 ∷ 1 ∷ 1 ∷ 1 ∷ 1 ∷ 1 ∷ 13 ∷ 0 ∷ 0 ∷ 1 ∷ 4 ∷ []
-unfolding worked_rows names told
+unfolding worked_rows names as_told
 rows_counted = refl

@@ -89,28 +89,29 @@ further_of _ = None
 abbrev pub added_to : List ℕ → List ℕ → ℕ → ℕ
 added_to name at n = if bytes_eq at name then n else 0
 
-abbrev pub further : List ℕ → Option (List ℕ × ℕ) → ℕ
-further name None = 0
-further name (Some p) = added_to name p.0 p.1
+-- what an event adds to the number of this name as its further number, where it tells an amount
+abbrev pub further_amount : List ℕ → Option (List ℕ × ℕ) → ℕ
+further_amount name None = 0
+further_amount name (Some p) = added_to name p.0 p.1
 
 -- what an event adds to the number of this name
 abbrev pub amount : List ℕ → Option Event → Event → ℕ
-amount name before event = added_to name (name_of before event) 1 + further name (further_of event)
+amount name before event = added_to name (name_of before event) 1 + further_amount name (further_of event)
 
 -- what events add that come one after the other, behind this one, if there is one
-abbrev pub counted_in : List ℕ → Option Event → List Event → ℕ
-counted_in name before [] = 0
-counted_in name before (event ∷ rest) = amount name before event + counted_in name (Some event) rest
+abbrev pub amount_in : List ℕ → Option Event → List Event → ℕ
+amount_in name before [] = 0
+amount_in name before (event ∷ rest) = amount name before event + amount_in name (Some event) rest
 
 -- the number of this name in rows
-abbrev pub counted : List ℕ → List Row → ℕ
-counted name [] = 0
-counted name (row ∷ rest) = counted_in name None row.events + counted name rest
+abbrev pub number_in : List ℕ → List Row → ℕ
+number_in name [] = 0
+number_in name (row ∷ rest) = amount_in name None row.events + number_in name rest
 
 -- a number as it is told: the greatest of 64 bits stands for any greater one
-unfoldable pub told : ℕ → ℕ
-told n = min n (2 ^ 64 - 1)
+unfoldable pub as_told : ℕ → ℕ
+as_told n = min n (2 ^ 64 - 1)
 
 -- the numbers of rows, in their order
 abbrev pub numbers : List Row → List ℕ
-numbers rows = map (λ name. told (counted name rows)) names
+numbers rows = map (λ name. as_told (number_in name rows)) names

@@ -1,5 +1,5 @@
 //! The numbers of a run, as they are counted row by row.
-ghost use Rattle.std.specs.Prelude.{◌≡◌, ◌<◌, ◌+◌, List, ℕ, [], Some, length, slice_get};
+ghost use Rattle.std.specs.Prelude.{◌≡◌, ◌<◌, ◌+◌, ◌++◌, ◌∷◌, List, ℕ, [], Some, None, length, slice_get};
 
 use crate::names::COUNTED;
 use crate::places::{further_of, place_of};
@@ -20,21 +20,22 @@ impl Model for Counts {
     ghost view = { λ c. c.numbers };
 }
 
+ghost use Rattle.window_model.specs.Row.{Row as RowText};
 ghost use Rattle.run_counts.specs.Counted.{names, numbers};
-ghost use Rattle.run_counts.specs.inner.Counting.{more, after_event, after_events, each, together, with_row};
+ghost use Rattle.run_counts.specs.inner.Counting.{number_with, after_event, after_events, numbers_by, sums};
 
 // Adds to the number at a place.
 fn add_at(numbers: &mut [u64; COUNTED], place: usize, n: u64)
     requires { place < COUNTED }
     ensures { (at : List ℕ) → slice_get names place ≡ Some at
-        → numbers.new ≡ each (λ name k. more name at n k) names numbers.old }
+        → numbers.new ≡ numbers_by (λ name k. number_with name at n k) names numbers.old }
 {
     numbers[place] = numbers[place].saturating_add(n);
 }
 
 // Adds what an event adds that comes right behind another, if there is one.
 fn count_event(numbers: &mut [u64; COUNTED], before: Option<Event>, event: Event)
-    ensures { numbers.new ≡ each (λ name k. after_event name before event k) names numbers.old }
+    ensures { numbers.new ≡ numbers_by (λ name k. after_event name before event k) names numbers.old }
 {
     add_at(numbers, place_of(before, event), 1);
     if let Some((place, n)) = further_of(event) {
@@ -44,7 +45,7 @@ fn count_event(numbers: &mut [u64; COUNTED], before: Option<Event>, event: Event
 
 // Adds what events add that come one after the other.
 fn count_events(numbers: &mut [u64; COUNTED], events: &[Event])
-    ensures { numbers.new ≡ each (λ name k. after_events name None events.now k) names numbers.old }
+    ensures { numbers.new ≡ numbers_by (λ name k. after_events name None events.now k) names numbers.old }
 {
     let mut before = None;
     for event in events {
@@ -55,7 +56,7 @@ fn count_events(numbers: &mut [u64; COUNTED], events: &[Event])
 
 // Adds the numbers of another part of the run.
 fn add_each(numbers: &mut [u64; COUNTED], others: &[u64; COUNTED])
-    ensures { numbers.new ≡ together numbers.old others.now }
+    ensures { numbers.new ≡ sums numbers.old others.now }
 {
     for place in 0..COUNTED {
         numbers[place] = numbers[place].saturating_add(others[place]);
@@ -72,16 +73,17 @@ impl Counts {
         }
     }
 
-    /// Counts the events of a row.
+    /// Counts the events of a row behind those of which these are the numbers.
     pub fn count(&mut self, row: &Row)
-        ensures { self.new ≡ with_row row.now self.old }
+        ensures { (rows : List RowText) → self.old ≡ numbers rows → self.new ≡ numbers (rows ++ row.now ∷ []) }
     {
         count_events(&mut self.numbers, row.events());
     }
 
     /// Adds the numbers of the rows that come behind those of which these are.
     pub fn add(&mut self, others: &Counts)
-        ensures { self.new ≡ together self.old others.now }
+        ensures { (rows behind : List RowText) → self.old ≡ numbers rows → others.now ≡ numbers behind
+            → self.new ≡ numbers (rows ++ behind) }
     {
         add_each(&mut self.numbers, &others.numbers);
     }

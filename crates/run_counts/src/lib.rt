@@ -5,14 +5,12 @@
 //!
 //! Promises: what is counted of rows that came one after the other is what the definition counts of their list.
 //!
-//! Clauses: `Counts`: `count`, `add`; `counts_add_up`.
+//! Clauses: `Counts`: `new`, `count`, `add`.
 #![tactic(auto)]
 
 mod counts;
-mod laws;
 mod names;
 mod places;
 
 pub use counts::Counts;
-pub use laws::counts_add_up;
 pub use names::{COUNTED, NAME_MAX, name_at};

@@ -10,8 +10,6 @@ use Rattle.pair_run.proofs.Cycles.{Left, left_next, left_ended, left_done, none_
 use Rattle.tool_io.specs.Outside.{Told, Wrote, WrotePrefix}
 use Rattle.tool_io.proofs.Writing.{WroteUpTo, up_to_start, up_to_more, up_to_part, up_to_end}
 use Rattle.run_counts.specs.Counted.{numbers}
-use Rattle.run_counts.specs.inner.Counting.{with_row, together}
-use Rattle.run_counts.proofs.Sums.{row_counts, parts_count}
 use Rattle.stats_top.specs.Stats.{stretch_line, stretches_text}
 use Rattle.stats_top.specs.inner.Counting.{CountedTo}
 use Rattle.stats_top.proofs.Parts.{splits, came, stays}
@@ -39,11 +37,11 @@ module _ (d : Desc) (code : Code) (n : ℕ) (x : Machine) where
       }
 
   pub one_counted : (i : ℕ) (y y' : Machine) (row : Row) (piece counts counts' : List ℕ) → i < n → y.end ≡ None → record { machine = y'; row = row; piece = piece } ≡ cycle d code y
-      → counts' ≡ with_row row counts → CountedSoFar counts d code n i x y → CountedSoFar counts' d code n (i + 1) x y'
+      → ((rows : List Row) → counts ≡ numbers rows → counts' ≡ numbers (rows ++ row ∷ [])) → CountedSoFar counts d code n i x y → CountedSoFar counts' d code n (i + 1) x y'
   one_counted i y y' row piece counts counts' h e c w s = record {
     left = left_next d code n i x y y' row piece h e c s.left;
     done = s.done ++ row ∷ [];
-    counts_are = w ∙ ap (with_row row) s.counts_are ∙ row_counts s.done row;
+    counts_are = w s.done s.counts_are;
     rows_are = append_assoc s.done (row ∷ []) _ ∙ ap (λ r. s.done ++ r) (sym (row_goes d code n i y y' row piece h e c)) ∙ s.rows_are;
   }
 
@@ -76,7 +74,7 @@ module _ (k : ℕ) (some : 1 ≤ k) (d : Desc) (code : Code) (n : ℕ) (x : Mach
   none_written counts e = record { done = []; counts_are = e; rows_are = refl; last = refl; clock = omega arith; lines = up_to_start _ told }
 
   module _ (left : ℕ) (y y' : Machine) (counts since counts' : List ℕ) (next : ℕ) (t : Told) (is : next ≡ min left k) (c : CountedTo since d code next y y')
-      (sum : counts' ≡ together counts since) (s : StretchesLeft k counts d code n left x y told t) where
+      (sum : (rows behind : List Row) → counts ≡ numbers rows → since ≡ numbers behind → counts' ≡ numbers (rows ++ behind)) (s : StretchesLeft k counts d code n left x y told t) where
     -- the rows of the stretch
     abbrev these : List Row
     these = rows d code next y
@@ -97,7 +95,7 @@ module _ (k : ℕ) (some : 1 ≤ k) (d : Desc) (code : Code) (n : ℕ) (x : Mach
         ap (λ j. after_cycles d code j y) m ∙ (splits d code next (left - next) y).1 ∙ ap (after_cycles d code (left - next)) (sym c.last)
 
     counted : counts' ≡ numbers (s.done ++ these)
-    counted = sum ∙ ap₂ together s.counts_are c.counts_are ∙ parts_count s.done these
+    counted = sum s.done these s.counts_are c.counts_are
 
     rows_so_far : (s.done ++ these) ++ rows d code (left - next) y' ≡ rows d code n x
     rows_so_far = append_assoc s.done these _ ∙ ap (λ r. s.done ++ r) (sym rest_is) ∙ s.rows_are
