@@ -83,22 +83,22 @@ module _ (words : List (List ℕ)) (old new : World) where
 
   four : (r : Result (Option End) Refusal) → Ends words old new r → status_of r ≡ 4 → Asks words (λ asked. IsFaultyDescription (MayGive old.files) asked.description)
   four (Ok v) e h = absurd (other_status v 4 (λ k. omega arith) h)
-  four (Err DescriptionTooLong) e h = let a = e.0 in (a.0, a.1, inl a.2.0)
-  four (Err (Description f)) e h = let a = e.0 in (a.0, a.1, inr (f, a.2.0))
+  four (Err DescriptionTooLong) e h = (e.0, e.1, inl e.2.0.0)
+  four (Err (Description f)) e h = (e.0, e.1, inr (f, e.2.0.0))
   four (Err _) e h = absurd (omega arith)
 
   five : (r : Result (Option End) Refusal) → Ends words old new r → status_of r ≡ 5
       → Asks words (λ asked. (desc : Option Desc) × HasDesc (MayGive old.files) (Some asked.description) desc × IsFaultyImage (MayGive old.files) desc (from_file asked.image))
   five (Ok v) e h = absurd (other_status v 5 (λ k. omega arith) h)
-  five (Err (ImageTooLong which)) e h = let a = e.0 in let r = too_long a.0 which a.2 in (a.0, a.1, (r.0, r.1, inl r.2))
-  five (Err (Image which f)) e h = let a = e.0 in let r = at_fault a.0 which f a.2 in (a.0, a.1, (r.0, r.1, inr (f, r.2)))
+  five (Err (ImageTooLong which)) e h = let r = too_long e.0 which e.2.0 in (e.0, e.1, (r.0, r.1, inl r.2))
+  five (Err (Image which f)) e h = let r = at_fault e.0 which f e.2.0 in (e.0, e.1, (r.0, r.1, inr (f, r.2)))
   five (Err _) e h = absurd (omega arith)
 
   six : (r : Result (Option End) Refusal) → Ends words old new r → status_of r ≡ 6 → Asks words (λ asked. NameFailed asked.description old.files new.files
       ⊎ ((desc : Option Desc) × HasDesc (MayGive old.files) (Some asked.description) desc × NameFailed asked.image old.files new.files))
   six (Ok v) e h = absurd (other_status v 6 (λ k. omega arith) h)
-  six (Err ReadDescription) e h = let a = e.0 in (a.0, a.1, inl a.2)
-  six (Err (ReadImage which)) e h = let a = e.0 in (a.0, a.1, inr (unread a.0 which a.2))
+  six (Err ReadDescription) e h = (e.0, e.1, inl e.2.0)
+  six (Err (ReadImage which)) e h = (e.0, e.1, inr (unread e.0 which e.2.0))
   six (Err _) e h = absurd (omega arith)
 
   seven : (r : Result (Option End) Refusal) → Ends words old new r → status_of r ≡ 7
@@ -113,11 +113,11 @@ module _ (words : List (List ℕ)) (old new : World) where
   not_six (Ok v) e h = e.2.0.read.counts
   not_six (Err Words) e h = e.1
   not_six (Err ReadDescription) e h = absurd (h refl)
-  not_six (Err DescriptionTooLong) e h = e.0.2.1
-  not_six (Err (Description f)) e h = e.0.2.1
+  not_six (Err DescriptionTooLong) e h = e.2.0.1
+  not_six (Err (Description f)) e h = e.2.0.1
   not_six (Err (ReadImage which)) e h = absurd (h refl)
-  not_six (Err (ImageTooLong which)) e h = e.0.2.1
-  not_six (Err (Image which f)) e h = e.0.2.1
+  not_six (Err (ImageTooLong which)) e h = e.2.0.1
+  not_six (Err (Image which f)) e h = e.2.0.1
   not_six (Err Write) e h = e.2.0.read.counts
   not_six (Err Memory) e h = e.1
 
@@ -126,7 +126,7 @@ module _ (words : List (List ℕ)) (old new : World) where
   wrote_nothing Words e h = e.2
   wrote_nothing Write e h = absurd (h refl)
   wrote_nothing Memory e h = e.2
-  wrote_nothing _ e h = e.1
+  wrote_nothing _ e h = e.2.1
 
   not_seven : (r : Result (Option End) Refusal) → Ends words old new r → (status_of r ≡ 7 → ⊥) → new.out.faults ≡ old.out.faults
   not_seven (Ok v) e h = e.2.1.count
@@ -143,7 +143,7 @@ module _ (words : List (List ℕ)) (old new : World) where
   nothing_asked (Err Words) e h = inl refl
   nothing_asked (Err Write) e h = absurd (clash e.1 h)
   nothing_asked (Err Memory) e h = inr refl
-  nothing_asked (Err _) e h = absurd (clash e.0.1 h)
+  nothing_asked (Err _) e h = absurd (clash e.1 h)
 
   -- without words every outcome has status 2
   no_words : (r : Result (Option End) Refusal) → Ends words old new r → words ≡ [] → status_of r ≡ 2
@@ -151,7 +151,7 @@ module _ (words : List (List ℕ)) (old new : World) where
   no_words (Err Words) e h = refl
   no_words (Err Write) e h = absurd (not_empty words e.0 e.1 h)
   no_words (Err Memory) e h = absurd (e.0 h)
-  no_words (Err _) e h = absurd (not_empty words e.0.0 e.0.1 h)
+  no_words (Err _) e h = absurd (not_empty words e.0 e.1 h)
 
   -- what each status says of what the words want
   module _ (asked : AskedText) (k : asked_of words ≡ Some asked) where
@@ -161,8 +161,12 @@ module _ (words : List (List ℕ)) (old new : World) where
     cut : Ends words old new (Err Write) → (i : Inputs asked old.files new.files) × WrotePrefix (told_in asked i.desc i.image) old.out new.out
     cut e = of_asked words (λ w. (i : Inputs w old.files new.files) × WrotePrefix (told_in w i.desc i.image) old.out new.out) asked k e
 
-    its_refusal : (c : Refusal) → Asks words (λ w. RefusedInputs w old.files new.files c) → RefusedInputs asked old.files new.files c
-    its_refusal c a = of_asked words (λ w. RefusedInputs w old.files new.files c) asked k a
+    -- the words ask for something of which what is read is refused for this cause, and nothing is written
+    abbrev IsRefused : Refusal → Type 0
+    IsRefused c = Asks words (λ w. RefusedInputs w old.files new.files c × (new.out ≡ old.out))
+
+    its_refusal : (c : Refusal) → IsRefused c → RefusedInputs asked old.files new.files c
+    its_refusal c a = (of_asked words (λ w. RefusedInputs w old.files new.files c × (new.out ≡ old.out)) asked k a).0
 
     -- what each status says where the description has a fault
     module _ (x : IsFaultyDescription (Gives old.files) asked.description) where
@@ -177,9 +181,9 @@ module _ (words : List (List ℕ)) (old new : World) where
       faulty_description (Err (Description f)) e = inl refl
       faulty_description (Err (ReadImage which)) e = inr (inl refl)
       faulty_description (Err (ImageTooLong which)) e =
-          let r = too_long asked which (its_refusal (ImageTooLong which) e.0) in absurd (not_described r.0 r.1)
+          let r = too_long asked which (its_refusal (ImageTooLong which) e) in absurd (not_described r.0 r.1)
       faulty_description (Err (Image which f)) e =
-          let r = at_fault asked which f (its_refusal (Image which f) e.0) in absurd (not_described r.0 r.1)
+          let r = at_fault asked which f (its_refusal (Image which f) e) in absurd (not_described r.0 r.1)
       faulty_description (Err Write) e = let i = (cut e).0 in absurd (not_described (Some i.desc) i.read.described)
       faulty_description (Err Memory) e = inr (inr refl)
 
@@ -188,10 +192,10 @@ module _ (words : List (List ℕ)) (old new : World) where
       same_desc : (desc' : Option Desc) → HasDesc (MayGive old.files) (Some asked.description) desc' → desc' ≡ desc
       same_desc desc' h = told_desc old.files (Some asked.description) desc desc' described h
 
-      described_longer : Asks words (λ w. RefusedInputs w old.files new.files DescriptionTooLong) → ⊥
+      described_longer : IsRefused DescriptionTooLong → ⊥
       described_longer a = not_longer old.files new.files (Some asked.description) desc described (its_refusal DescriptionTooLong a)
 
-      described_faulty : (f : DescFault) → Asks words (λ w. RefusedInputs w old.files new.files (Description f)) → ⊥
+      described_faulty : (f : DescFault) → IsRefused (Description f) → ⊥
       described_faulty f a = not_refused old.files new.files (Some asked.description) desc f described (its_refusal (Description f) a)
 
       no_image : (i : Inputs asked old.files new.files) → IsFaultyImage (Gives old.files) desc (from_file asked.image) → ⊥
@@ -204,8 +208,8 @@ module _ (words : List (List ℕ)) (old new : World) where
       faulty_image (Ok v) e x = absurd (no_image (whole v e).0 x)
       faulty_image (Err Words) e x = absurd (clash k e.0)
       faulty_image (Err ReadDescription) e x = inr (inl refl)
-      faulty_image (Err DescriptionTooLong) e x = absurd (described_longer e.0)
-      faulty_image (Err (Description f)) e x = absurd (described_faulty f e.0)
+      faulty_image (Err DescriptionTooLong) e x = absurd (described_longer e)
+      faulty_image (Err (Description f)) e x = absurd (described_faulty f e)
       faulty_image (Err (ReadImage which)) e x = inr (inl refl)
       faulty_image (Err (ImageTooLong which)) e x = inl refl
       faulty_image (Err (Image which f)) e x = inl refl
@@ -221,12 +225,12 @@ module _ (words : List (List ℕ)) (old new : World) where
             i.read.are_images in
             cc
 
-        not_long : (which : Which) → Asks words (λ w. RefusedInputs w old.files new.files (ImageTooLong which)) → ⊥
+        not_long : (which : Which) → IsRefused (ImageTooLong which) → ⊥
         not_long which a =
             let r = too_long asked which (its_refusal (ImageTooLong which) a) in
             not_too_many old.files desc (from_file asked.image) image there r.2
 
-        not_at_fault : (which : Which) (f : ElfFault) → Asks words (λ w. RefusedInputs w old.files new.files (Image which f)) → ⊥
+        not_at_fault : (which : Which) (f : ElfFault) → IsRefused (Image which f) → ⊥
         not_at_fault which f a =
             let r = at_fault asked which f (its_refusal (Image which f) a) in
             no_fault old.files desc r.0 (from_file asked.image) image f (same_desc r.0 r.1) there r.2
@@ -254,12 +258,12 @@ module _ (words : List (List ℕ)) (old new : World) where
             subst (λ t. Wrote t old.out new.out) (ap₂ (told_in asked) same.0 same.1) w.1,
           )
       complete (Err Words) e a b c = absurd (clash k e.0)
-      complete (Err ReadDescription) e a b c = absurd (a (its_refusal ReadDescription e.0).rose)
-      complete (Err DescriptionTooLong) e a b c = absurd (described_longer (Some d) described e.0)
-      complete (Err (Description f)) e a b c = absurd (described_faulty (Some d) described f e.0)
-      complete (Err (ReadImage which)) e a b c = absurd (b (unread asked which (its_refusal (ReadImage which) e.0)).2.rose)
-      complete (Err (ImageTooLong which)) e a b c = absurd (not_long (Some d) described image there which e.0)
-      complete (Err (Image which f)) e a b c = absurd (not_at_fault (Some d) described image there which f e.0)
+      complete (Err ReadDescription) e a b c = absurd (a (its_refusal ReadDescription e).rose)
+      complete (Err DescriptionTooLong) e a b c = absurd (described_longer (Some d) described e)
+      complete (Err (Description f)) e a b c = absurd (described_faulty (Some d) described f e)
+      complete (Err (ReadImage which)) e a b c = absurd (b (unread asked which (its_refusal (ReadImage which) e)).2.rose)
+      complete (Err (ImageTooLong which)) e a b c = absurd (not_long (Some d) described image there which e)
+      complete (Err (Image which f)) e a b c = absurd (not_at_fault (Some d) described image there which f e)
       complete (Err Write) e a b c = absurd (c (cut e).1.rose)
       complete (Err Memory) e a b c = inl (refl, e.2)
 

@@ -40,15 +40,25 @@ told_in asked d image = stats_text asked.every (run_in asked d image)
 abbrev pub RefusedInputs : AskedText → Shelf → Shelf → Refusal → Type 0
 RefusedInputs asked old new refusal = Refuses (Some asked.description) (from_file asked.image ∷ []) old new refusal
 
--- how the program ends: what is told is written whole, or in part where the sink failed; or the words ask for nothing,
--- there are some and there was no memory, or what is read is refused, and nothing is written
+-- what is asked for may need memory: for what is read, or, once that is read, for the run
+abbrev pub AskedWants : AskedText → Shelf → Shelf → Type 0
+AskedWants asked old new = RefusedInputs asked old new Memory ⊎ Inputs asked old new
+
+-- how what is asked for ends, once the words were read: what is told is written whole, or in part where the sink
+-- failed; or there was no memory where it needs some, or what is read is refused, and nothing is written
+abbrev pub AskedEnds : AskedText → World → World → Result (Option End) Refusal → Type 0
+AskedEnds asked old new (Ok end) =
+    (i : Inputs asked old.files new.files) × Wrote (told_in asked i.desc i.image) old.out new.out × (end ≡ (run_in asked i.desc i.image).end)
+AskedEnds asked old new (Err Write) = (i : Inputs asked old.files new.files) × WrotePrefix (told_in asked i.desc i.image) old.out new.out
+AskedEnds asked old new (Err Memory) = AskedWants asked old.files new.files × (new.out ≡ old.out)
+AskedEnds asked old new (Err refusal) = RefusedInputs asked old.files new.files refusal × (new.out ≡ old.out)
+
+-- how the program ends: the words ask for nothing, or there are some and there was no memory, which may be for the
+-- words themselves; or they ask for something, and the program ends as that does
 abbrev pub Ends : List (List ℕ) → World → World → Result (Option End) Refusal → Type 0
-Ends words old new (Ok end) =
-    Asks words (λ asked. (i : Inputs asked old.files new.files) × Wrote (told_in asked i.desc i.image) old.out new.out × (end ≡ (run_in asked i.desc i.image).end))
-Ends words old new (Err Write) = Asks words (λ asked. (i : Inputs asked old.files new.files) × WrotePrefix (told_in asked i.desc i.image) old.out new.out)
 Ends words old new (Err Words) = (asked_of words ≡ None) × SameCounts old.files new.files × (new.out ≡ old.out)
 Ends words old new (Err Memory) = (words ≢ []) × SameCounts old.files new.files × (new.out ≡ old.out)
-Ends words old new (Err refusal) = Asks words (λ asked. RefusedInputs asked old.files new.files refusal) × (new.out ≡ old.out)
+Ends words old new outcome = Asks words (λ asked. AskedEnds asked old new outcome)
 
 -- an outcome of the program, its status, and what the note gets of it
 abbrev pub EndsWith : List (List ℕ) → World → World → Told → Told → ℕ → Type 0

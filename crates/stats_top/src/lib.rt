@@ -12,6 +12,7 @@
 //! Clauses: `stats_top`: `ends`, `statuses`, `stays`.
 #![tactic(auto)]
 
+mod asked;
 mod counting;
 mod lines;
 mod performing;

@@ -1,14 +1,14 @@
 //! The top call: all that the program does, over files and sinks that it is handed.
 //!
-//! Its promises stand in `specs/Top.antt`, and in plain words in `docs/theorems.md`.
+//! What it promises stands in `specs/Top.antt`, and in plain words in `docs/theorems.md`.
 ghost use Rattle.std.specs.Prelude.{◌≡◌, map};
 ghost use Rattle.tool_io.specs.Outside.{SameContents};
 ghost use Rattle.run_inputs.specs.Told.{world};
 ghost use Rattle.stats_top.specs.Outcome.{status_of};
 ghost use Rattle.stats_top.specs.Top.{Ends, EndsWith, Statuses};
 
-use crate::performing::perform;
-use run_inputs::{ImageSource, Refusal, note_line, read_described};
+use crate::asked::answer_asked;
+use run_inputs::{Refusal, note_line};
 use rv_types::End;
 use stats_words::read_asked;
 use std::alloc::Global;
@@ -38,9 +38,7 @@ fn answer<F: Files, O: Sink>(
     ensures stays { SameContents (F.shelf files.old) (F.shelf files.new) }
 {
     let asked = read_asked(alloc, words)?;
-    let source = ImageSource::File(asked.image);
-    let read = read_described(alloc, asked.description, source, files)?;
-    perform(alloc, read, asked.cycles, asked.every, out)
+    answer_asked(alloc, asked, files, out)
 }
 
 /// Does all that the program does, and answers its status. `words` are those after the program's name. What is counted
