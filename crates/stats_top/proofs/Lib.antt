@@ -5,3 +5,4 @@ pub mod Statuses
 pub mod Stretches
 pub mod Tally
 pub mod Texts
+pub mod Worked
