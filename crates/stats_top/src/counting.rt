@@ -13,7 +13,8 @@ use window_model::{Clocked, Row, empty_row};
 // Runs at most so many cycles, and counts the events of each. Row and piece are lent, so that many stretches use one.
 fn count_stretch<C: Clocked>(core: &mut C, cycles: u32, row: &mut Row, piece: &mut Piece) -> Counts
     requires few { (C.machine core.old).cycle + cycles < 2 ^ 32 }
-    ensures counted { CountedTo result (C.desc core.old) (C.code core.old) cycles (C.machine core.old) (C.machine core.new) }
+    ensures counted { CountedTo result (C.desc core.old) (C.code core.old) cycles
+        (C.machine core.old) (C.machine core.new) }
     ensures later { (C.machine core.old).cycle ≤ (C.machine core.new).cycle }
     ensures desc { C.desc core.new ≡ C.desc core.old }
     ensures code { C.code core.new ≡ C.code core.old }

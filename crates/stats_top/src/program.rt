@@ -52,7 +52,8 @@ pub fn stats_program<F: Files, O: Sink, N: Sink>(
         (world (F.shelf files.old) (O.told out.old)) (world (F.shelf files.new) (O.told out.new))
         (N.told note.old) (N.told note.new) (exit_status result)) }
     ensures statuses { IfOk words (λ w. Statuses (map string_bytes w.items)
-        (world (F.shelf files.old) (O.told out.old)) (world (F.shelf files.new) (O.told out.new)) (exit_status result)) }
+        (world (F.shelf files.old) (O.told out.old)) (world (F.shelf files.new) (O.told out.new))
+        (exit_status result)) }
     ensures unread { IfErr words (λ e. RefusedAtOnce (words_refused e)
         (world (F.shelf files.old) (O.told out.old)) (world (F.shelf files.new) (O.told out.new)) (exit_status result)
         × Tells (words_refused e) (N.told note.old) (N.told note.new)) }

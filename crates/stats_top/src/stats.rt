@@ -46,12 +46,7 @@ pub(crate) fn write_stats<C: Clocked, S: Sink>(
     ensures { TellsStats (option_map (λ k. k.cycles) every) (C.desc core.old) (C.code core.old) cycles
         (C.machine core.old) (S.told out.old) (S.told out.new) result }
 {
-    let counts = match count_run(core, cycles, every, out) {
-        Ok(counts) => counts,
-        Err(failed) => return Err(failed),
-    };
-    match write_last(&counts, &ending_at(core), out) {
-        Ok(()) => Ok(core.end()),
-        Err(failed) => Err(failed),
-    }
+    let counts = count_run(core, cycles, every, out)?;
+    write_last(&counts, &ending_at(core), out)?;
+    Ok(core.end())
 }

@@ -42,6 +42,7 @@ not_zero k = if nat_le 1 k then Some k else None
 abbrev pub every_in : List Row → Option (Option ℕ)
 every_in rows = if is_some (first_of (codes "every") rows) then option_map Some (option_and_then not_zero (word_in (codes "every") rows)) else Some None
 
+-- what the rows of the words' arguments ask for
 abbrev pub asked_in : List Row → Option AskedText
 asked_in rows =
     option_and_then (λ description. option_and_then (λ image. option_and_then (λ cycles.
