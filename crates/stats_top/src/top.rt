@@ -1,6 +1,6 @@
 //! The top call: all that the program does, over files and sinks that it is handed.
 //!
-//! What it promises stands in `specs/Top.antt`, and in plain words in `docs/theorems.md`.
+//! What `stats_top` promises stands in `specs/Top.antt`, and in plain words in `docs/theorems.md`.
 ghost use Rattle.std.specs.Prelude.{◌≡◌, map};
 ghost use Rattle.tool_io.specs.Outside.{SameContents};
 ghost use Rattle.run_inputs.specs.Told.{world};
