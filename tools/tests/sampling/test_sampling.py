@@ -337,6 +337,19 @@ class Sampling(Folder):
         self.assertEqual({self.shell(line) for line in lines}, {0})
         self.assertEqual(self.sample("--gather", image=False).stdout, here)
 
+    def test_a_line_twice(self):
+        """A line whose result is there measures nothing, and the result stands once: as a file, or as a line of a task's file."""
+        self.assertEqual(self.sample(*SHORT, "--warm", "60", "--list").returncode, 0)
+        with open(os.path.join(self.out, "commands"), encoding="utf-8") as file:
+            lines = file.read().splitlines()[:4]
+        for line, more in zip(lines, ({}, {"RESULTS": "results/task_1"}, {"RESULTS": "results/task_1"}, {})):
+            ran = self.measured()
+            self.assertEqual((self.shell(line, **more), self.shell(line, **more), self.measured()), (0, 0, ran + 1))
+        told = sorted(os.listdir(os.path.join(self.out, "results")))
+        self.assertEqual((len(told), told[0]), (3, "task_1"))
+        with open(os.path.join(self.out, "results", "task_1"), encoding="utf-8") as file:
+            self.assertEqual([line.rpartition(" of ")[2] for line in file.read().splitlines()], [line.split()[1] for line in lines[1:3]])
+
     def shell(self, line, **more):
         return subprocess.run(["sh", "-c", line], cwd=self.folder, env=os.environ | more, stderr=subprocess.DEVNULL, check=False).returncode
 

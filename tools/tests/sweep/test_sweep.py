@@ -260,6 +260,16 @@ class Sweeps(Folder):
         self.assertEqual(self.sweep(*self.words("--cycles", "700", "--list")).returncode, 0)
         self.assertEqual([subprocess.run(["sh", "-c", line], check=False).returncode for line in self.read("out/commands").splitlines()], [3, 1])
 
+    def test_a_line_whose_result_is_none(self):
+        """What stands for a result and is none of these tools' has no status of a run that is over, and is told as missing."""
+        self.assertEqual(self.sweep(*self.words("--list")).returncode, 0)
+        lines = self.read("out/commands").splitlines()
+        for line, text in zip(lines, ("end exi", "said")):
+            self.write(f"out/results/{line.split()[1]}", f"{text} 0 retired 500 cycles 9 of {line.split()[1]}\n")
+        self.assertEqual([subprocess.run(["sh", "-c", line], check=False).returncode for line in lines], [3, 3])
+        told = self.sweep(self.out, "--gather")
+        self.assertEqual((told.returncode, told.stderr.count("its result is none: it was cut, or is another's")), (3, 2))
+
     def test_tasks(self):
         """Lines are dealt by cost; a task that was killed goes on, though the last line of its file was cut."""
         self.assertEqual(self.sweep(*self.words("--set", "core.rob=10,20,30", "--list", "--tasks", "2", "--minutes", "7", "--memory", "99")).returncode, 0)

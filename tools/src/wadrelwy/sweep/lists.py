@@ -26,8 +26,8 @@ RUN = """#!/bin/sh
 name=$1 description=$2 image=$3 program={program}
 folder=$(dirname "$0") && cd "$folder" || exit 2
 said=
-[ -n "$RESULTS" ] && [ -f "$RESULTS" ] && said=$(grep "^end .* of $name\\$" "$RESULTS" | tail -n 1)
-[ -z "$said" ] && [ -f "results/$name" ] && said=$(grep "^end .* of $name\\$" "results/$name")
+[ -n "$RESULTS" ] && [ -f "$RESULTS" ] && said=$(grep " of $name\\$" "$RESULTS" | tail -n 1)
+[ -z "$said" ] && [ -f "results/$name" ] && said=$(grep " of $name\\$" "results/$name")
 if [ -z "$said" ]; then
   sha256sum "$program" "$description" "$image" | {{
     same=0
@@ -57,9 +57,9 @@ if [ -z "$said" ]; then
   fi
 fi
 case $said in
+  "end exit "* | "cycle "*) exit 0 ;;
   "end trap "*) exit 1 ;;
-  "end budget "*) exit 3 ;;
-  *) exit 0 ;;
+  *) exit 3 ;;
 esac
 """
 
