@@ -26,6 +26,8 @@ from wadrelwy.view.description import read_description
 
 BASE = 0x10000
 SRC = os.path.join(support.ROOT, "tools", "src")
+# from so many steps on the stand-in's programs only repeat themselves, so it goes over no more of them
+FAR = 20000
 STAND_IN = f"""#!{sys.executable}
 import os, sys
 sys.path.insert(0, {SRC!r})
@@ -40,10 +42,11 @@ if machine.rob == 13:
 loaded = load(image, machine)
 run = hart.Hart(loaded)
 if word == "isa":
-    for _ in run.run(int(words[-1])):
+    for _ in run.run(min(int(words[-1]), {FAR})):
         pass
-    print(hart.report(run, loaded), end="")
-    sys.exit(0)
+    said = hart.report(run, loaded)
+    print(said if run.end else said.replace("end budget retired {FAR}", "end budget retired " + words[-1]), end="")
+    sys.exit(0 if run.end else 3)
 if word == "run":
     print("end budget retired 0 cycles 1")
     sys.exit(3)
@@ -386,6 +389,17 @@ class Sampling(Folder):
         self.assertEqual(told.returncode, 0)
         self.assertIn("two_loops: 8000 instructions, cut there by --steps", told.stdout)
         self.assertLess(max(int(row["begin"]) for row in self.rows()), 8000)
+
+    def test_a_run_that_doesnt_end(self):
+        """It is refused, and taken only where the words say how much of it."""
+        shutil.copy(support.image_of_words("endless", (0x00000013, 0xffdff06f)), self.image)
+        told = self.sample(*SHORT, "--warm", "60")
+        self.assertEqual((told.returncode, told.stdout, told.stderr.count("\n")), (2, "", 1))
+        self.assertIn("two_loops.elf: the run doesn't end within 4294967295 instructions; --steps N takes the first N", told.stderr)
+        self.assertEqual((self.measured(), self.sample(image=False).returncode), (0, 2))
+        told = self.sample(*SHORT, "--warm", "60", "--steps", "4294967295")
+        self.assertEqual((told.returncode, told.stderr), (0, ""))
+        self.assertIn("two_loops: 4294967295 instructions, cut there by --steps", told.stdout)
 
 
 @unittest.skipUnless(support.PROGRAM, support.NO_PROGRAM)

@@ -9,8 +9,9 @@
 each line of data that isn't zero is loaded, so that the caches aren't empty (--no-touch: they are); W instructions go by, and then L are
 measured. What comes is the mean in cycles per instruction, with the 95 % interval of a mean; and, of ten of the windows, what they take with
 half the warm-up: by so much the cold start may still count. What stays cold longest is the predictor. Without more M is 50, L 50000, W 200000. A
-run that is hardly longer than M times W is better run as a whole. --steps N takes the first N instructions for the run. --at names the place of
-the instructions that come first, as for `continue`; a program that uses their place is refused.
+run that is hardly longer than M times W is better run as a whole. --steps N takes the first N instructions for the run; without it a run that
+doesn't end within 4294967295 is refused. --at names the place of the instructions that come first, as for `continue`; a program that uses their
+place is refused.
 
 No theorem ties an estimate to a run. Each image is one of which all promises hold; that they are like the run that was asked for is what the two
 numbers are for.
@@ -43,7 +44,7 @@ def words(parser: ArgumentParser) -> None:
     parser.add_argument("--windows", type=number, default=50, metavar="M")
     parser.add_argument("--length", type=number, default=50000, metavar="L", help="in instructions")
     parser.add_argument("--warm", type=number, default=200000, metavar="W", help="in instructions")
-    parser.add_argument("--steps", type=number, default=4294967295, metavar="N", help="take the first N instructions for the run")
+    parser.add_argument("--steps", type=number, metavar="N", help="take the first N instructions for the run")
     parser.add_argument("--seed", type=number, default=1, metavar="S", help="of the places within their parts")
     parser.add_argument("--touch", action=BooleanOptionalAction, default=True, help="load what may be in the caches before the warm-up")
     parser.add_argument("--at", type=number, metavar="ADDRESS")
@@ -60,7 +61,7 @@ def checked(asked: Namespace) -> None:
         raise Fault("an image and descriptions are asked for")
     if not asked.image and not asked.output:
         raise Fault("an image and descriptions are asked for, or -o and a folder that goes on")
-    if min(asked.jobs, asked.steps) < 1:
+    if asked.jobs < 1 or asked.steps is not None and asked.steps < 1:
         raise Fault("jobs and steps are at least 1")
     lists.checked(asked)
     asked.output = asked.output or os.path.splitext(os.path.basename(asked.image))[0] + ".sample"

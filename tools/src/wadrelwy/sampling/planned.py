@@ -8,7 +8,9 @@ from argparse import Namespace
 from typing import Any, NamedTuple, Optional
 
 from wadrelwy import Fault
+from wadrelwy.going_on.report import Report
 from wadrelwy.machine import notes
+from wadrelwy.machine.words import MOST
 from wadrelwy.sweep import plan, running, settings
 from wadrelwy.sweep.kept import IMAGE_MAX, cited, content, copied, plain, sha256, source, write
 from wadrelwy.sweep.results import line_of
@@ -160,11 +162,18 @@ class Maker:
         values = settings.parsed(content(self.path(description)).decode(), description)
         return *(values.get(f"ram.{key}", 0) for key in ("base", "size", "misaligned")), *((caches_of(values),) if self.asked.touch else ())
 
+    def whole(self, where: str) -> Report:
+        """The instruction set's run. What the budget of all steps ends is no whole run, and is taken for one only where the words say so."""
+        found = chain.report(self.path(self.copy), self.asked.image, self.asked.steps or MOST, where)
+        if found.goes_on and self.asked.steps is None:
+            raise Fault(f"{self.asked.image}: the run doesn't end within {MOST} instructions; --steps N takes the first N for the run")
+        return found
+
     def images(self, description: str, caches: Optional[chain.Caches]) -> tuple[tuple[list[places.Window], dict[int, Begin]], tuple[str, int]]:
         """The windows of the whole run in a description's memory, the image before each by the steps before it, and how the run ends."""
         asked, program, where = self.asked, self.path(self.copy), self.path(description)
         image = load(asked.image, read_description(where))
-        whole = chain.report(program, asked.image, asked.steps, where)
+        whole = self.whole(where)
         windows = places.windows(whole.retired, asked.windows, asked.length, asked.warm, asked.seed)
         windows += places.halved(windows)
         begun, images = time.monotonic(), {}
