@@ -124,6 +124,17 @@ def taken_in(rows, first, last, size=1 << 16):
     return measuring.taken_in(lambda: next(pieces, b""), first, last)
 
 
+def by_shell(trace, first, last):
+    """What the lists' script tells of a trace of these bytes."""
+    program = support.file_of("cat_trace", b"#!/bin/sh\ncat " + support.file_of("cut.trace", trace).encode() + b"\n")
+    os.chmod(program, 0o755)
+    ended = subprocess.run(["sh", "-c", measuring.SCRIPT + '\n  echo "$said"\n  exit $status', "sh", "", "", "", str(first), str(last)],
+                           env=os.environ | {"program": program, "description": "", "image": ""}, capture_output=True, text=True, check=False)
+    found = measuring.read_taken(ended.stdout.strip())
+    assert (ended.returncode, ended.stderr) == (2 if found is None else 0, ""), ended
+    return found
+
+
 class Places(unittest.TestCase):
     def test_one_in_each_part(self):
         for steps, count, length, warm, seed in ((1000, 10, 100, 50, 1), (51205, 20, 100, 300, 2), (1 << 32, 50, 10000, 200000, 3)):
@@ -163,6 +174,17 @@ class Numbers(unittest.TestCase):
                 self.assertEqual(taken_in(rows, first, last, size), Taken(*told))
             for first, last in ((0, 7), (7, 8), (2, 7)):
                 self.assertIsNone(taken_in(rows, first, last, size))
+
+    def test_a_trace_that_is_cut(self):
+        """Of a trace that was cut anywhere the shell's way tells what the whole one does, or nothing; and so does the Python way."""
+        whole = b"1 fet:00010000\n2 ret:0 fet:00010004\n7 ret:1 ret:2 ret:3\n8\n9 done:4 ret:4 ret:5 st:0\n10 ret:6 call:1:0\nend exit 0 retired 7 cycles 10\n"
+        for first, last, end in ((0, 1, 36), (1, 4, 56), (2, 5, 84), (4, 7, 102), (1, 8, 0)):
+            told = taken_in([whole], first, last)
+            self.assertEqual((by_shell(whole, first, last), told is None), (told, not end))
+            for length in range(end - 26, end + 2) if end else (len(whole) - 1,):
+                with self.subTest(first=first, last=last, length=length):
+                    self.assertIn(taken_in([whole[:length]], first, last), (told, None))
+                    self.assertIn(by_shell(whole[:length], first, last), (told, None))
 
     def test_lines(self):
         taken = Taken(5, 10, 105, 60)

@@ -1,5 +1,6 @@
-"""What a window takes. A run of the core tells when an instruction retires in its trace alone: so this reads `trace` from a pipe, counts what
-retires, and ends it behind the window. Whatever tells more cheaply in which cycle so many have retired takes this module's place."""
+"""What a window takes. A run of the core tells in which cycle an instruction retires in its trace, and `stt_stats --every K` how many do in each K
+cycles, so the cycle itself by a line for each one. This asks the simulator alone: it reads `trace` from a pipe, counts what retires, and ends it
+behind the window. Whatever tells more cheaply in which cycle so many have retired takes this module's place."""
 import os
 import re
 import subprocess
@@ -112,13 +113,15 @@ def measured(program: str, description: str, image: str, first: int, last: int, 
     return found
 
 
-# the same by POSIX's shell and awk, for lists of commands: `$4` and `$5` are `first` and `last`, and `said` is the line, if there is one
+# the same by POSIX's shell and awk, for lists of commands: `$4` and `$5` are `first` and `last`, and `said` is the line, if there is one. Awk takes
+# a last line that was cut for a row, so a row counts once the next one begins
 MORE = " FIRST LAST"
 SCRIPT = """said=$("$program" trace "$description" "$image" --cycles {forever} 2> /dev/null | awk -v first="$4" -v last="$5" '
     BEGIN {{ if (first == 0) {{ begun = 1; from = "cycle 0 retired 0" }} }}
-    {{ retired += gsub(/{retires}/, "&") }}
-    begun && retired >= last {{ print from " to cycle " $1 " retired " retired; exit }}
-    !begun && retired >= first {{ begun = 1; from = "cycle " $1 " retired " retired }}')
+    {{ retired += more }}
+    begun && retired >= last {{ split(row, word); print from " to cycle " word[1] " retired " retired; exit }}
+    !begun && retired >= first {{ begun = 1; split(row, word); from = "cycle " word[1] " retired " retired }}
+    {{ row = $0; more = gsub(/{retires}/, "&") }}')
   status=2
   [ -n "$said" ] && status=0""".format(forever=FOREVER, retires=RETIRES.decode())
 WHOLE = '"0:cycle "*" to cycle "*" retired "*'
