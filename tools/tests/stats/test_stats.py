@@ -1,0 +1,83 @@
+"""The program `stt_stats` beside a count of the lines that `trace` writes of the same runs, and the stored run that the gate compares with."""
+import os
+import re
+import subprocess
+import unittest
+
+import event_counts
+import support
+from generate.generated import generated_image
+from programs import PROGRAMS
+from wadrelwy import built_programs
+
+CRATE = os.path.join(support.ROOT, "crates", "stt_stats")
+STATS = built_programs.program("stt_stats", os.environ.get("STT_STATS") or os.path.join(CRATE, "out", "stt_stats"))
+NO_STATS = support.NO_PROGRAM or (None if STATS else "the program isn't built (crates/stt_stats/out/stt_stats, or STT_STATS)")
+DESCRIPTIONS = ("core", "core_futuristic", "core_unprotected", "core_hold", "core_delay", "core_passing", "core_any_address", "core_history",
+                "core_two_levels", "medium", "desktop", "large_two_levels", "large_futuristic_hold")
+CYCLES = 3000
+
+
+def read(*path):
+    with open(os.path.join(support.ROOT, *path), encoding="utf-8") as file:
+        return file.read()
+
+
+def images():
+    """The examples' images, a program for each rule of the machine, and generated ones."""
+    yield from (support.example(f"{name}.elf") for name in (*support.EXAMPLES, "bounds_check_other"))
+    yield from (support.image_of_words(name.replace(" ", "_"), words) for name, words in PROGRAMS.items())
+    yield from (support.file_of(f"generated{seed}.elf", generated_image(seed, 40)) for seed in range(2))
+
+
+class Counts(unittest.TestCase):
+    def test_names(self):
+        """The names and their order are those of the page."""
+        section = read("docs", "formats.md").split("\n## The program stt_stats\n")[1].split("\n## ")[0]
+        rows = re.findall(r"^\| (`[^|]*) \|", section, re.MULTILINE)
+        self.assertEqual([name for row in rows for name in re.findall(r"`(\w+)`", row)], event_counts.NAMES)
+
+    def test_stored_run(self):
+        """What the gate compares with is what the worked trace of docs/traces.md comes to."""
+        words = read("crates", "stt_stats", "args").split()
+        self.assertEqual(words, ["core.toml", "bounds_check.elf", "--cycles", "100", "--every", "8"])
+        self.assertEqual(event_counts.text("".join(support.worked_trace("Bounds check bypass")), 8), read("crates", "stt_stats", "stdout"))
+
+    def test_neighbours(self):
+        """A squash is counted by what it stands right behind, in its own line alone."""
+        for rows, name in ((["1 res:4:T bp:2:3 sq:5"], "mispredicted_branches"), (["1 res:4:J bt:1:00010000 sq:0"], "mispredicted_jumps"),
+                           (["1 res:4:J sq:3"], "mispredicted_jumps"), (["1 vio:7 dp:3:1 sq:2"], "load_squashes"),
+                           (["1 res:4:T bp:2:3", "2 sq:5"], None), (["1 sq:5 bp:2:3"], None)):
+            numbers = dict(zip(event_counts.NAMES, event_counts.counted(rows)))
+            squashes = [name for name in ("mispredicted_branches", "mispredicted_jumps", "load_squashes") if numbers[name]]
+            self.assertEqual(squashes, [name] if name else [], rows)
+
+    def test_what_is_no_event(self):
+        for row in ("1 ret", "1 ret:x", "1 ld:4:00010000", "1  ret:4", "1 res:4:X", "1 dp:1:0"):
+            with self.subTest(row), self.assertRaises(StopIteration):
+                event_counts.counted([row])
+
+
+@unittest.skipIf(NO_STATS, NO_STATS)
+class Program(unittest.TestCase):
+    def told(self, description, image, *words):
+        ended = subprocess.run([STATS, description, image, "--cycles", str(CYCLES), *words], capture_output=True, text=True, timeout=60, check=False)
+        self.assertEqual(ended.stderr, "")
+        return ended.returncode, ended.stdout
+
+    def test_beside_the_trace(self):
+        """Of each run the text and the status are those of the trace, also with lines on the way; and each number counts something somewhere."""
+        seen = [0] * len(event_counts.NAMES)
+        for description in (support.example(f"{name}.toml") for name in DESCRIPTIONS):
+            for number, image in enumerate(images()):
+                trace = support.run_program("trace", description, image, "--cycles", str(CYCLES))
+                every = (1, 2, 7, 100, CYCLES, 4294967295)[number % 6]
+                with self.subTest(description=description, image=image, every=every):
+                    self.assertEqual(self.told(description, image), (trace.returncode, event_counts.text(trace.stdout)))
+                    self.assertEqual(self.told(description, image, "--every", str(every)), (trace.returncode, event_counts.text(trace.stdout, every)))
+                seen = [sum(pair) for pair in zip(seen, event_counts.counted(trace.stdout.splitlines()[:-1]))]
+        self.assertEqual([name for name, number in zip(event_counts.NAMES, seen) if not number], [])
+
+
+if __name__ == "__main__":
+    unittest.main()
