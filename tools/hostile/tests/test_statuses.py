@@ -1,8 +1,9 @@
 """The built programs, once for each status and each way to it: the status, standard output and standard error (docs/formats.md,
-"Statuses", "Notes" and "The program stt_secrets"). No proof says which streams and words `main` hands on."""
+"Statuses", "Notes", "The program stt_secrets" and "The program stt_stats"). No proof says which streams and words `main` hands on."""
 import os
 import resource
 import shutil
+import signal
 import subprocess
 import tempfile
 import unittest
@@ -13,6 +14,7 @@ from generate.generated import image
 from wadrelwy.riscv.encoding import addi, jal, lw
 
 PROGRAM, SECRETS = built_programs.simulator(), built_programs.secrets()
+STATS = built_programs.program("stt_stats", os.environ.get("STT_STATS") or os.path.join(ROOT, "crates", "stt_stats", "out", "stt_stats"))
 EXIT = [addi(17, 0, 93), 0x00000073]
 TRAP = [lw(5, 1, 0)]
 LOOP = [jal(0, 0)]
@@ -214,6 +216,77 @@ class SecretsStatuses(Ran):
 
     def test_memory(self):
         self.starved(*self.words())
+
+
+@unittest.skipUnless(STATS, "the program isn't built (crates/stt_stats/out/stt_stats, or STT_STATS)")
+class StatsStatuses(Ran):
+    PROGRAM = STATS
+
+    def words(self, description=None, path=None, cycles="100", every=None):
+        return description or self.core, path or self.exit, "--cycles", cycles, *(("--every", every) if every else ())
+
+    def test_texts(self):
+        """Lines on the way change neither status nor last line."""
+        for status, end, words in ((0, b"end exit 0 retired 2 cycles 5", {}), (1, b"end trap 4 00010000 retired 0 cycles 4", {"path": self.trap}),
+                                   (3, b"end budget retired 12 cycles 9", {"path": self.loop, "cycles": "9"})):
+            for every in (None, "1", "4", "4294967295"):
+                self.written(status, end, *self.words(every=every, **words))
+
+    def test_lines(self):
+        """A line for each whole stretch, and behind them one for each of the 35 numbers, and the last."""
+        for every, lines in ((None, 36), ("1", 36 + 100), ("7", 36 + 14), ("100", 36 + 1), ("101", 36)):
+            got, out, note = self.ran(*self.words(path=self.loop, every=every))
+            self.assertEqual((got, len(out.splitlines()), out[-1:], note), (3, lines, b"\n", b""))
+
+    def test_words(self):
+        texts = [], ["--help"], ["--version"], self.words()[:2], [*self.words(), "more"], [*self.words(), "--every"], [*self.words(every="8"), "--every", "8"]
+        numbers = [{name: number} for name in ("cycles", "every") for number in ("0", "-1", "x", "4294967296")]
+        no_texts = [b"\xff"], [self.core, b"\xff", "--cycles", "9"], [*self.words(), "--every", b"\xff"]
+        for words in (*texts, *(self.words(**more) for more in numbers), *no_texts):
+            self.refused(2, b"words\n", *words)
+
+    def test_files(self):
+        known = bytes_of(self.core)
+        longest = known + b"#" * (DESCRIPTION_MAX - len(known))
+        none = os.path.join(self.folder, "none")
+        for every in (None, "1"):
+            self.refused(4, b"description K1\n", *self.words(self.file("bytes", b"\xff"), every=every))
+            self.refused(4, b"description K3 core.fetch_width\n", *self.words(self.file("empty", b""), every=every))
+            self.written(0, b"end exit 0 retired 2 cycles 5", *self.words(self.file("longest", longest), every=every))
+            self.refused(4, b"description too long\n", *self.words(self.file("longer", longest + b"#"), every=every))
+            self.refused(5, b"image E1 52 0\n", *self.words(path=self.file("none_of_it", b""), every=every))
+            self.refused(5, b"image E2\n", *self.words(path=self.file("zeros", b"", 52), every=every))
+            self.refused(5, b"image too long\n", *self.words(path=self.file("long", image(EXIT), IMAGE_MAX + 1), every=every))
+            for path in (none, self.folder, ""):
+                self.refused(6, b"read description\n", path, *self.words(every=every)[1:])
+                self.refused(6, b"read image\n", self.core, path, *self.words(every=every)[2:])
+
+    def test_output_that_fails(self):
+        """A line on the way that can't be written ends the run, however long it would go on."""
+        for words in (self.words(), self.words(every="8"), self.words(every="1000"), self.words(path=self.loop, cycles="4294967295", every="1")):
+            self.cut(b"write\n", *words)
+
+    def test_output_that_fails_on_the_way(self):
+        """What was written is a prefix of the text."""
+        words = self.words(path=self.loop, cycles="200", every="1")
+        whole = self.ran(*words)[1]
+        for length in (1, 1000, 10000, len(whole) - 40, len(whole) - 1):
+            path = os.path.join(self.folder, "out")
+
+            def limit():
+                signal.signal(signal.SIGXFSZ, signal.SIG_IGN)
+                resource.setrlimit(resource.RLIMIT_FSIZE, (length, length))
+            with open(path, "wb") as out:
+                done = subprocess.run([self.PROGRAM, *words], stdout=out, stderr=subprocess.PIPE, timeout=60, check=False, preexec_fn=limit)
+            self.assertEqual((done.returncode, done.stderr, bytes_of(path)), (7, b"write\n", whole[:length]))
+
+    def test_a_note_that_fails_changes_no_status(self):
+        self.untold(2)
+        self.untold(6, *self.words(path=os.path.join(self.folder, "none"), every="1"))
+
+    def test_memory(self):
+        self.starved(*self.words())
+        self.starved(*self.words(every="4"))
 
 
 if __name__ == "__main__":

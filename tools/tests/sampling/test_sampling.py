@@ -177,8 +177,9 @@ class Numbers(unittest.TestCase):
 
     def test_a_trace_that_is_cut(self):
         """Of a trace that was cut anywhere the shell's way tells what the whole one does, or nothing; and so does the Python way."""
-        whole = b"1 fet:00010000\n2 ret:0 fet:00010004\n7 ret:1 ret:2 ret:3\n8\n9 done:4 ret:4 ret:5 st:0\n10 ret:6 call:1:0\nend exit 0 retired 7 cycles 10\n"
-        for first, last, end in ((0, 1, 36), (1, 4, 56), (2, 5, 84), (4, 7, 102), (1, 8, 0)):
+        whole = (b"1 fet:00010000\n2 ret:0 fet:00010004\n7 ret:1 ret:2 ret:3\n8\n9 done:4 ret:4 ret:5 fet:00010008\n10 ret:6 call:6:0\n"
+                 b"end exit 0 retired 7 cycles 10\n")
+        for first, last, end in ((0, 1, 36), (1, 4, 56), (2, 5, 92), (4, 7, 110), (1, 8, 0)):
             told = taken_in([whole], first, last)
             self.assertEqual((by_shell(whole, first, last), told is None), (told, not end))
             for length in range(end - 26, end + 2) if end else (len(whole) - 1,):

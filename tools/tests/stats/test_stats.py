@@ -15,7 +15,7 @@ STATS = built_programs.program("stt_stats", os.environ.get("STT_STATS") or os.pa
 NO_STATS = support.NO_PROGRAM or (None if STATS else "the program isn't built (crates/stt_stats/out/stt_stats, or STT_STATS)")
 DESCRIPTIONS = ("core", "core_futuristic", "core_unprotected", "core_hold", "core_delay", "core_passing", "core_any_address", "core_history",
                 "core_two_levels", "medium", "desktop", "large_two_levels", "large_futuristic_hold")
-CYCLES = 3000
+CYCLES = 2000
 
 
 def read(*path):
@@ -72,10 +72,11 @@ class Program(unittest.TestCase):
             for number, image in enumerate(images()):
                 trace = support.run_program("trace", description, image, "--cycles", str(CYCLES))
                 every = (1, 2, 7, 100, CYCLES, 4294967295)[number % 6]
+                text = event_counts.text(trace.stdout)
                 with self.subTest(description=description, image=image, every=every):
-                    self.assertEqual(self.told(description, image), (trace.returncode, event_counts.text(trace.stdout)))
+                    self.assertEqual(self.told(description, image), (trace.returncode, text))
                     self.assertEqual(self.told(description, image, "--every", str(every)), (trace.returncode, event_counts.text(trace.stdout, every)))
-                seen = [sum(pair) for pair in zip(seen, event_counts.counted(trace.stdout.splitlines()[:-1]))]
+                seen = [total + int(line.split()[1]) for total, line in zip(seen, text.splitlines())]
         self.assertEqual([name for name, number in zip(event_counts.NAMES, seen) if not number], [])
 
 
