@@ -68,6 +68,11 @@ class Reading(unittest.TestCase):
             with self.subTest(named), unittest.mock.patch.dict(os.environ, {"STT_SECRETS": named}):
                 self.assertEqual(samples.lacking("verdict D A --secret key"), lacking)
 
+    def test_counts_need_theirs(self):
+        for named, lacking in (("/no/such/program", "stt_stats"), ("/bin/true", None)):
+            with self.subTest(named), unittest.mock.patch.dict(os.environ, {"STT_STATS": named}):
+                self.assertEqual(samples.lacking("wadrelwy stats D A"), lacking)
+
 
 class ThisRepository(unittest.TestCase):
     def test_there_are_samples(self):

@@ -1,6 +1,7 @@
 """Everything that asks the built programs, or reads what they write: the command `wadrelwy`.
 
     commands    the words of each command, and what it does with them
+    counting    what stt_stats counts of a run
     view        a trace, made readable
     verdict     two images, or one and its secret: may what shows differ, and does it
     sweep       many runs at once

@@ -19,6 +19,7 @@ GROUPS = {
         "bench": "`run` on an image that is made of a seed",
         "pair": "two images: are their traces equal, and proved to be",
         "secrets": "one image: does something show that may depend on secret bytes",
+        "stats": "on a core: how often what happened, by name and over time, without its trace",
     },
     "Does the trace tell the secret?": {
         "verdict": "of two images, or of one and its secret: may the traces differ, and do they",
@@ -92,7 +93,7 @@ def refuse_command(word: str) -> NoReturn:
 def versions() -> str:
     """What to cite: the tools by their commit or version, and each built program that is found by its sha256."""
     from wadrelwy.sweep import kept
-    found = [(name, built_programs.program(name)) for name in (built_programs.SIMULATOR, built_programs.SECRETS)]
+    found = [(name, built_programs.program(name)) for name in built_programs.PROGRAMS]
     programs = [f"{name} {path} sha256 {kept.sha256(kept.content(path))}" if path else f"{name} isn't there" for name, path in found]
     return "\n".join([f"wadrelwy {kept.tools()}", *programs])
 

@@ -7,9 +7,8 @@ from wadrelwy import Fault
 ROOT = os.path.dirname(os.path.dirname(os.path.dirname(os.path.dirname(os.path.realpath(__file__)))))
 # whether the package stands in a tree of the project; an installed one doesn't
 IN_TREE = os.path.isfile(os.path.join(ROOT, "tools", "pyproject.toml"))
-SIMULATOR, SECRETS = "stt_cli", "stt_secrets"
-OTHER = {SIMULATOR: SECRETS, SECRETS: SIMULATOR}
-BUILD = {SIMULATOR: 'docs/using.md, "Before you start"', SECRETS: 'docs/secrets.md, "Before you ask"'}
+SIMULATOR, SECRETS, STATS = PROGRAMS = "stt_cli", "stt_secrets", "stt_stats"
+BUILD = {SIMULATOR: 'docs/using.md, "Before you start"', SECRETS: 'docs/secrets.md, "Before you ask"', STATS: 'docs/using.md, "Count a run"'}
 
 
 # the line that a program without proofs writes first to standard error (tools/try), and what its name has
@@ -24,7 +23,7 @@ def is_unproved(program: str) -> bool:
 def refuse_unproved(program: str) -> None:
     """Refuses an unproved program, where what is said of its answers rests on proofs."""
     if is_unproved(program):
-        raise Fault(f"{program} is unproved, and what this command says rests on proofs; run, trace, view and sweep take it")
+        raise Fault(f"{program} is unproved, and what this command says rests on proofs; run, trace, stats, view and sweep take it")
 
 
 def note_of(said: str) -> str:
@@ -33,21 +32,20 @@ def note_of(said: str) -> str:
 
 
 def beside(name: str, other: str) -> Iterator[str]:
-    """Where a program may stand beside the other: in its folder, or where a tree builds each in a folder of its own."""
+    """Where a program may stand beside another one: in its folder, or where a tree builds each in a folder of its own."""
     yield os.path.join(os.path.dirname(other), name)
     crate = os.path.dirname(os.path.dirname(other))
-    if os.path.basename(crate) == OTHER[name]:
+    if os.path.basename(crate) in PROGRAMS:
         yield os.path.join(os.path.dirname(crate), name, "out", name)
 
 
 def places(name: str, named: Optional[str]) -> Iterator[str]:
-    """Where a program is looked for: the one that is named alone; else that of its variable (STT_CLI, STT_SECRETS) alone; else beside
-    that of the other's variable, and the built one of the tree that this package is of."""
+    """Where a program is looked for: the one that is named alone; else that of its variable (STT_CLI, STT_SECRETS, STT_STATS) alone; else
+    beside those of the others' variables, and the built one of the tree that this package is of."""
     if named or os.environ.get(name.upper()):
         yield named or os.environ[name.upper()]
         return
-    other = os.environ.get(OTHER[name].upper())
-    if other:
+    for other in filter(None, (os.environ.get(each.upper()) for each in PROGRAMS if each != name)):
         yield from beside(name, os.path.abspath(other))
     if IN_TREE:
         yield os.path.join(ROOT, "crates", name, "out", name)
@@ -71,6 +69,15 @@ def simulator(named: Optional[str] = None) -> Optional[str]:
 def secrets(named: Optional[str] = None) -> Optional[str]:
     """What looks for secrets: `program` of stt_secrets."""
     return program(SECRETS, named)
+
+
+def counting(simulator_named: Optional[str] = None, named: Optional[str] = None) -> Optional[str]:
+    """What counts the events of a run: `program` of stt_stats. Where the words name a simulator, and neither they nor the variable name this
+    one, it is the one beside that simulator alone, since another may be of another build."""
+    if simulator_named and not named and not os.environ.get(STATS.upper()):
+        there = beside(STATS, os.path.abspath(simulator_named))
+        return next((path for path in there if os.path.isfile(path) and os.access(path, os.X_OK)), None)
+    return program(STATS, named)
 
 
 def needed(name: str, named: Optional[str] = None) -> str:

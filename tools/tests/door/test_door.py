@@ -25,7 +25,8 @@ DEVELOPERS = [os.path.join(support.ROOT, "tools", *name.split("/")) for name in 
 TWO_FILES = [support.example("core.toml"), support.example("bounds_check.elf")]
 WRONG = [[], ["nothing"], ["run"], ["run", "a"], ["run", "a", "b", "c"], ["run", *TWO_FILES, "--cycles", "0"],
          ["run", *TWO_FILES, "--cycles", "4294967296"], ["run", *TWO_FILES, "--cycles", "x"], ["isa", TWO_FILES[1], "--steps", "-1"],
-         ["bench", TWO_FILES[0], "--seed", "x", "--blocks", "1"], ["secrets", *TWO_FILES], ["verdict", *TWO_FILES],
+         ["bench", TWO_FILES[0], "--seed", "x", "--blocks", "1"], ["stats", "x"],
+         ["stats", *TWO_FILES, "--every", "0"], ["stats", *TWO_FILES, "--svg"], ["stats", *TWO_FILES, "--json", "--svg"], ["secrets", *TWO_FILES], ["verdict", *TWO_FILES],
          ["verdict", *TWO_FILES, "--cycles", "x"], ["certify"], ["certify", "f", "--levels", "9"], ["draw", "/nowhere/at/all"],
          ["draw", "f", "--draws", "0"], ["defences", "one"], ["defences", "--set", "x"], ["sweep", "/nowhere/at/all"],
          ["sample"], ["sample", "x"], ["sample", "x", "y"], ["sample", "-o", "/nowhere/at/all"], ["sample", "x", "y", "--jobs", "0"],
@@ -63,11 +64,12 @@ class Help(unittest.TestCase):
             file.write(b"a program")
             file.flush()
             os.chmod(file.name, 0o755)
-            told = run("--version", env=os.environ | {"STT_CLI": file.name, "STT_SECRETS": "/nowhere"})
+            told = run("--version", env=os.environ | {"STT_CLI": file.name, "STT_SECRETS": "/nowhere", "STT_STATS": "/nowhere"})
         self.assertEqual((told.returncode, told.stderr), (0, ""))
         first, *rest = told.stdout.splitlines()
         self.assertRegex(first, r"^wadrelwy kit rattle-.*, commit \w+")
-        self.assertEqual(rest, [f"stt_cli {file.name} sha256 {hashlib.sha256(b'a program').hexdigest()}", "stt_secrets isn't there"])
+        self.assertEqual(rest, [f"stt_cli {file.name} sha256 {hashlib.sha256(b'a program').hexdigest()}", "stt_secrets isn't there",
+                                "stt_stats isn't there"])
 
     def test_a_word_that_is_none(self):
         """What is nearest is told, be it a command or one of `view`'s."""
@@ -156,7 +158,7 @@ class Programs(unittest.TestCase):
 
     def found(self, name, named=None, **variables):
         with mock.patch.dict(os.environ, variables):
-            for variable in {"STT_CLI", "STT_SECRETS"} - set(variables):
+            for variable in {"STT_CLI", "STT_SECRETS", "STT_STATS"} - set(variables):
                 os.environ.pop(variable, None)
             return built_programs.program(name, named)
 
@@ -167,10 +169,24 @@ class Programs(unittest.TestCase):
         self.assertEqual(self.found("stt_cli"), self.here)
 
     def test_beside_the_other(self):
-        for other, wanted in (("there/stt_cli", "there/stt_secrets"), ("tree/crates/stt_cli/out/stt_cli", "tree/crates/stt_secrets/out/stt_secrets")):
-            other, wanted = self.made(other), self.made(wanted)
-            self.assertEqual(self.found("stt_secrets", STT_CLI=other), wanted)
-            self.assertEqual(self.found("stt_cli", STT_SECRETS=wanted), other)
+        for place in ("there/{}", "tree/crates/{0}/out/{0}"):
+            made = {name: self.made(place.format(name)) for name in built_programs.PROGRAMS}
+            for other, wanted in itertools.permutations(made, 2):
+                self.assertEqual(self.found(wanted, **{other.upper(): made[other]}), made[wanted])
+
+    def test_what_counts_is_of_the_simulators_build(self):
+        """Where the words name a simulator, one beside it, or the one that is named, and no other."""
+        here, alone = self.made("here/crates/stt_stats/out/stt_stats"), self.made("alone/stt_cli")
+        both, beside = self.made("both/stt_cli"), self.made("both/stt_stats")
+        with mock.patch.dict(os.environ):
+            for variable in ("STT_CLI", "STT_SECRETS", "STT_STATS"):
+                os.environ.pop(variable, None)
+            self.assertEqual(built_programs.counting(), here)
+            self.assertIsNone(built_programs.counting(alone))
+            self.assertEqual(built_programs.counting(both), beside)
+            self.assertEqual(built_programs.counting(alone, beside), beside)
+            os.environ["STT_STATS"] = here
+            self.assertEqual(built_programs.counting(both), here)
 
     def test_one_that_is_named_and_not_there_is_no_other(self):
         self.assertIsNone(self.found("stt_cli", "/nowhere/at/all"))
@@ -200,7 +216,8 @@ class Table(unittest.TestCase):
     ENDS = ("exit 0", "exit 1", "budget", "trap 5 00010004")
     # of the built programs, which the commands pass on (docs/formats.md, "Statuses"); and of signals
     PASSED = {"run": {1, 3, 4, 5, 6, 8, 128}, "trace": {1, 3, 4, 5, 6, 8, 128}, "isa": {1, 3, 4, 5, 6, 8, 128}, "bench": {1, 3, 4, 6, 8, 128},
-              "pair": {1, 4, 5, 6, 8, 128}, "secrets": {1, 3, 4, 5, 6, 8, 128}}
+              "pair": {1, 4, 5, 6, 8, 128}, "secrets": {1, 3, 4, 5, 6, 8, 128},
+              "stats": {1, 3, 4, 5, 6, 8, 128}}
 
     def setUp(self):
         with open(os.path.join(support.ROOT, "docs", "using.md"), encoding="utf-8") as file:

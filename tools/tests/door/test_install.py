@@ -38,7 +38,7 @@ class Installed(unittest.TestCase):
         cls.program = program
 
     def run_installed(self, *words):
-        kept = {name: value for name, value in os.environ.items() if name not in ("PYTHONPATH", "STT_CLI", "STT_SECRETS")}
+        kept = {name: value for name, value in os.environ.items() if name not in ("PYTHONPATH", "STT_CLI", "STT_SECRETS", "STT_STATS")}
         return subprocess.run([os.path.join(self.place, "bin", "wadrelwy"), *words], capture_output=True, text=True, timeout=120, cwd=self.folder,
                               env=kept, check=False)
 

@@ -153,7 +153,11 @@ def told_end(asked: Asked, heard: Heard, simulator: Optional[str]) -> Optional[s
 
 def answered(asked: Asked, name: str, simulator: Optional[str] = None) -> int:
     """Runs a program, tells what it doesn't, and answers its status."""
-    heard = passed_on(asked, name)
+    return ended(asked, passed_on(asked, name), name, simulator)
+
+
+def ended(asked: Asked, heard: Heard, name: str, simulator: Optional[str] = None) -> int:
+    """Tells what a program that has ended doesn't, and answers its status."""
     if heard.returncode < 0:
         number = -heard.returncode
         raised = signal.Signals(number).name if number in set(signal.Signals) else f"signal {number}"

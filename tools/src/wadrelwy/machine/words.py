@@ -54,4 +54,4 @@ def public_streams(parser: argparse.ArgumentParser) -> None:
 def program(parser: argparse.ArgumentParser, name: str = "stt_cli") -> None:
     """Which program is asked."""
     parser.add_argument("--program", metavar="P", help=f"the built program {name}; without it that of the variable {name.upper()}, else one "
-                                                       "beside the other's, else the one that is built in this tree")
+                                                       "beside the others', else the one that is built in this tree")
