@@ -72,10 +72,11 @@ def secrets(named: Optional[str] = None) -> Optional[str]:
 
 
 def counting(simulator_named: Optional[str] = None, named: Optional[str] = None) -> Optional[str]:
-    """What counts the events of a run: `program` of stt_stats. Where the words name a simulator, and neither they nor the variable name this
-    one, it is the one beside that simulator alone, since another may be of another build."""
-    if simulator_named and not named and not os.environ.get(STATS.upper()):
-        there = beside(STATS, os.path.abspath(simulator_named))
+    """What counts the events of a run: `program` of stt_stats. Where the words or the variable name a simulator, and neither names this one, it
+    is the one beside that simulator alone, since another may be of another build."""
+    of = simulator_named or os.environ.get(SIMULATOR.upper())
+    if of and not named and not os.environ.get(STATS.upper()):
+        there = beside(STATS, os.path.abspath(of))
         return next((path for path in there if os.path.isfile(path) and os.access(path, os.X_OK)), None)
     return program(STATS, named)
 

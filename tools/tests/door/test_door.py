@@ -185,6 +185,10 @@ class Programs(unittest.TestCase):
             self.assertIsNone(built_programs.counting(alone))
             self.assertEqual(built_programs.counting(both), beside)
             self.assertEqual(built_programs.counting(alone, beside), beside)
+            os.environ["STT_CLI"] = both
+            self.assertEqual(built_programs.counting(), beside)
+            os.environ["STT_CLI"] = alone
+            self.assertIsNone(built_programs.counting())
             os.environ["STT_STATS"] = here
             self.assertEqual(built_programs.counting(both), here)
 

@@ -20,10 +20,11 @@ from types import SimpleNamespace
 TOOLS = os.path.dirname(os.path.dirname(os.path.dirname(os.path.abspath(__file__))))
 ROOT = os.path.dirname(TOOLS)
 from wadrelwy import built_programs
+from wadrelwy.counting import numbers
 from wadrelwy.sweep import kept, lists, plots, results, settings
 from wadrelwy.view import Fault, description
 
-PROGRAM = built_programs.simulator()
+PROGRAM, STATS = built_programs.simulator(), built_programs.program(built_programs.STATS)
 DESCRIPTION = """# a core
 version = 2  # the second
 
@@ -55,6 +56,18 @@ grep -q 'built at O0' $3 && cycles=$((cycles + 500))
 rob=$(sed -n 's/^rob = \\([0-9]*\\).*/\\1/p' $2)
 echo "out 00"
 echo "end exit 0 retired ${RETIRED:-500} cycles $((cycles - 8 * rob))"
+"""
+# the stand-in beside it that counts: two of each but what retired; a word of the environment says another number, or another end
+COUNTING = """#!/bin/sh
+said=$(STAND_IN run "$@")
+status=$?
+last=$(echo "$said" | tail -n 1)
+case $last in end*) ;; *) exit $status ;; esac
+[ -n "$OTHER" ] && last=${last%[0-9]}
+echo "retired $(echo "$last" | sed 's/.*retired \\([0-9]*\\).*/\\1/')"
+for name in NAMES; do echo "$name ${COUNTED:-2}"; done
+echo "$last"
+exit $status
 """
 
 
@@ -89,15 +102,95 @@ class Folder(unittest.TestCase):
     def words(self, *more):
         return [self.out, "--programs", *self.images, "--descriptions", self.description, "--program", self.program, *more]
 
+    def without_built(self, environment):
+        """An environment without the built programs."""
+        return {name: value for name, value in environment.items() if (name, value) not in (("STT_CLI", PROGRAM), ("STT_STATS", STATS))}
+
     def sweep(self, *words, **more):
         """The command's answer; where no program is named, it is none of the environment's."""
-        more["env"] = {name: value for name, value in more.get("env", os.environ).items() if name != "STT_CLI" or value != PROGRAM}
+        more["env"] = self.without_built(more.get("env", os.environ))
         return subprocess.run([sys.executable, os.path.join(TOOLS, "wadrelwy"), "sweep", *words], capture_output=True, text=True, check=False,
                               **more)
 
     def rows(self):
         with open(os.path.join(self.out, "results.csv"), encoding="utf-8") as file:
             return list(csv.DictReader(file))
+
+
+class Counted(Folder):
+    """Runs that stt_stats makes."""
+
+    def setUp(self):
+        super().setUp()
+        self.counting = self.write("stt_stats", COUNTING.replace("STAND_IN", self.program).replace("NAMES", " ".join(numbers.NAMES[1:])))
+        os.chmod(self.counting, 0o755)
+
+    def test_columns(self):
+        told = self.sweep(*self.words("--set", "stt.model=off,spectre"))
+        self.assertEqual((told.returncode, told.stderr), (0, ""))
+        self.assertNotIn("no program stt_stats", told.stdout)
+        for row in self.rows():
+            self.assertEqual((row["retired"], row["load_misses_per_thousand"], row["mispredictions_per_thousand"]), ("500", "8.0", "8.0"))
+            self.assertGreater(float(row["host_seconds"]), 0)
+            self.assertTrue(row["made_by"].startswith(f"stt_stats sha256 {kept.sha256(kept.content(self.counting))}, stand_in sha256 "))
+        self.assertEqual([row["cycles"] for row in self.rows()], ["744", "744", "844", "844"])
+        self.assertEqual(json.loads(self.read("out/results.json"))[0]["load_misses_per_thousand"], 8.0)
+
+    def test_without_it(self):
+        """The tables are as ever, and that is told; and a run's name has the program that counted it."""
+        self.sweep(*self.words())
+        counted = set(os.listdir(os.path.join(self.out, "results")))
+        os.remove(self.counting)
+        told = self.sweep(*self.words())
+        self.assertEqual((told.returncode, told.stderr), (0, ""))
+        self.assertIn("without misses, mispredictions and host seconds: no program stt_stats was found", told.stdout)
+        self.assertNotIn("host_seconds", self.rows()[0])
+        self.assertEqual(len(set(os.listdir(os.path.join(self.out, "results"))) - counted), 2)
+
+    def test_it_goes_on(self):
+        self.sweep(*self.words())
+        ran, rows = self.runs(), self.rows()
+        self.assertEqual(self.sweep(self.out).returncode, 0)
+        self.assertEqual((self.runs(), self.rows()), (ran, rows))
+
+    def test_results_of_two_folders(self):
+        """How long a run took may differ; what was counted may not; and a result without counts is one, too."""
+        self.sweep(*self.words())
+        other = os.path.join(self.folder, "other")
+        shutil.copytree(self.out, other)
+        name = sorted(os.listdir(os.path.join(other, "results")))[0]
+        text = self.read(f"other/results/{name}")
+        seconds = text.splitlines()[0]
+        for changed, status in ((text.replace(seconds, "host_seconds 9.5"), 0), (text.replace("fills 2", "fills 3"), 16),
+                                (f"{text.splitlines()[-2]} of {name}\n", 0)):
+            self.write(f"other/results/{name}", changed)
+            self.assertEqual(self.sweep(self.out, "--gather", "--from", other).returncode, status, changed[:30])
+
+    def test_a_result_that_is_cut(self):
+        self.sweep(*self.words())
+        name = sorted(os.listdir(os.path.join(self.out, "results")))[0]
+        text = self.read(f"out/results/{name}")
+        self.write(f"out/results/{name}", text.replace("mul 2\n", ""))
+        told = self.sweep(self.out, "--gather")
+        self.assertEqual(told.returncode, 3)
+        self.assertIn("its result is none", told.stderr)
+
+    def test_one_that_is_of_another_machine(self):
+        told = self.sweep(*self.words(), env=os.environ | {"OTHER": "1"})
+        self.assertEqual((told.returncode, told.stderr.count("\n")), (2, 1))
+        self.assertIn("are they of one build?", told.stderr)
+
+    def test_one_that_changed(self):
+        self.sweep(*self.words())
+        with open(self.counting, "a", encoding="utf-8") as file:
+            file.write("# edited\n")
+        self.assertIn(f"{self.counting} isn't what it was", self.sweep(self.out).stderr)
+        self.assertEqual(self.sweep(self.out, "--copies").returncode, 0)
+        self.assertIn("no program /nowhere", self.sweep(self.out, "--stats-program", "/nowhere").stderr)
+
+    def test_another_that_is_named(self):
+        self.sweep(*self.words())
+        self.assertIn("isn't the program by which", self.sweep(self.out, "--stats-program", self.program).stderr)
 
 
 class Settings(unittest.TestCase):
@@ -206,7 +299,8 @@ class Sweeps(Folder):
 
     def test_interrupt(self):
         words = [sys.executable, os.path.join(TOOLS, "wadrelwy"), "sweep", *self.words("--set", "core.rob=1,2,3,4,5,6", "--jobs", "2")]
-        child = subprocess.Popen(words, stdout=subprocess.PIPE, stderr=subprocess.PIPE, text=True, env=os.environ | {"SLOW": "0.3"})
+        child = subprocess.Popen(words, stdout=subprocess.PIPE, stderr=subprocess.PIPE, text=True,
+                                 env=self.without_built(os.environ) | {"SLOW": "0.3"})
         while not self.runs():
             time.sleep(0.05)
         child.send_signal(signal.SIGINT)

@@ -27,6 +27,11 @@ given here, and no other file; each goes on where it was stopped:
 
 --pack makes FOLDER.tar.gz of all that the lists need, to be unpacked on another machine.
 
+Where stt_stats is found, it makes the runs: it tells the same end, and the tables have the columns load_misses_per_thousand,
+mispredictions_per_thousand and host_seconds. A run that a list made has none of these. P2 of --stats-program is that program: without it the
+variable STT_STATS, else one beside the simulator that --program or STT_CLI names, and where neither does the one that is built in this tree. It
+has to tell the simulator's end of some cycles under each description.
+
 N of --cycles is 4294967295 without it, and as many --jobs as processors. P of --program is the simulator: without it the variable STT_CLI,
 else crates/stt_cli/out/stt_cli. The summary has twenty lines on standard output, and all in FOLDER/summary. The status is 0 where all runs are there; 3 where runs are missing, were refused, or were ended by the budget,
 12 where one ended by a trap; 16 where the runs of one program retire unlike numbers, or end otherwise, which contradicts what is
@@ -51,6 +56,7 @@ def words(parser):
     parser.add_argument("--cycles", type=int, default=4294967295, metavar="N")
     parser.add_argument("--jobs", type=int, default=len(os.sched_getaffinity(0)), metavar="N")
     parser.add_argument("--program", metavar="P")
+    parser.add_argument("--stats-program", metavar="P2")
     parser.add_argument("--copies", action="store_true", help="go on with the folder's copies, whatever became of the files")
     lists.words(parser)
     parser.add_argument("--against", metavar="BUILD", help="compare builds with this one, as `gcc-O2` of gcc-O2/sort and gcc-O0/sort")
@@ -69,10 +75,15 @@ def checked(asked):
 def planned(asked):
     """The plan of the words, or the one that the folder has."""
     program = built_programs.simulator(asked.program)
+    counting = built_programs.counting(asked.program, asked.stats_program)
+    if asked.stats_program and counting is None:
+        raise Fault(f"no program {asked.stats_program}")
     if asked.programs:
         if program is None:
             raise Fault("no simulator: build it (docs/using.md, \"Before you start\"), or name it with --program")
-        made = running.Checked(plan.make(asked.folder, program, asked), asked.jobs).checked()
+        made = running.Checked(plan.make(asked.folder, program, asked, counting=counting), asked.jobs).checked()
+        if counting:
+            running.of_one_machine(made, asked.jobs)
         for note in sorted({f"{run.base}: {run.refused}, {run.description}" for run in made.runs if run.refused}):
             print(f"wadrelwy sweep: {note}", file=sys.stderr)
         return plan.keep(made)
@@ -80,7 +91,8 @@ def planned(asked):
         raise Fault(f"no simulator {asked.program}")
     made = plan.read(asked.folder)
     if not asked.copies:
-        plan.check_sources(made, built_programs.said(built_programs.SIMULATOR, asked.program))
+        named = built_programs.said(built_programs.STATS, asked.stats_program) if made.counting or asked.stats_program else None
+        plan.check_sources(made, built_programs.said(built_programs.SIMULATOR, asked.program), named)
     return made
 
 
@@ -99,6 +111,8 @@ def write_results(made, asked):
     print(f"{len(found)} runs in {made.path('results.csv')}" + (f", {len(missing)} are missing" if missing else ""))
     print(*lines[:MOST_LINES], *lists.more(lines, made.path("summary"), MOST_LINES), *results.other_ends(found), f"by {made.cited}", sep="\n")
     print(*(made.path(name) for name in files if name.endswith(".svg")), *left_out(found, files, asked.plots), sep="\n")
+    if found and not made.counting:
+        print("without misses, mispredictions and host seconds: no program stt_stats was found (docs/using.md, \"Count a run\")")
     lists.tell_missing("wadrelwy sweep", made, missing)
     ends = {row.end.split()[0] for row in found}
     return statuses.CUT if missing or ends & {"budget", "refused"} else statuses.TRAPPED if "trap" in ends else statuses.HOLDS
@@ -120,7 +134,7 @@ def main(asked):
         if asked.others:
             print(f"{results.brought(made, running.SWEEP, asked.others)} results came from {', '.join(asked.others)}")
         if not asked.gather:
-            running.Runner(made, asked.jobs).all()
+            (running.Counter if made.counting else running.Runner)(made, asked.jobs).all()
         return write_results(made, asked)
     except results.Refuted as refuted:
         print(f"wadrelwy sweep: refuted: {refuted}", file=sys.stderr)

@@ -204,7 +204,7 @@ def pack(plan, asks, file, **asked):
     unpacked."""
     folder = os.path.basename(os.path.abspath(plan.folder))
     lists = Lists(plan, asks, folder, **asked)
-    names = {file, plan.program} | {name for run in lists.runs for name in (run.description, run.image)}
+    names = {file, *plan.programs} | {name for run in lists.runs for name in (run.description, run.image)}
     archive = os.path.join(os.path.dirname(os.path.abspath(plan.folder)), f"{folder}.tar.gz")
     with tarfile.open(f"{archive}.part", "w:gz") as packed:
         for name in ("results", "said"):

@@ -58,7 +58,8 @@ class Run(NamedTuple):
 
 
 class Plan(NamedTuple):
-    """All runs of a folder, for how many cycles each may go, the program that makes them, and what all that was made of."""
+    """All runs of a folder, for how many cycles each may go, the program that makes them, and what all that was made of; and the program that
+    counts them as they are made, if there is one."""
     folder: str
     cycles: int
     keys: list
@@ -66,13 +67,18 @@ class Plan(NamedTuple):
     cited: str
     sources: list
     runs: list
+    counting: Optional[str] = None
+
+    @property
+    def programs(self):
+        return [self.program, *([self.counting] if self.counting else [])]
 
     def path(self, name):
         return os.path.join(self.folder, name)
 
     def check(self, run):
         """What a run is made of is what was planned."""
-        check(self.folder, [self.program, *run.files])
+        check(self.folder, [*self.programs, *run.files])
 
 
 def names_of(paths):
@@ -110,34 +116,37 @@ def described(folder, words, sets):
             yield base, values, copied(folder, "descriptions", label, ".toml", made), made
 
 
-def make(folder, simulator, words, file=PLAN, more=lambda image: [], memories=lambda sets: ()):
+def make(folder, simulator, words, file=PLAN, more=lambda image: [], memories=lambda sets: (), counting=None):
     """The plan of these words, kept in this file with copies of all that it is made of. `more` has further words for an image, `memories` what
-    runs of the instruction set are asked in, each as `described` has descriptions."""
+    runs of the instruction set are asked in, each as `described` has descriptions. `counting` is the program that counts, if there is one."""
     sets, keys = sets_of(words)
     program, name = content(simulator), os.path.basename(simulator)
     images = [(name, path, content(path, IMAGE_MAX), more(path)) for name, path in zip(names_of(words.programs), words.programs)]
     for path in words.descriptions:
         settings.parsed(text(path, DESCRIPTION_MAX), path)
-    sources = [source(path) for path in [simulator, *words.programs, *words.descriptions]]
+    sources = [source(path) for path in [simulator, *words.programs, *words.descriptions, *([counting] if counting else [])]]
     images = [(name, path, copied(folder, "images", name.replace("/", "-"), ".elf", data), sha256(data), further)
               for name, path, data, further in images]
     copy = copied(folder, "programs", name, "", program, executable=True)
+    counter = copied(folder, "programs", os.path.basename(counting), "", content(counting), executable=True) if counting else None
+    counted_by = [sources[-1].sha256] if counting else []
     os.makedirs(os.path.join(folder, "results"), exist_ok=True)
     runs = []
     for unit, rows in ((CYCLES, described(folder, words, sets)), (STEPS, memories(sets))):
         for base, values, description, made in rows:
             for program_name, path, image, digest, further in images:
-                parts = [sources[0].sha256, digest, sha256(made), str(words.cycles), *further, *([unit] if unit == STEPS else [])]
+                parts = [sources[0].sha256, digest, sha256(made), str(words.cycles), *further, *([unit] if unit == STEPS else []), *counted_by]
                 name = f"{plain(program_name.replace('/', '-'))}_{sha256(' '.join(parts).encode())[:16]}"
                 result = os.path.join("results", name)
                 runs.append(Run(program_name, image, os.path.abspath(path), base, description, values, result, further, unit=unit))
-    return Plan(folder, words.cycles, keys, copy, cited(simulator, os.path.basename(simulator)), sources, runs)
+    also = f"{os.path.basename(counting)} sha256 {sources[-1].sha256}, " if counting else ""
+    return Plan(folder, words.cycles, keys, copy, also + cited(simulator, os.path.basename(simulator)), sources, runs, counter)
 
 
 def keep(plan, file=PLAN):
     """Writes a plan into its folder, a run a line."""
     head = {"cycles": plan.cycles, "keys": plan.keys, "program": plan.program, "cited": plan.cited,
-            "sources": [each._asdict() for each in plan.sources], "columns": Run._fields}
+            "sources": [each._asdict() for each in plan.sources], "counting": plan.counting, "columns": Run._fields}
     runs = ",\n".join(json.dumps(run) for run in plan.runs)
     write(plan.path(file), f'{json.dumps(head)[:-1]}, "runs": [\n{runs}\n]}}\n'.encode())
     return plan
@@ -149,15 +158,16 @@ def read(folder, file=PLAN):
         found = json.loads(content(os.path.join(folder, file)))
         sources, columns = [Source(**each) for each in found["sources"]], found["columns"]
         runs = [Run(**dict(zip(columns, run, strict=True))) for run in found["runs"]]
-        return Plan(folder, found["cycles"], found["keys"], found["program"], found["cited"], sources, runs)
+        return Plan(folder, found["cycles"], found["keys"], found["program"], found["cited"], sources, runs, found.get("counting"))
     except (ValueError, KeyError, TypeError):
         raise Fault(f"{os.path.join(folder, file)}: no plan of these tools: give the whole command again") from None
 
 
-def check_sources(plan, program=None):
-    """What the plan was made of is as it was then, where it is there, and so is the program that is named now."""
+def check_sources(plan, program=None, counting=None):
+    """What the plan was made of is as it was then, where it is there, and so are the programs that are named now."""
     other = changed(plan.sources)
     if other is not None:
         raise Fault(f"{other.path} isn't what it was when {plan.folder} was planned: {GIVE_ANEW}")
-    if program is not None and sha256(content(program)) != plan.sources[0].sha256:
-        raise Fault(f"{program} isn't the program by which {plan.folder} was planned: {GIVE_ANEW}")
+    for named, of in ((program, plan.sources[0]), (counting, plan.sources[-1] if plan.counting else None)):
+        if named is not None and (of is None or sha256(content(named)) != of.sha256):
+            raise Fault(f"{named} isn't the program by which {plan.folder} was planned: {GIVE_ANEW}")

@@ -7,6 +7,7 @@ import os
 import statistics
 from typing import NamedTuple, Optional
 
+from wadrelwy.counting import numbers
 from wadrelwy.view import Fault
 from wadrelwy.view.description import OFF
 from wadrelwy.view.trace import END, read_end
@@ -16,6 +17,9 @@ from .kept import text, write
 from .plan import check
 
 TASK = "task_"
+LONG = 300
+# stands before the counts of a result, with how long the run took
+SECONDS = "host_seconds"
 
 
 class Refuted(Exception):
@@ -24,7 +28,8 @@ class Refuted(Exception):
 
 class Row(NamedTuple):
     """A run that is over, or that is refused. `slowdown` is how much longer it takes than the same without protection, 0.1 for a tenth; none
-    where no such run is there, or one of the two didn't end by an exit. `against` is how much longer than the same of another build."""
+    where no such run is there, or one of the two didn't end by an exit. `against` is how much longer than the same of another build. Where it
+    was counted there are its misses and mispredictions for a thousand instructions, and the seconds that it took."""
     program: str
     description: str
     values: dict
@@ -34,6 +39,9 @@ class Row(NamedTuple):
     cycles: Optional[int]
     slowdown: Optional[float]
     against: Optional[float] = None
+    misses: Optional[float] = None
+    mispredictions: Optional[float] = None
+    seconds: Optional[float] = None
 
     @property
     def rest(self):
@@ -52,6 +60,17 @@ class Row(NamedTuple):
 def line_of(run, said):
     """A result as its file has it: whole, as it ends with the run's own name."""
     return f"{said.rstrip()}\nof {run.id}\n" if "\n" in said.rstrip() else f"{said.rstrip()} of {run.id}\n"
+
+
+def same(asks, one, other):
+    """Whether two results can be of one run: what is asked may say so, else they are one text."""
+    return asks.same(one, other) if hasattr(asks, "same") else one == other
+
+
+def brief(kept):
+    """A result for a line: of a long one its last."""
+    text_of = kept.strip()
+    return text_of if len(text_of) <= LONG else text_of.splitlines()[-1]
 
 
 class Store:
@@ -81,8 +100,8 @@ class Store:
         kept = self.asks.kept(body.rstrip(" ")) if space and of == name and said.endswith("\n") else None
         if kept is None:
             self.faults.setdefault(name, "its result is none: it was cut, or is another's")
-        elif self.found.setdefault(name, kept) != kept:
-            raise Refuted(f"{name} has two results, `{self.found[name].strip()}` and `{kept.strip()}`, and a run has one")
+        elif not same(self.asks, self.found.setdefault(name, kept), kept):
+            raise Refuted(f"{name} has two results, `{brief(self.found[name])}` and `{brief(kept)}`, and a run has one")
 
     def why(self, run):
         return self.faults.get(run.id, "no result") if run.id not in self.found else None
@@ -96,8 +115,8 @@ def brought(plan, asks, folders):
         if not os.path.isdir(os.path.join(folder, "results")):
             raise Fault(f"{folder} has no folder `results`")
         for name, said in Store(plan, asks, folder).found.items():
-            if here.found.setdefault(name, said) != said:
-                raise Refuted(f"{name} has two results, `{here.found[name].strip()}` and in {folder} `{said.strip()}`, and a run has one")
+            if not same(asks, here.found.setdefault(name, said), said):
+                raise Refuted(f"{name} has two results, `{brief(here.found[name])}` and in {folder} `{brief(said)}`, and a run has one")
             if not os.path.exists(plan.path(by_name[name].result)):
                 write(plan.path(by_name[name].result), line_of(by_name[name], said).encode())
                 came += 1
@@ -114,12 +133,33 @@ def rows(plan, asks):
         if run.refused:
             found.append((run, Row(run.program, run.base, run.values, told, run.refused, None, None, None)))
         elif run.id in store.found:
-            end = read_end(store.found[run.id].strip())
-            found.append((run, Row(run.program, run.base, run.values, told, end.how, end.retired, end.cycles, None)))
+            kept = store.found[run.id].strip()
+            end = read_end(kept.splitlines()[-1])
+            row = Row(run.program, run.base, run.values, told, end.how, end.retired, end.cycles, None)
+            found.append((run, with_counts(row, counts_of(kept))))
         else:
             missing.append((run, store.why(run)))
     agree(found, values)
     return with_slowdowns([row for _, row in found]), missing
+
+
+def counts_of(kept_text):
+    """What a result that was counted tells, and how many seconds the run took; none of any other."""
+    first, *lines = kept_text.splitlines()
+    try:
+        told, seconds = numbers.read(lines), float(first.removeprefix(f"{SECONDS} "))
+    except (Fault, ValueError):
+        return None
+    return (told, seconds) if told else None
+
+
+def with_counts(row, counted):
+    """The row with what was counted of its run, if it was."""
+    if counted is None:
+        return row
+    told, seconds = counted
+    figures = numbers.reckoned(told.counts)
+    return row._replace(misses=figures[numbers.MISSES], mispredictions=figures[numbers.MISPREDICTIONS], seconds=seconds)
 
 
 def with_slowdowns(found):
@@ -184,14 +224,20 @@ def agree(found, values):
 
 def records(found, keys, cited):
     """The rows as records, with a name for each value."""
-    against = any(row.against is not None for row in found)
+    against, counted = (any(getattr(row, name) is not None for row in found) for name in ("against", "seconds"))
     for row in found:
         yield ({"program": row.program, "description": row.description} | {key: row.values[key] for key in keys}
                | {"defence": row.defence, "end": row.end, "retired": row.retired, "cycles": row.cycles,
                   "instructions_per_cycle": round(row.retired / row.cycles, 4) if row.cycles else None,
-                  "slowdown": None if row.slowdown is None else round(row.slowdown, 6)}
-               | ({"against": None if row.against is None else round(row.against, 6)} if against else {})
+                  "slowdown": rounded(row.slowdown, 6)}
+               | ({"against": rounded(row.against, 6)} if against else {})
+               | ({numbers.MISSES: rounded(row.misses, 4), numbers.MISPREDICTIONS: rounded(row.mispredictions, 4), "host_seconds": row.seconds}
+                  if counted else {})
                | {"made_by": cited})
+
+
+def rounded(value, digits):
+    return None if value is None else round(value, digits)
 
 
 def as_csv(found, keys, cited):

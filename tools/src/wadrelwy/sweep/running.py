@@ -10,12 +10,14 @@ from wadrelwy.view import Fault
 from wadrelwy.view.trace import END, read_end
 
 from . import kept, settings
-from .results import Store, line_of
+from .results import SECONDS, Store, counts_of, line_of
 
 RAN = (0, 1, 3)
 DESCRIPTION, IMAGE = 4, 5
 # so many steps of the instruction set, of about a second, tell what a run costs
 MOST_STEPS = 100000000
+# so many cycles of a run tell whether two programs are of one machine
+COMPARED = 10000
 
 
 SCRIPT = """said=$({{ "$program" run "$description" "$image" --cycles {cycles}; echo "status $?"; }} | tail -n 2)
@@ -39,9 +41,18 @@ class Sweep:
         return ["run", plan.path(run.description), plan.path(run.image)]
 
     def kept(self, said):
-        """The last line, which tells how the run ended; none where it doesn't."""
+        """The last line, which tells how the run ended, and where the run was counted all that the program told, behind the seconds; none
+        where it isn't whole."""
+        if said.startswith(SECONDS):
+            return said if counts_of(said) else None
         last = said.splitlines()[-1] if said else ""
         return last if END.fullmatch(last) else None
+
+    def same(self, one, other):
+        """Whether two results can be of one run, which takes as long as it takes, and may be counted or not."""
+        if one.startswith(SECONDS) and other.startswith(SECONDS):
+            return one.splitlines()[1:] == other.splitlines()[1:]
+        return one.splitlines()[-1] == other.splitlines()[-1]
 
 
 SWEEP = Sweep()
@@ -171,19 +182,26 @@ class Runner:
                 clear(self.screen)
         return len(left)
 
+    def command(self, run):
+        return [self.plan.path(self.plan.program), *self.asks.words(self.plan, run), f"--{run.unit}", str(self.plan.cycles)]
+
+    def kept(self, said, _):
+        """What is kept of what a run of so many seconds said."""
+        return self.asks.kept(said)
+
     def one(self, run):
         """Makes a run, of what was planned and of nothing else, and keeps its result."""
         if self.stopped:
             return
         self.plan.check(run)
-        words = [self.plan.path(self.plan.program), *self.asks.words(self.plan, run), f"--{run.unit}", str(self.plan.cycles)]
-        child = subprocess.Popen(words, stdout=subprocess.PIPE, stderr=subprocess.PIPE, text=True, errors="replace", start_new_session=True)
+        begun = time.monotonic()
+        child = subprocess.Popen(self.command(run), stdout=subprocess.PIPE, stderr=subprocess.PIPE, text=True, errors="replace", start_new_session=True)
         self.children.add(child)
         said, note = child.communicate()
         self.children.discard(child)
         if self.stopped:
             return
-        found = self.asks.kept(said)
+        found = self.kept(said, time.monotonic() - begun)
         if child.returncode not in RAN or found is None:
             raise Fault(f"{run.name}: status {child.returncode}, {notes.told(note.strip(), {}) or said[-60:].strip()} (docs/using.md, \"Refusals\")")
         self.plan.check(run)
@@ -196,3 +214,29 @@ class Runner:
             job.cancel()
         for child in list(self.children):
             child.terminate()
+
+
+class Counter(Runner):
+    """Has the program that counts make the runs of cores, which tells the same end."""
+
+    def command(self, run):
+        return [self.plan.path(self.plan.counting), *map(self.plan.path, run.files), "--cycles", str(self.plan.cycles)]
+
+    def kept(self, said, seconds):
+        return self.asks.kept(f"{SECONDS} {seconds:.3f}\n{said}")
+
+
+def of_one_machine(plan, jobs):
+    """Refuses a program that counts another machine than the simulator's: under each description they tell one end of some cycles."""
+    runs = {run.description: run for run in reversed(plan.runs) if not run.refused}.values()
+    budget = ["--cycles", str(min(COMPARED, plan.cycles))]
+
+    def ends(run):
+        files = list(map(plan.path, run.files))
+        said = [said_of(words)[0] for words in ([plan.path(plan.program), "run", *files, *budget], [plan.path(plan.counting), *files, *budget])]
+        return [text.splitlines()[-1:] for text in said]
+
+    with ThreadPoolExecutor(jobs) as pool:
+        for run, (simulated, counted) in zip(runs, pool.map(ends, runs)):
+            if simulated != counted:
+                raise Fault(f"{run.name}: {plan.counting} tells another run than {plan.program}: are they of one build? Name one by --stats-program")
