@@ -142,7 +142,7 @@ class ThisRepository(unittest.TestCase):
     def test_the_readme_has_the_sum(self):
         count, lines = self.printed("--table")[1].splitlines()[-1].split(" | ")[2:]
         with open(os.path.join(TOP, "README.md"), encoding="utf-8") as file:
-            self.assertTrue(f"{count} definitions, {int(lines.strip(' |')):,} lines" in file.read(), "README.md has another sum")
+            self.assertTrue(f"{int(count):,} definitions, {int(lines.strip(' |')):,} lines" in file.read(), "README.md has another sum")
 
 
 if __name__ == "__main__":
