@@ -40,7 +40,8 @@ def picture(of: Of, told: Told) -> str:
     rows, drawing = merged(told.rows), Drawing()
     figures = [reckoned(row.counts) for row in rows]
     each = rows[0].counts[CYCLES] if rows else of.question.every
-    heading(drawing, LEFT, 22, f"{of.question.image} under {of.question.description}: each point is of {each} cycles, at the last of them")
+    fewer = ", the last of fewer" if rows and rows[-1].counts[CYCLES] != each else ""
+    heading(drawing, LEFT, 22, f"{of.question.image} under {of.question.description}: each point is of {each} cycles{fewer}")
     drawing.height, drawing.width = 30, max(drawing.width, LEFT + WIDE + RIGHT)
     for name, title, colour in PANELS:
         panel(drawing, [(row.cycle, figure[name]) for row, figure in zip(rows, figures)], title, colour)
