@@ -1,4 +1,5 @@
 """What the tests share: files of the repository, worked traces, small images, and the program if it is built."""
+import importlib.util
 import os
 import re
 import struct
@@ -20,6 +21,8 @@ from wadrelwy.view.trace import Trace
 
 EXAMPLES = ("bounds_check", "fault_shadow", "store_bypass", "tainted_store", "tainted_divisor", "target_injection")
 PROGRAM = built_programs.simulator()
+# why no command that reads an image can be tried, if there is a reason
+NO_IMAGES = "" if importlib.util.find_spec("elftools") else "no python3-pyelftools"
 NO_PROGRAM = None if PROGRAM else "the program isn't built (crates/stt_cli/out/stt_cli, or STT_CLI)"
 FOLDER = tempfile.TemporaryDirectory()
 

@@ -1,5 +1,6 @@
 """The programs of examples/c that are no victims: each built image writes what the same source writes as a program of the host, and what
 start code, memory functions, constructors and the C library are there for happens."""
+import importlib.util
 import functools
 import glob
 import os
@@ -96,6 +97,7 @@ def source(name, text):
 
 class Victims(unittest.TestCase):
     @unittest.skipUnless(COMPILERS, "no make or compiler for RISC-V")
+    @unittest.skipUnless(importlib.util.find_spec("elftools"), "no python3-pyelftools")
     def test_a_victim_in_cplusplus(self):
         """It is linked with each key, and the two images differ in these bytes alone: the keys of secret_a.c and secret_b.c."""
         source("looked.cpp", LOOKED)

@@ -213,6 +213,7 @@ class Beside(unittest.TestCase):
                     self.assertEqual(found["counts"][counted], sum(bool(re.fullmatch(pattern, event)) for event in events), (name, core, counted))
                 self.assertEqual(len(found["rows"]), found["cycles"] // 5)
 
+    @unittest.skipIf(support.NO_IMAGES, support.NO_IMAGES)
     def test_the_figures_of_view_stats(self):
         for name in EXAMPLES:
             image, description = support.example(f"{name}.elf"), support.example("core_passing.toml")

@@ -47,6 +47,7 @@ class Help(unittest.TestCase):
         for name in COMMANDS:
             self.assertEqual(len(re.findall(rf"(?m)^  {name} +\S", told.stdout)), 1, name)
 
+    @unittest.skipIf(support.NO_IMAGES, support.NO_IMAGES)
     def test_each_command_has_one(self):
         for words in [[name] for name in COMMANDS] + [["view", name] for name in SUBCOMMANDS]:
             with self.subTest(words=words):
@@ -119,6 +120,7 @@ class Refusals(unittest.TestCase):
         told = "".join(call.args[0] for call in screen.write.call_args_list)
         self.assertRegex(told, r"^wadrelwy run: an error of the tool itself, TypeError: a b, in .*, line \d+; please report it, .*\n$")
 
+    @unittest.skipIf(support.NO_IMAGES, support.NO_IMAGES)
     def test_a_text_that_cant_be_written(self):
         for words in (["--help"], ["verdict", "--help"], ["path", "log", TWO_FILES[1]]):
             with open("/dev/full", "w", encoding="ascii") as full:
@@ -126,6 +128,7 @@ class Refusals(unittest.TestCase):
             self.assertEqual((told.returncode, told.stderr.count("\n")), (statuses.UNWRITTEN, 1), told.stderr)
             self.assertIn("standard output: No space left on device", told.stderr)
 
+    @unittest.skipIf(support.NO_IMAGES, support.NO_IMAGES)
     def test_a_reader_that_goes_away(self):
         reading, writing = os.pipe()
         os.close(reading)

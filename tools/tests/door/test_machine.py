@@ -65,6 +65,7 @@ class StandIn(unittest.TestCase):
                  "d i --secret 1:2 --public-stream 1 --public-stream 2 --cycles 4294967295")):
             self.assertEqual(self.ask(*words, "--program", program), (f"{asked}\n".encode(), "", 0))
 
+    @unittest.skipIf(support.NO_IMAGES, support.NO_IMAGES)
     def test_a_trap(self):
         """With a report its registers tell the address; of a trace those of `isa` do."""
         report = f"{REGISTERS}pc 00010004\n{TRAP} cycles 9\n".encode()
@@ -75,6 +76,7 @@ class StandIn(unittest.TestCase):
             wanted = r"trap 5, a load outside memory, of 00000009, by 00010004 (lw t1, 5\(tp\)|load x6, x4)"
             self.assertRegex(note, rf"^wadrelwy {command}: {wanted}\n$")
 
+    @unittest.skipIf(support.NO_IMAGES, support.NO_IMAGES)
     def test_a_trap_of_a_jump(self):
         report = f"{REGISTERS}pc 00000000\nend trap 1 00000000 retired 1\n".encode()
         _, note, _ = self.ask("isa", self.image, "--program", self.answering(report, 1))

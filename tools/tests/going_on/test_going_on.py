@@ -38,6 +38,7 @@ def memory(image, told):
     return found
 
 
+@unittest.skipIf(support.NO_IMAGES, support.NO_IMAGES)
 class Stub(unittest.TestCase):
     def test_sets_all(self):
         """After its 63 steps the registers and the pc are those named, whatever the values."""
@@ -54,6 +55,7 @@ class Stub(unittest.TestCase):
 
 
 @unittest.skipUnless(support.PROGRAM, support.NO_PROGRAM)
+@unittest.skipIf(support.NO_IMAGES, support.NO_IMAGES)
 class GoingOn(unittest.TestCase):
     def ends_alike(self, path, cut):
         """The image that goes on after so many steps ends as the whole run."""
