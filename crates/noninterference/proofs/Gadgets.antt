@@ -25,7 +25,7 @@ bound = 0x1fff0 ∷ 0x1fff1 ∷ 0x1fff2 ∷ 0x1fff3 ∷ []
 
 -- the byte of memory at this address doesn't depend on the secret
 abbrev SameAt : ℕ → ℕ → Type 0
-SameAt secret a = slice_index (memory 0 secret).bytes (a - 0x10000) ≡ slice_index (memory 0 0).bytes (a - 0x10000)
+SameAt secret a = slice_index (memory 0 secret).bytes (a - 0x1f000) ≡ slice_index (memory 0 0).bytes (a - 0x1f000)
 
 -- two memories that differ in the secret agree where it isn't loaded
 agree_on : (secret : ℕ) → secret < 256 → (addresses : List ℕ) → Each (SameAt secret) addresses →
@@ -36,7 +36,7 @@ agree_on secret lt addresses same =
     let none : 0 < 2 ^ 8 = lit< tt in
     let tail : List ℕ = 0 ∷ 0 ∷ 0 ∷ 0 ∷ 0 ∷ 0 ∷ 0 ∷ 0 ∷ secret ∷ replicate 7 0 in
     let low : Each Byte tail = (none, (none, (none, (none, (none, (none, (none, (none, (lt, (none, (none, (none, (none, (none, (none, (none, tt)))))))))))))))) in
-    record { base = refl; size = refl; misaligned = refl; bytes = All-append Byte (replicate 65520 0) tail (All-replicate Byte 65520 0 none) (All-from_recursion Byte tail low); same = All-from_recursion _ addresses same }
+    record { base = refl; size = refl; misaligned = refl; bytes = All-append Byte (replicate 4080 0) tail (All-replicate Byte 4080 0 none) (All-from_recursion Byte tail low); same = All-from_recursion _ addresses same }
 
 -- the bytes that the path of a program loads in these steps, where the secret is 0
 abbrev loads : SttModel → List ℕ → ℕ → List ℕ

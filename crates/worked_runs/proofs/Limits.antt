@@ -141,11 +141,11 @@ with_misses count address =
     looks (access largest (around (record start { misses = replicate count (record { line = 0; due = 9; from_memory = true }) })) [] address 4)
 
 -- eight registers: one line needs one, the line behind it another, and an access across two lines two
-registers : map (λ n. with_misses n 0x18000) (6 ∷ 7 ∷ 8 ∷ []) ≡ (1 ∷ 1 ∷ []) ∷ (1 ∷ 0 ∷ []) ∷ [] ∷ []
+registers : map (λ n. with_misses n 0x1f800) (6 ∷ 7 ∷ 8 ∷ []) ≡ (1 ∷ 1 ∷ []) ∷ (1 ∷ 0 ∷ []) ∷ [] ∷ []
 unfolding memory
 registers = refl
 
-registers_across : map (λ n. with_misses n 0x1803e) (5 ∷ 6 ∷ 7 ∷ []) ≡ (2 ∷ 1 ∷ []) ∷ (2 ∷ 0 ∷ []) ∷ [] ∷ []
+registers_across : map (λ n. with_misses n 0x1f83e) (5 ∷ 6 ∷ 7 ∷ []) ≡ (2 ∷ 1 ∷ []) ∷ (2 ∷ 0 ∷ []) ∷ [] ∷ []
 unfolding memory
 registers_across = refl
 
