@@ -15,6 +15,7 @@
 #![tactic(auto)]
 
 mod laws;
+mod port;
 mod ports;
 
 pub use laws::grants_as_issue_counts;

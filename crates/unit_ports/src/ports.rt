@@ -3,7 +3,9 @@ ghost use Rattle.std.specs.Prelude.{◌≡◌, ◌-◌, nat_lt, nat_le, Some};
 ghost use Rattle.window_model.specs.Resolve.{freed_from};
 ghost use Rattle.window_model.specs.Ports.{DataPort};
 ghost use Rattle.unit_ports.specs.Ports.{begun_at, free_divider, left_at, opening, port_for, taken_at};
+ghost use Rattle.unit_ports.specs.inner.Seen.{machine_port};
 
+use crate::port::{Port, port_for};
 use machine_desc::Desc;
 use rv_types::Kind;
 use std::marker::Model;
@@ -80,13 +82,7 @@ impl Ports {
     pub fn has(&self, kind: Kind) -> bool
         ensures { result ≡ nat_lt 0 (left_at (port_for kind) self.now) }
     {
-        match kind {
-            Kind::Mul => self.mul > 0,
-            Kind::Div => self.div > 0,
-            Kind::Store => self.address_part > 0,
-            Kind::Load => self.load > 0,
-            _ => self.alu > 0,
-        }
+        self.left(port_for(kind)) > 0
     }
 
     /// Takes a port for an entry of this kind; for a store, that of its address part. False exactly where none of that
@@ -95,20 +91,14 @@ impl Ports {
         ensures granted { result ≡ nat_lt 0 (left_at (port_for kind) self.old) }
         ensures left { self.new ≡ taken_at (port_for kind) self.old }
     {
-        match kind {
-            Kind::Mul => take_one(&mut self.mul),
-            Kind::Div => take_one(&mut self.div),
-            Kind::Store => take_one(&mut self.address_part),
-            Kind::Load => take_one(&mut self.load),
-            _ => take_one(&mut self.alu),
-        }
+        self.take(port_for(kind))
     }
 
     /// Whether the port of a store's data part is left. Kept for who looks at ports from outside, without taking one.
     pub fn has_data(&self) -> bool
         ensures { result ≡ nat_lt 0 (left_at DataPort self.now) }
     {
-        self.data_part > 0
+        self.left(Port::DataPart) > 0
     }
 
     /// Takes the port of a store's data part. False exactly where it is used, and nothing changes then.
@@ -116,7 +106,36 @@ impl Ports {
         ensures granted { result ≡ nat_lt 0 (left_at DataPort self.old) }
         ensures left { self.new ≡ taken_at DataPort self.old }
     {
-        take_one(&mut self.data_part)
+        self.take(Port::DataPart)
+    }
+
+    // How many are left of a port.
+    fn left(&self, port: Port) -> u32
+        ensures { result ≡ left_at (machine_port port) self.now }
+    {
+        match port {
+            Port::Alu => self.alu,
+            Port::Mul => self.mul,
+            Port::Div => self.div,
+            Port::AddressPart => self.address_part,
+            Port::DataPart => self.data_part,
+            Port::Load => self.load,
+        }
+    }
+
+    // Takes one of a port, where one is left.
+    fn take(&mut self, port: Port) -> bool
+        ensures taken { result ≡ nat_lt 0 (left_at (machine_port port) self.old) }
+        ensures left { self.new ≡ taken_at (machine_port port) self.old }
+    {
+        match port {
+            Port::Alu => take_one(&mut self.alu),
+            Port::Mul => take_one(&mut self.mul),
+            Port::Div => take_one(&mut self.div),
+            Port::AddressPart => take_one(&mut self.address_part),
+            Port::DataPart => take_one(&mut self.data_part),
+            Port::Load => take_one(&mut self.load),
+        }
     }
 
     /// The entry with this serial uses the divider, which is free again from a cycle on.
