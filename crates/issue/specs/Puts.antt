@@ -17,7 +17,8 @@ use Rattle.core_parts.specs.declared.decided.Put.{Put}
 abbrev pub width_for : ℕ → Width
 width_for n = if n == 1 then B else if n == 2 then H else W
 
--- the entry at its position waits, and goes on so, by what hadn't issued of it; its station is named
+-- a put names an entry of the window that waits, by its position, and the entry's station. It says what has issued of
+-- the entry: that is more than had issued before, and keeps what had
 pub record IsPut (window : List Entry) (p : Put) : Type 0 where
   pub old : Entry
   pub here : slice_get window p.position ≡ Some old

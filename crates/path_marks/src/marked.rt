@@ -19,7 +19,8 @@ use secret_marks::{PublicStreams, SecretRange, WordMarks};
 use std::alloc::Global;
 use std::marker::Model;
 
-/// The state of the instruction set with marks of what may depend on a secret beside it, seen as both.
+/// The state of the instruction set with marks of what may depend on a secret beside it, seen as both. Once the run has
+/// ended, by an exit or a trap, the marks mean nothing.
 #[derive(Drop)]
 pub struct MarkedPath {
     isa: Isa,
@@ -103,8 +104,8 @@ impl MarkedPath {
         }
     }
 
-    /// One step of the instruction set. The piece is cleared first, and then holds what the step puts out; where the
-    /// run goes on, the marks are those behind the step.
+    /// One step of the instruction set. The piece is cleared first, and then holds what the step puts out. Where the
+    /// run goes on, the marks are those behind the step; where it ends, they mean nothing.
     pub fn step(&mut self, out: &mut Piece) -> Stepped
         ensures stepped { record { hart = self.new.hart; piece = out.new; stepped = result }
             ≡ outcome self.old.hart (isa_step (word_at self.old.code) self.old.hart) }

@@ -27,7 +27,7 @@ past [] k le = refl
 past (s ∷ held) zero le = absurd (omega (arith, le))
 past (s ∷ held) (suc k) le = past held k (omega (arith, le))
 
--- the marks of those behind the one that goes move up by one
+-- the marks of those behind the one that goes move down by one
 pub able_remove : (held : List Station) (i able able2 : ℕ) → i < length held → length held ≤ 96 → ((b : ℕ) → b < i → bit_at able2 b ≡ bit_at able b) → ((b : ℕ) → i ≤ b → b < 127 → bit_at able2 b ≡ bit_at able (b + 1)) →
     bit_at able2 127 ≡ 0 → NotesAble held able → NotesAble (remove held i) able2
 able_remove held i able able2 lt few older younger last m k small = elim (cases_lt k i) [

@@ -7,7 +7,7 @@ ghost use Rattle.stations.specs.Places.{NotesAble, NotesAbleBut, IsPosition, hel
 use crate::occupant::Occupant;
 use word_bits::with_wide_bit;
 
-/// The word without the mark of a position: those behind it move up by one.
+/// The word without the mark of a position: those behind it move down by one.
 pub(crate) fn without_mark(word: u128, position: u32) -> u128
     requires { position < 128 }
     ensures older { (b : ℕ) → b < position → bit_at result b ≡ bit_at word b }

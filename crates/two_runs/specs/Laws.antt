@@ -106,8 +106,8 @@ abbrev pub CompleteLeavesAlike : Type 0
 CompleteLeavesAlike = (mask : ℕ → Mask) (ms : List ℕ) (x x2 : Machine) → but_data x ≡ but_data x2 → MaskedAlike mask ms x.window x2.window →
     LeftAlike mask ms (complete x) (complete x2)
 
--- Clear leaves alike two machines that are alike under masks that leave the addresses of loads, and of which two runs
--- see each entry alike
+-- Clear leaves alike two machines that are alike under masks that leave the addresses and faults of loads, and of which
+-- two runs see each entry alike
 abbrev pub ClearLeavesAlike : Type 0
 ClearLeavesAlike = (mask : ℕ → Mask) → LeavesAccess mask → (d : Desc) (ms : List ℕ) (x x2 : Machine) → but_data x ≡ but_data x2 →
     MaskedAlike mask ms x.window x2.window → SeenEntries d.stt_model (reverse x.window) (reverse x2.window) →
