@@ -47,6 +47,7 @@ on_path Spectre p code k n s s2 e h = ended_leaks pass_step code k n s s2 e h
 on_path Futuristic p code k n s s2 e h = ended_leaks isa_step code k n s s2 (isa_ends code k s e) (isa_leaks code k s s2 h)
 on_path Off p code k n s s2 e h = absurd (cc)
 
+-- one walk that passes faulting accesses over, and ends with nothing shown, is of every core under both models
 pub every_core_of_both : EveryCoreOfBothModels
 every_core_of_both public code entry secret m m2 k aligned agree ends q e d n protected delayed =
     let leaks = path_tells public Spectre code entry secret m m2 k agree q e in

@@ -21,11 +21,13 @@ hides : path_shows no_stream pass_step (code_of cipher) 60 (start 0x10000 (keyed
 unfolding decode pass_step count_leading_zeros keyed code_of
 hides = refl
 
+-- the cipher has one trace for all keys on every core that protects with the defence `delay`
 pub cipher_on_every_core : CipherOnEveryCore
 cipher_on_every_core d n protected delayed key l b =
     every_core_of_both no_stream (code_of cipher) 0x10000 the_key (keyed no_key) (keyed key) 60 (aligned_words cipher) (agree_but key l b) ends hides
     (nothing_published pass_step (code_of cipher) 60 0x10000 (keyed no_key) (keyed key)) d n protected delayed
 
+-- a look-up by a byte of the key shows in the fourth step
 pub table_shows : TableShows
 unfolding decode isa_step count_leading_zeros keyed code_of
 table_shows = refl

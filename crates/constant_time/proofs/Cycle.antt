@@ -160,6 +160,7 @@ module _ (d : Desc) (code : Code) (total : ℕ) (protected : protects d.stt_mode
 
   -- ---- a cycle as a whole
 
+  -- a cycle in which what shows is visible keeps two runs together whose paths leak alike, with one row
   pub cycle_alike : (x x2 : Machine) → x.end ≡ None → Together d code total x x2 → (cycle d code x).machine.retired + d.core_rob ≤ total → CycleWaits d x → CyclesAlike d code total x x2
   unfolding cycle before rest
   cycle_alike x x2 n p le wait =

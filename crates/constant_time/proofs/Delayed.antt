@@ -64,24 +64,29 @@ module _ (d : Desc) (delayed : delays d.stt_defence ≡ true) where
   run_waits code zero x = tt
   run_waits code (suc n) x = λ q. (cycle_waits x, run_waits code n (cycle d code x).machine)
 
+-- under the defence `delay` what shows is visible in every cycle, whatever state it begins in
 pub delay_waits : DelayWaits
 delay_waits d code n x delayed = run_waits d delayed code n x
 
+-- two memories whose paths leak alike give one trace, where the model protects and the defence is `delay`
 pub contract_under_delay : ContractUnderDelay
 contract_under_delay d code entry m m2 n protected delayed aligned agree leaks =
     contract d code entry m m2 n protected aligned agree (run_waits d delayed code n (opening d entry m)) leaks
 
 -- ---- one path, and every core
 
+-- one path on which nothing marked shows gives one trace for all secrets with which it publishes the same
 pub one_path : OnePathForAllOfOneOutput
 one_path public d code entry secret m m2 n protected aligned agree waits q e =
     contract d code entry m m2 n protected aligned (any_secret secret m m2 agree) waits (path_tells public d.stt_model code entry secret m m2 _ agree q e)
 
+-- one path that ends with nothing shown gives one trace on every core for all secrets that publish the same
 pub every_core_of_one_output : EveryCoreOfOneOutput
 every_core_of_one_output public code entry secret m m2 k aligned agree d n protected delayed ends q e =
     let leaks = path_tells public d.stt_model code entry secret m m2 k agree q e in
     contract_under_delay d code entry m m2 n protected delayed aligned (any_secret secret m m2 agree) (ended_leaks (path d.stt_model) code k _ (start entry m) (start entry m2) ends leaks)
 
+-- one path that ends with nothing shown gives one trace on every core for all secrets, where no stream is public
 pub every_core : EveryCore
 every_core code entry secret m m2 k aligned agree d n protected delayed ends q =
     every_core_of_one_output no_stream code entry secret m m2 k aligned agree d n protected delayed ends q (nothing_published (path d.stt_model) code k entry m m2)

@@ -29,6 +29,7 @@ nothing_left : (v v2 : ℕ) → blanked (every_byte true) v ≡ blanked (every_b
 unfolding blanked
 nothing_left v v2 = refl
 
+-- two words are equal but for all bytes marked where they differ
 pub same_but : (v v2 : ℕ) → SameWord (differs v v2) v v2
 same_but v v2 = by_test (v == v2) refl
   where
@@ -49,10 +50,12 @@ equal_unmarked v v2 e = ap (λ u. any_byte (differs v u)) (sym e) ∙ ap (λ b. 
 
 -- ---- registers
 
+-- the marks of registers: every byte of those that differ
 abbrev pub regs_differ : List ℕ → List ℕ → List WordMarks
 regs_differ (v ∷ vs) (v2 ∷ vs2) = differs v v2 ∷ regs_differ vs vs2
 regs_differ _ _ = []
 
+-- registers that are equal but for some marks are so but for the marks where they differ
 pub regs_again : (ms : List WordMarks) (vs vs2 : List ℕ) → Beside SameWord ms vs vs2 → Beside SameWord (regs_differ vs vs2) vs vs2
 regs_again [] [] [] s = tt
 regs_again (m ∷ ms) (v ∷ vs) (v2 ∷ vs2) s = (same_but v v2, regs_again ms vs vs2 s.1)
@@ -103,6 +106,7 @@ module _ (m : EntryMarks) (e e2 : Entry) (h : SameEntry m e e2) where
     stored = record { in0 = λ t. absurd (cc); in1 = λ t. absurd (cc); in2 = λ t. absurd (cc); in3 = λ t. absurd (cc) };
   }) h
 
+  -- entries that are equal but for some marks are so but for marks of what of their outcomes differs
   pub loose_again : SameEntry (loose e e2) e e2
   unfolding of_outcome
   loose_again =
@@ -113,6 +117,7 @@ module _ (m : EntryMarks) (e e2 : Entry) (h : SameEntry m e e2) where
       ∙ ap (λ s. with_data (blanked r (value_of e2.outcome)) s (hidden everything e2)) (same_but (stored_of e.outcome) (stored_of e2.outcome))
       ∙ sym (ap (of_outcome e2) (loose_is r w (is_unresolved e2) e2.outcome))
 
+  -- entries that are equal but for some marks, and go on alike, are so but for marks of values that differ
   pub firm_again : next_of e.outcome ≡ next_of e2.outcome → fault_of e.outcome ≡ fault_of e2.outcome → SameEntry (firm e e2) e e2
   unfolding of_outcome
   firm_again n f =
@@ -124,10 +129,12 @@ module _ (m : EntryMarks) (e e2 : Entry) (h : SameEntry m e e2) where
       ∙ ap₂ (λ n f. with_all (blanked r (value_of e2.outcome)) (blanked w (stored_of e2.outcome)) n f (hidden everything e2)) n f
       ∙ sym (ap (of_outcome e2) (firm_is r w (is_unresolved e2) e2.outcome))
 
+-- the marks of a window: of each entry what of its outcomes differs
 abbrev pub all_loose : List Entry → List Entry → List EntryMarks
 all_loose (e ∷ es) (e2 ∷ es2) = loose e e2 ∷ all_loose es es2
 all_loose _ _ = []
 
+-- windows that are equal but for some marks are so but for marks of what of their outcomes differs
 pub window_again : (ms : List EntryMarks) (es es2 : List Entry) → Beside SameEntry ms es es2 → Beside SameEntry (all_loose es es2) es es2
 window_again [] [] [] s = tt
 window_again (m ∷ ms) (e ∷ es) (e2 ∷ es2) s = (loose_again m e e2 s.0, window_again ms es es2 s.1)
@@ -139,6 +146,7 @@ window_again _ _ _ s = absurd s
 abbrev pub loosened : Marks → Machine → Machine → Marks
 loosened m x x2 = record { regs = regs_differ x.regs x2.regs; bytes = m.bytes; window = all_loose x.window x2.window }
 
+-- machines that are alike but for some marks are so but for marks where registers and outcomes differ
 pub again : (m : Marks) (x x2 : Machine) → AlikeBut m x x2 → AlikeBut (loosened m x x2) x x2
 again m x x2 h = record {
   others = h.others;
@@ -149,6 +157,7 @@ again m x x2 h = record {
 
 -- ---- operands
 
+-- a register that is equal in both machines has no mark where registers differ
 pub reg_unmarked : (vs vs2 : List ℕ) (r : ℕ) → reg vs r ≡ reg vs2 r → any_byte (get_or (regs_differ vs vs2) r unmarked) ≡ false
 reg_unmarked (v ∷ vs) (v2 ∷ vs2) zero h = equal_unmarked v v2 h
 reg_unmarked (v ∷ vs) (v2 ∷ vs2) (suc r) h = reg_unmarked vs vs2 r h

@@ -143,6 +143,7 @@ module _ (now : ℕ) (d : Desc) (protected : protects d.stt_model ≡ true) (cod
         ap₂ (λ p r. p || r) here rest
     quiet before before2 ms _ _ _ t u b b2 a a2 l l2 c c2 wait lt m q = absurd u
 
+-- Issue has the same events in two machines whose paths leak alike, where what shows is visible
 pub issue_alike : IssueLeaksAlike
 issue_alike d code total x x2 protected aligned c c2 le leaks wait h =
     let k = again h.0 x x2 h.1 in

@@ -7,6 +7,7 @@ use Rattle.rv_types.specs.Path.{pass_step}
 use Rattle.window_model.proofs.Worked.{code_of, memory}
 use Rattle.constant_time.specs.Worked.{PathsThatHide, PathsThatPublish, PathsThatShow}
 
+-- the path of each of these small programs shows the secret, first in the step that stands beside it
 pub paths_that_show : PathsThatShow
 unfolding decode isa_step pass_step count_leading_zeros memory code_of
 paths_that_show = record {
@@ -30,6 +31,7 @@ paths_that_show = record {
   no_further = refl;
 }
 
+-- the path of each of these small programs doesn't show the secret
 pub paths_that_hide : PathsThatHide
 unfolding decode isa_step pass_step count_leading_zeros memory code_of
 paths_that_hide = record {
@@ -42,6 +44,7 @@ paths_that_hide = record {
   answered = refl;
 }
 
+-- what the path of each of these programs tells where stream 2 is public
 pub paths_that_publish : PathsThatPublish
 unfolding decode isa_step pass_step count_leading_zeros memory code_of
 paths_that_publish = record {

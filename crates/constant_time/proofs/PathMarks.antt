@@ -66,6 +66,7 @@ starts_alike entry secret m m2 agree =
       bytes = x.bytes;
     }
 
+-- where nothing marked shows on one path, those of memories with other secrets that publish the same leak alike
 pub path_tells : OnePathTellsAll
 path_tells public model code entry secret m m2 n agree q e =
     path_leaks public model code n (first_marks secret m) (start entry m) (start entry m2) (starts_alike entry secret m m2 agree) q e
@@ -109,6 +110,7 @@ none_published step code (suc n) s = more (step code s) (λ t. none_published st
     more (Exits v t) f = refl
     more (Traps c) f = refl
 
+-- where no stream is public any two memories publish the same
 pub nothing_published : (step : Code → Hart → Step) (code : Code) (n entry : ℕ) (m m2 : Ram) → PublishSame no_stream step code n entry m m2
 nothing_published step code n entry m m2 = none_published step code n (start entry m2) ∙ sym (none_published step code n (start entry m))
 

@@ -80,6 +80,7 @@ abbrev pub PiecesAlike : Hart → Hart → Step → Step → Type 0
 PiecesAlike s s2 (Goes t p) (Goes t2 p2) = ((p ≡ []) × (p2 ≡ [])) ⊎ WroteAlike s s2 t t2 p p2
 PiecesAlike s s2 _ _ = Unit {0}
 
+-- two steps that put out nothing put out alike
 pub both_silent : (s s2 : Hart) (t t2 : Step) → Silent t → Silent t2 → PiecesAlike s s2 t t2
 both_silent s s2 (Goes t p) (Goes t2 p2) h h2 = inl (h, h2)
 both_silent s s2 (Goes t p) (Exits v t2) h h2 = tt

@@ -87,6 +87,7 @@ plain_leaks public code (suc k) m s s2 h e q b =
     more (Exits v t) t2 g g2 a o w e q b f = subst (λ u. BothGo u (pass_step code s2) (λ t t2. LeakAlike pass_step code k t t2)) (sym (exits_too code s t v g)) tt
     more (Traps c) t2 g g2 a o w e q b f = subst (λ u. BothGo u (pass_step code s2) (λ t t2. LeakAlike pass_step code k t t2)) (sym (traps_too code s c (not_true _ e) g)) tt
 
+-- one run of the instruction set that ends with nothing shown, at no fault, is of every core under both models
 pub one_run_for_every_core : OneRunForEveryCore
 one_run_for_every_core public code entry secret m m2 k aligned agree ends q b d n protected delayed =
     let leaks = plain_leaks public code k (first_marks secret m) (start entry m) (start entry m2) (starts_alike entry secret m m2 agree) ends q b in

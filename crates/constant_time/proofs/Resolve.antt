@@ -163,6 +163,7 @@ at_places d S ms x x2 h w (Some p) (Some p2) s G told g =
 at_places d S ms x x2 h w None (Some p2) s G told g = absurd s
 at_places d S ms x x2 h w (Some p) None s G told g = absurd s
 
+-- Resolve has the same events in two machines whose paths leak alike, where what is resolved is visible
 pub resolve_alike : ResolveLeaksAlike
 resolve_alike now d code total x x2 protected aligned c c2 le leaks wait h =
     let go = walk now d protected code aligned x x2 c.registers c2.registers (length x.window) (λ j lt. leaks j (omega (arith, lt, le)))

@@ -94,6 +94,7 @@ module _ (model : SttModel) (code : Code) where
       by_steps (Goes t p) (Exits v t2) g g2 q q2 e e2 more h = absurd (cc)
       by_steps (Goes t p) (Traps c) g g2 q q2 e e2 more h = absurd (cc)
 
+-- Retire has the same events in two machines whose paths leak alike
 pub retire_alike : RetireLeaksAlike
 retire_alike now d code total x x2 aligned ne c c2 le leaks h =
     let m = loosened h.0 x x2 in

@@ -76,6 +76,7 @@ fewer step code (suc k) (suc n) s s2 le a =
 pub any_secret : (secret : Secret) (m m2 : Ram) → AgreeBut secret m m2 → AgreeBut any_byte_at m m2
 any_secret secret m m2 a = record { base = a.base; size = a.size; misaligned = a.misaligned; bytes = a.bytes; bytes2 = a.bytes2; same = λ i z. absurd (cc) }
 
+-- two memories whose paths leak alike give one trace, where the model protects and what shows is visible
 pub contract : ContractWhereShownIsVisible
 contract d code entry m m2 n protected aligned agree wait leaks =
     let x = opening d entry m in

@@ -27,20 +27,25 @@ pub record StatesAlike (m : PathMarks) (s s2 : Hart) : Type 0 where
 -- ---- registers
 
 module _ (ms : List WordMarks) (g g2 : List ℕ) (h : Beside SameWord ms g g2) where
+  -- registers that are equal but for marks are so one by one
   pub reg_same : (r : ℕ) → SameWord (get_or ms r unmarked) (reg g r) (reg g2 r)
   reg_same r = beside_at SameWord ms g g2 r unmarked 0 0 h refl
 
+  -- the first operands of an instruction are equal but for the marks of its first source
   pub first_same : (rs : List ℕ) → SameWord (first_mark rs ms) (first_of rs g) (first_of rs g2)
   first_same [] = refl
   first_same (r ∷ rs) = reg_same r
 
+  -- the second operands of an instruction are equal but for the marks of its second source
   pub second_same : (rs : List ℕ) → SameWord (second_mark rs ms) (second_of rs g) (second_of rs g2)
   second_same [] = refl
   second_same (r ∷ rs) = first_same rs
 
+  -- the first operands of an instruction are equal, where its first source is unmarked
   pub first_equal : (rs : List ℕ) → any_byte (first_mark rs ms) ≡ false → first_of rs g ≡ first_of rs g2
   first_equal rs n = same_whole (first_mark rs ms) (first_of rs g) (first_of rs g2) n (first_same rs)
 
+  -- the second operands of an instruction are equal, where its second source is unmarked
   pub second_equal : (rs : List ℕ) → any_byte (second_mark rs ms) ≡ false → second_of rs g ≡ second_of rs g2
   second_equal rs n = same_whole (second_mark rs ms) (second_of rs g) (second_of rs g2) n (second_same rs)
 
@@ -80,6 +85,7 @@ bytes_map m a (suc n) le fits =
     slice_step m.bytes (a - m.base) n lt
     ∙ ap (λ (xs : List ℕ). slice_index m.bytes (a - m.base) ∷ xs) (ap (λ j. slice_range m.bytes j (j + n)) (sym shift) ∙ bytes_map m (a + 1) n (omega arith) (omega arith))
 
+-- an access has at most four bytes
 pub size_le : (o : Op) → size_of o ≤ 4
 size_le op.Lb = omega arith
 size_le op.Lbu = omega arith

@@ -15,6 +15,7 @@ map_reverse : (es : List Entry) → map without_outcome (reverse es) ≡ reverse
 map_reverse [] = refl
 map_reverse (e ∷ es) = ap (map without_outcome) (reverse-append (e ∷ []) es) ∙ map-append without_outcome (reverse es) (e ∷ []) ∙ ap (λ t. t ++ without_outcome e ∷ []) (map_reverse es) ∙ sym (reverse-append (without_outcome e ∷ []) (map without_outcome es))
 
+-- two runs that go on together under a model that protects have equal outcomes where they may be looked at
 pub together_agree : TogetherAgree
 together_agree now d code total x x2 protected aligned lt t =
     let upto : (k : ℕ) → k ≤ d.core_rob → InStep (path d.stt_model) code k (hart_of x) (hart_of x2) = λ k le. t.in_step k (omega (arith, le, lt)) in

@@ -8,6 +8,7 @@ use Rattle.noninterference.specs.Laws.{ClearTellsNothing}
 use Rattle.noninterference.proofs.Looking.{seen_by_outcomes}
 use Rattle.noninterference.proofs.Masks.{access_left, leaves_loads, loads_left, tells}
 
+-- Clear tells nothing of two machines that show the same, where outcomes that may be looked at are equal
 pub clear_tells_nothing : ClearTellsNothing
 clear_tells_nothing d x x2 r o =
     tells leaves_loads (take (length (clear d x).machine.window) x.window) (clear d x) (clear d x2) ((clear_data d x).0 ∙ ap (λ (m : Machine). m.regs) r ∙ sym (clear_data d x2).0)

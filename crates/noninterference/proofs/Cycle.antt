@@ -155,5 +155,6 @@ module _ (d : Desc) (code : Code) (total : ℕ) (protected : protects d.stt_mode
       let e3 = b.events in
       record { alike = b.alike; row = same_row x.cycle x2.cycle _ _ _ _ _ _ (same_cycle x x2 p.alike) e1 e2 e3; together = b.together }
 
+-- a cycle keeps two runs together that go on so under a model that protects, with one row
 pub cycle_tells_nothing : CycleTellsNothing
 cycle_tells_nothing d code total x x2 protected aligned n p le = cycle_alike d code total protected aligned x x2 n p le

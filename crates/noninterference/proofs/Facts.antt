@@ -96,21 +96,27 @@ module _ (d : Desc) where
 -- ---- all that a run keeps for itself
 
 module _ (now : ℕ) (d : Desc) (code : Code) where
+  -- a run keeps its own facts as a cycle begins
   pub facts_begin : (x : Machine) → OwnFacts now d code x → OwnFacts now d code (begins_cycle x)
   facts_begin x f = record { consistent = f.consistent; guarded = f.guarded; fits = f.fits }
 
+  -- a run keeps its own facts over Fill
   pub facts_fill : (x : Machine) → OwnFacts now d code x → OwnFacts now d code (fill d x).machine
   facts_fill x f = record { consistent = consistent_fill now code d x f.consistent; guarded = guarded_fill d x f.guarded; fits = f.fits }
 
+  -- a run keeps its own facts over Complete
   pub facts_complete : (x : Machine) → OwnFacts now d code x → OwnFacts now d code (complete x).machine
   facts_complete x f = record { consistent = consistent_complete now code d x f.consistent; guarded = guarded_complete d x f.guarded; fits = complete_room d x f.fits }
 
+  -- a run keeps its own facts over Resolve
   pub facts_resolve : (x : Machine) → OwnFacts now d code x → OwnFacts now d code (resolve d x).machine
   facts_resolve x f = record { consistent = consistent_resolve now code d x f.consistent; guarded = guarded_resolve d x f.guarded; fits = resolve_room d x f.fits }
 
+  -- a run keeps its own facts over Clear
   pub facts_clear : (x : Machine) → OwnFacts now d code x → OwnFacts now d code (clear d x).machine
   facts_clear x f = record { consistent = consistent_clear now code d x f.consistent; guarded = guarded_clear d x f.guarded; fits = clear_room d x f.fits }
 
+  -- a run that has not ended keeps its own facts over Retire, where instructions stand at multiples of 4
   pub facts_retire : Aligned code → (x : Machine) → x.end ≡ None → OwnFacts now d code x → OwnFacts now d code (retire d x).machine
   facts_retire aligned x n f = record { consistent = consistent_retire now code aligned d x f.consistent n; guarded = guarded_retire d x f.guarded; fits = retire_room d x f.fits }
 
@@ -124,9 +130,11 @@ module _ (now : ℕ) (d : Desc) (code : Code) where
         fits = issue_room d x f.fits;
       }
 
+  -- a run keeps its own facts over Rename
   pub facts_rename : (x : Machine) → OwnFacts now d code x → OwnFacts now d code (rename d x).machine
   facts_rename x f = record { consistent = consistent_rename now code d x f.consistent; guarded = guarded_rename d x f.guarded; fits = rename_room d x f.fits }
 
+  -- a run keeps its own facts over Fetch
   pub facts_fetch : (x : Machine) → OwnFacts now d code x → OwnFacts now d code (fetch d code x).machine
   facts_fetch x f = record { consistent = consistent_fetch now code d x f.consistent; guarded = guarded_fetch d code x f.guarded; fits = fetch_room d code x f.fits }
 

@@ -104,24 +104,31 @@ fault_shows steps secret same = same.0
 
 -- ---- what the programs hide
 
+-- no trace shows the secret behind a bounds check that is predicted wrongly
 pub bypass_hides : BoundsCheckBypass
 bypass_hides d protected = hides d bounds_check bound protected (λ steps. (bound_alone d.stt_model steps).0) same_bound
 
+-- no trace shows the secret of which the address of a store is made
 pub store_hides : TaintedStoreAddress
 store_hides d protected = hides d store bound protected (λ steps. (bound_alone d.stt_model steps).1) same_bound
 
+-- no trace shows the secret on which a branch is
 pub branch_hides : TaintedBranch
 branch_hides d protected = hides d branch bound protected (λ steps. (bound_alone d.stt_model steps).2) same_bound
 
+-- no trace shows the secret that is divided
 pub divisor_hides : TaintedDivisor
 divisor_hides d protected = hides d divisor bound protected (λ steps. (bound_alone d.stt_model steps).3) same_bound
 
+-- no trace shows the secret of which the address of a jump is made
 pub injection_hides : TargetInjection
 injection_hides d protected = hides d injection bound protected (λ steps. (bound_alone d.stt_model steps).4) same_bound
 
+-- no trace shows the secret behind a load that has passed a store
 pub store_bypass_hides : SpeculativeStoreBypass
 store_bypass_hides d protected = hides d store_bypass past_store protected (store_bypass_loads d.stt_model) same_past_store
 
+-- no trace shows the secret behind a load that faults, under the futuristic model
 pub fault_hides : FaultShadow
 fault_hides d futuristic = hides d fault [] (ap protects futuristic) (λ steps. ap (λ m. loads m fault (eleven_more steps)) futuristic ∙ fault_loads_none steps) (λ secret. tt)
 

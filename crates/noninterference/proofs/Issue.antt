@@ -176,5 +176,6 @@ module _ (cycle : ℕ) (d : Desc) (code : Code) (x x2 : Machine) (r : Alike x x2
       (issue_left d x x2 (ap but_data r) hides x.window (issue d x).machine.window S w answers (load_asks i) division_asks q.1
       (all_hidden (issue d x).machine.window (issue d x2).machine.window q.0))
 
+-- Issue tells nothing of two machines that show the same, where outcomes that may be looked at are equal
 pub issue_tells_nothing : IssueTellsNothing
 issue_tells_nothing now d code x x2 c r o p = issue_alike now d code x x2 r p o c.entries

@@ -58,6 +58,7 @@ word_of code e f item n k = by_word (code e.item.pc) refl
     by_word None q = absurd (let z = item.kind ∙ ap kind_at q in let t = ap f z in let u = n outside_code in cc)
     by_word (Some w) q = (w, q, item.instr ∙ ap instr_at q, item.kind ∙ ap kind_at q)
 
+-- a kind that is tested to be a load's is that of loads
 pub is_load_kind : (k : Kind) → is_load k ≡ true → k ≡ Load
 is_load_kind Load h = refl
 is_load_kind _ h = absurd (cc)

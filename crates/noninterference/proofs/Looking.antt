@@ -17,12 +17,15 @@ use Rattle.noninterference.specs.Alike.{without_outcome}
 
 -- ---- entries that are equal but for their outcomes
 
+-- two entries that are equal but for their outcomes are of one kind
 pub same_kind : (e e2 : Entry) → without_outcome e ≡ without_outcome e2 → e.item.kind ≡ e2.item.kind
 same_kind e e2 h = ap (λ (t : Entry). t.item.kind) h
 
+-- two entries that are equal but for their outcomes write the same register
 pub same_writes : (r : ℕ) (e e2 : Entry) → without_outcome e ≡ without_outcome e2 → writes r e ≡ writes r e2
 same_writes r e e2 h = ap (writes r) h
 
+-- two entries that are equal but for their outcomes have the same sources
 pub same_sources : (e e2 : Entry) → without_outcome e ≡ without_outcome e2 → sources e ≡ sources e2
 same_sources e e2 h = ap sources h
 
@@ -45,9 +48,11 @@ untainted_where_visible model (e ∷ before) r h =
     let rest = untainted_where_visible model before r older in
     tainted_cons model e before r ∙ grind (arith, by, rest, older)
 
+-- the base of an entry is untainted, where all older entries let it be visible
 pub untainted_base : (model : SttModel) (before : List Entry) (e : Entry) → visible model before ≡ true → address_tainted model before e ≡ false
 untainted_base model before e h = none_any (tainted model before) (base_of (sources e)) (λ r. untainted_where_visible model before r h)
 
+-- the sources of an entry are untainted, where all older entries let it be visible
 pub untainted_sources : (model : SttModel) (before : List Entry) (e : Entry) → visible model before ≡ true → any_tainted model before e ≡ false
 untainted_sources model before e h = none_any (tainted model before) (sources e) (λ r. untainted_where_visible model before r h)
 

@@ -51,6 +51,7 @@ kept Load None h = (refl, refl)
 kept Load (Some o) h = (refl, refl)
 kept _ o h = absurd (cc)
 
+-- the masks of what two machines hide leave address and fault of every load
 pub access_left : LeavesAccess leaves_loads
 access_left m i r o h = kept i.kind o h
 

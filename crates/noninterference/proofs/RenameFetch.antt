@@ -29,6 +29,7 @@ rename_shown d x =
     ∙ ap (λ w. after_data x.regs blank w after) (map-append without_outcome x.window r.new ∙ ap (λ t. map without_outcome x.window ++ t) r.plain)
     ∙ sym r.same
 
+-- Rename tells nothing of two machines that show the same
 pub rename_tells_nothing : RenameTellsNothing
 rename_tells_nothing d x x2 r = rename_shown d x ∙ ap (rename d) r ∙ sym (rename_shown d x2)
 
@@ -37,5 +38,6 @@ fetch_shown : (d : Desc) (code : Code) (x : Machine) → shown_after (fetch d co
 fetch_shown d code x =
     ap shown_after (fetch_alike d code x.regs x.ram x.window x) ∙ sym (fetch_alike d code x.regs (shown x).ram (map without_outcome x.window) x)
 
+-- Fetch tells nothing of two machines that show the same
 pub fetch_tells_nothing : FetchTellsNothing
 fetch_tells_nothing d code x x2 r = fetch_shown d code x ∙ ap (fetch d code) r ∙ sym (fetch_shown d code x2)

@@ -100,5 +100,6 @@ module _ (model : SttModel) (s s2 : Bank) (b b2 : List Entry) (e e2 : Entry) (p 
   entry_as Store q = (λ t. from_part e.outcome e2.outcome (by_kind part Store q (λ i. known_part (has_address e) (has_data e) (As Store s b) (As Store s2 b2) (store_part s.ram s2.ram p e.item.instr (F s b) (F s2 b2) (Found s b) (Found s2 b2) (addresses (ap is_store q) t)))), other Store q refl)
   entry_as k q = other k q refl
 
+  -- the outcomes of an entry in both runs are equal where they may be looked at
   pub entry_same : SameOutcome e.item.kind model b e e2
   entry_same = entry_as e.item.kind refl

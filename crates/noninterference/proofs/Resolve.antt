@@ -25,6 +25,7 @@ same_outcome Load model b e e2 o k t = absurd (cc)
 same_outcome Store model b e e2 o k t = o.1 t
 same_outcome _ model b e e2 o k t = o t
 
+-- Resolve tells nothing of two machines that show the same, where outcomes that may be looked at are equal
 pub resolve_tells_nothing : ResolveTellsNothing
 resolve_tells_nothing d x x2 r o =
     let S = SameOutcomes d.stt_model in

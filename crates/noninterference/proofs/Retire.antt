@@ -104,6 +104,7 @@ module _ (now : ℕ) (d : Desc) (protected : protects d.stt_model ≡ true) (cod
       goes None None q q2 h = h
       goes _ _ q q2 h = absurd (cc)
 
+-- Retire tells nothing of two machines that show the same, where the paths of both runs go on in step
 pub retire_tells_nothing : RetireTellsNothing
 unfolding retire
 retire_tells_nothing now d code total x x2 protected aligned ne h h2 le r a = turns_alike now d protected code aligned total d.core_retire_width false x x2 ne h h2 le r a

@@ -72,6 +72,7 @@ then_fewer P (Goes s p) f g h a = h s a
 then_fewer P (Exits v s) f g h a = a
 then_fewer P (Traps c) f g h a = a
 
+-- what is so of all bytes that n steps load is so of those that fewer steps load
 pub fewer : (P : ℕ → Type 0) (step : Code → Hart → Step) (code : Code) (k n : ℕ) (s : Hart) → k ≤ n → Each P (reads step code s n) → Each P (reads step code s k)
 fewer P step code zero n s le a = tt
 fewer P step code (suc k) zero s le a = absurd (omega (arith, le))

@@ -55,6 +55,7 @@ module _ (public : Public) (d : Desc) (code : Code) (aligned : Aligned code) whe
           let joined = cycle_and_more public code d aligned x k ne own u own_is (one_step own x k own_is) (follows d code aligned n y) in
           ap (λ p. published public (hart_of x) (cycle d code x).piece ++ p) rest ∙ sym joined ∙ ap (λ t. published_in public code t (hart_of x)) all
 
+-- what cycles publish is what as many steps of the instruction set publish as these cycles retire
 pub cycles_publish : CyclesPublishTheirSteps
 cycles_publish public d code entry m n aligned =
     let x = opening d entry m in

@@ -178,6 +178,7 @@ module _ (d : Desc) (m : Marks) (x x2 : Machine) (h : AlikeBut m x x2) where
 
 -- ---- Resolve and Retire
 
+-- whether what is resolved shows is equal beside two windows that are equal but where marks stand
 pub resolved_alike : (ks : List EntryMarks) (w w2 : List Entry) → Beside SameEntry ks w w2 → resolved_shows w ks ≡ resolved_shows w2 ks
 resolved_alike [] [] [] s = refl
 resolved_alike (k ∷ ks) (e ∷ w) (e2 ∷ w2) s =

@@ -122,6 +122,7 @@ module _ (public : Public) (d : Desc) (code : Code) (aligned : Aligned code) (m 
   by_end (Some e) (Some e2) p R R2 w a k f = w
   by_end _ _ p R R2 w a k f = absurd (cc)
 
+  -- where nothing shows of one machine in a cycle, and both publish the same, nothing shows of the other
   pub cycle_watched : Watches (watch_cycle public d code x m) (watch_cycle public d code x2 m)
   cycle_watched =
       let x1 = begins_cycle x in
