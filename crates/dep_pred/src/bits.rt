@@ -36,20 +36,12 @@ impl DepPred {
         Ok(DepPred { bits })
     }
 
-    /// There is a description that asks for as many bits. It does nothing.
-    #[inline(always)]
-    pub fn described(&self)
-        ensures { IsAsked (length self.now) }
-    {
-        // The look inside is for the proof: by it the type's invariant is at hand, and that has the clause.
-        let _ = &self.bits;
-    }
-
     /// Whether a load at this address waits for the addresses of all older stores: its bit is set. There is a bit or
     /// more.
     pub fn waits(&self, pc: u32) -> bool
         requires { 0 < length self.now }
         ensures bit { result ≡ is_set self.now pc }
+        ensures described { IsAsked (length self.now) }
         ensures machine { InEach self.now (λ d. result ≡ waits_for_stores d self.now pc) }
     {
         self.bits[index(pc, self.bits.len())]
@@ -61,6 +53,7 @@ impl DepPred {
         requires { 0 < length self.old }
         ensures bit { self.new ≡ with_set self.old pc }
         ensures event { result ≡ event.Dp (place self.old pc) 1 }
+        ensures described { IsAsked (length self.old) }
         ensures machine { InEach self.old (λ d.
             (self.new ≡ bit_set d pc self.old) × (result ≡ event.Dp (bit_index d pc) 1)) }
     {
