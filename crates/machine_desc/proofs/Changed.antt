@@ -7,6 +7,7 @@ use Rattle.machine_desc.specs.Version.{knows_model, knows_defence}
 use Rattle.machine_desc.proofs.EveryDesc.{each_is}
 use Rattle.machine_desc.specs.Ranges.{key_number, Meets, described, all_may_be}
 
+-- a description may have any model and any defence that its version knows
 pub meets_with : (d : Desc) (m : SttModel) (t : Defence) → IsTrue (knows_model d.version m) → IsTrue (knows_defence d.version t) → Meets d.version (key_number d) m t
 meets_with d m t model defence = record {
   version = d.stands.version;

@@ -30,21 +30,25 @@ four : (test : ℕ → ℕ → ℕ → ℕ → Bool) (e : DescFault) (a b c f : 
     → with_number a (λ k. with_number b (λ l. with_number c (λ m. with_number f (λ n. if test k l m n then None else Some e)))) ≡ None → test x y z w ≡ true
 four test e a b c f x y z w p q r s h = none_from_if (test x y z w) e (rw (p, q, r, s) at h)
 
+-- a document without a fault of latencies has a hit take less time than a miss
 pub latencies : (v : ℕ) (document : Members) (hit miss : ℕ) → latency_fault v document ≡ None → number v document CacheHitLatency ≡ Ok hit
     → number v document CacheMissLatency ≡ Ok miss → hit < miss
 unfolding latency_fault
 latencies v document hit miss h p q = ltb-true hit miss (two nat_lt _ _ _ hit miss p q h)
 
+-- a document without a fault of memory's end has memory end at 2^32 at the latest
 pub ends : (v : ℕ) (document : Members) (base size : ℕ) → end_fault v document ≡ None → number v document RamBase ≡ Ok base
     → number v document RamSize ≡ Ok size → base + size ≤ 2 ^ 32
 unfolding end_fault
 ends v document base size h p q = leb-true (base + size) (2 ^ 32) (two (λ m n. nat_le (m + n) (2 ^ 32)) _ _ _ base size p q h)
 
+-- a document without a fault of miss registers has at least two where accesses may be misaligned
 pub registers : (v : ℕ) (document : Members) (misaligned mshrs : ℕ) → registers_fault v document ≡ None → number v document RamMisaligned ≡ Ok misaligned
     → number v document CacheMshrs ≡ Ok mshrs → 2 * misaligned ≤ mshrs
 unfolding registers_fault
 registers v document misaligned mshrs h p q = leb-true (2 * misaligned) mshrs (two (λ m n. nat_le (2 * m) n) _ _ _ misaligned mshrs p q h)
 
+-- a document without a fault of the second level has its time between those of hit and miss
 pub second : (v : ℕ) (document : Members) (sets hit next miss : ℕ) → second_fault v document ≡ None → number v document CacheSecondSets ≡ Ok sets
     → number v document CacheHitLatency ≡ Ok hit → number v document CacheSecondLatency ≡ Ok next → number v document CacheMissLatency ≡ Ok miss
     → IsTrue (comes_between sets hit next miss)
@@ -63,6 +67,7 @@ each_step v document h =
     none_first (top_fault document ∷ sections_fault v document ∷ keys_fault v document ∷ latency_fault v document ∷ end_fault v document ∷
     registers_fault v document ∷ second_fault v document ∷ []) h
 
+-- a document without fault is clean
 pub is_clean : (v : ℕ) (document : Members) → document_fault v document ≡ None → IsClean v document
 is_clean v document h =
     let steps = each_step v document h in
@@ -74,9 +79,11 @@ is_clean v document h =
       second = steps.1.1.1.1.1.1.0;
     }
 
+-- a test passes only where there is no fault
 pub none_from_checked : (x : Option DescFault) → checked x ≡ Ok tt → x ≡ None
 none_from_checked None h = refl
 none_from_checked (Some e) h = absurd (cc)
 
+-- a document is clean, where the test of it passes
 pub clean_from_checked : (v : ℕ) (document : Members) → checked (document_fault v document) ≡ Ok tt → IsClean v document
 clean_from_checked v document h = is_clean v document (none_from_checked _ h)

@@ -15,6 +15,7 @@ shape_from_test PowerOfTwo n h = power_from_test n h
 shape_from_test ZeroOrPowerOfTwo n h = zero_or_power_from_test n h
 shape_from_test MultipleOf16 n h = eqb-true _ _ h
 
+-- a number that passes the tests of a key is one of the key's values
 pub fits_from_test : (values : Values) (n : ℕ) → PassesAs values n → Fits values n
 fits_from_test (Numbers least most shape) n h = (h.0, h.1, shape_from_test shape n h.2)
 fits_from_test (Optional least most shape) n h = (h.0, h.1, shape_from_test shape n h.2)

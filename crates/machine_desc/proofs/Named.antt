@@ -56,5 +56,6 @@ defence_by v every None Delay k q = absurd (cc)
 defence_by v every (Some (string text)) t k q = named_defence t (bytes_eq text (codes "stt")) (bytes_eq text (codes "hold")) (bytes_eq text (codes "delay")) every _ q v k
 defence_by v every (Some _) t k q = absurd (cc)
 
+-- a defence that is read is one that the version knows
 pub defence_known : (v : ℕ) → IsKnown v → (document : Members) (t : Defence) → defence v document ≡ Ok t → IsTrue (knows_defence v t)
 defence_known v known document t q = defence_by v (is_known v DefenceKey) (value_at document DefenceKey) t (defences_if_known v known) q

@@ -80,6 +80,7 @@ defence_in_newest v Stt h = refl
 defence_in_newest v Hold h = refl
 defence_in_newest v Delay h = refl
 
+-- the numbers, the model and the defence of every description are allowed in the newest version
 pub meets_in_newest : (d : Desc) → Meets newest (key_number d) d.stt_model d.stt_defence
 meets_in_newest d = record {
   version = (lit≤ tt, lit≤ tt);

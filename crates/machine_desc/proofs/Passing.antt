@@ -112,6 +112,7 @@ pub record Found (version : ℕ) (document : Members) (key : Key) : Type 0 where
   pub is : number version document key ≡ Ok (number_at version document key)
   pub set : setting version document key ≡ Ok (OneNumber (number_at version document key))
 
+-- a document without a fault at a key of numbers sets the key to a number
 pub found : (v : ℕ) (document : Members) (key : Key) → key_fault v document key ≡ None → IsTrue (has_numbers (values_of v key)) → Found v document key
 unfolding key_fault
 found v document key none w =

@@ -43,6 +43,7 @@ same_setting d e h key = sym (mapped_at_place (setting_of d) key) ∙ (ap (λ (c
 same_number : (d e : Desc) → contents d ≡ contents e → (key : Key) → key_number d key ≡ key_number e key
 same_number d e h key = sym (number_is d key) ∙ (ap as_number (same_setting d e h key) ∙ number_is e key)
 
+-- two descriptions with the same contents are equal
 pub same_desc : (d e : Desc) → contents d ≡ contents e → d ≡ e
 same_desc d e h =
     let version : d.version ≡ e.version = ap (λ (c : Contents). c.version) h in

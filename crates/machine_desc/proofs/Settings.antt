@@ -26,6 +26,7 @@ all_are f g each (k ∷ ks) = one_more (f k) (g k) (map f ks) (map g ks) (each k
 abbrev contents_with : ℕ → List Setting → Contents
 contents_with version settings = record { version = version; settings = settings }
 
+-- a document has the contents of a description, where it sets each key to what the description has there
 pub contents_are : (v : ℕ) (document : Members) (d : Desc) → document_fault v document ≡ None → d.version ≡ v
     → ((key : Key) → setting v document key ≡ Ok (setting_of d key)) → contents_by (Ok v) document ≡ Ok (contents d)
 contents_are v document d none version each =
@@ -40,6 +41,7 @@ no_model v document fault f p =
     let none : fault_of (set_to OneModel (model v document)) ≡ None = (is_clean v document f).keys ModelKey in
     absurd (cc)
 
+-- a document without fault has a defence
 pub no_defence : (v : ℕ) (document : Members) (fault : DescFault) → document_fault v document ≡ None → defence v document ≡ Err fault → ⊥
 unfolding key_fault
 no_defence v document fault f q =

@@ -80,6 +80,7 @@ by_text c false document h = absurd (cc)
 by_text c true None h = absurd (cc)
 by_text c true (Some document) h = by_version document c (version document) refl h
 
+-- contents that a text describes are those of some description
 pub some_description : (bytes : List ℕ) (c : Contents) → description_of bytes ≡ Ok c → (d : Desc) × (contents d ≡ c)
 unfolding description_of
 some_description bytes c h = by_text c (is_utf8 bytes) (parse_document bytes) h

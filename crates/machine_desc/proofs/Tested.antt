@@ -23,6 +23,7 @@ abbrev pub all_hold : List Bool → Bool
 all_hold [] = true
 all_hold (b ∷ more) = b && all_hold more
 
+-- two tests hold, where both are tested at once
 pub both : (a b : Bool) → IsTrue (a && b) → IsTrue a × IsTrue b
 both true b h = (refl, h)
 both false b h = absurd (cc)

@@ -25,11 +25,13 @@ of_document bytes document h p =
     let u : is_utf8 bytes ≡ true = is_utf8-from_IsUtf8 bytes h in
     rw (u, p) refl
 
+-- bytes describe what their document has as contents
 pub ok_of_document : (bytes : List ℕ) (document : Members) (r : Result Desc DescFault) → description_of bytes ≡ document_contents document
     → IfOk r (λ d. document_contents document ≡ Ok (contents d)) → IfOk r (λ d. description_of bytes ≡ Ok (contents d))
 ok_of_document bytes document (Ok d) e h = e ∙ h
 ok_of_document bytes document (Err f) e h = h
 
+-- bytes have the fault that their document has, but for want of memory
 pub err_of_document : (bytes : List ℕ) (document : Members) (r : Result Desc DescFault) → description_of bytes ≡ document_contents document
     → IfErr r (λ f. document_contents document ≡ Err f) → IfErr r (λ f. f ≢ NoMemory → description_of bytes ≡ Err f)
 err_of_document bytes document (Ok d) e h = h

@@ -14,14 +14,17 @@ unknown_name known (k ∷ ks) = if known (string_bytes k) then unknown_name know
 if_same : (b : Bool) {X : Type 0} (x x' y : X) → x ≡ x' → (if b then x else y) ≡ (if b then x' else y)
 if_same b x x' y e = rw e refl
 
+-- the first unknown name of a table is that of its keys
 pub unknown_names : (known : List ℕ → Bool) (es : List (String Global × Value)) → unknown_name known (keys_of es) ≡ unknown known (members_view es)
 unknown_names known [] = refl
 unknown_names known (e ∷ es) = if_same (known (string_bytes e.0)) _ _ _ (unknown_names known es)
 
+-- a table has no unknown name, where none is left among its keys
 pub at_none : (known : List ℕ → Bool) (es : List (String Global × Value)) (it : List (String Global)) → it ≡ [] → unknown_name known it ≡ unknown_name known (keys_of es)
     → None ≡ unknown known (members_view es)
 at_none known es it e i = let k : unknown_name known [] ≡ unknown_name known (keys_of es) = rw e at i in k ∙ unknown_names known es
 
+-- the first unknown name of a table is the next key, where all keys before it are known and it isn't
 pub at_some : (known : List ℕ → Bool) (es : List (String Global × Value)) (it : List (String Global)) (k : String Global) (rest : List (String Global)) (w t : List ℕ)
     → it ≡ k ∷ rest → unknown_name known it ≡ unknown_name known (keys_of es) → w ≡ string_bytes k → false ≡ known w → t ≡ string_bytes k
     → Some t ≡ unknown known (members_view es)

@@ -25,6 +25,7 @@ by_value (Some (integer (pos n))) v q = within n v (nat_le 1 n) (nat_le n newest
 by_value (Some (integer (negsuc n))) v q = absurd (cc)
 by_value (Some _) v q = absurd (cc)
 
+-- a version that is read of a document is a known one
 pub is_known : (document : Members) (v : ℕ) → version document ≡ Ok v → IsKnown v
 is_known document v q = by_value (get_member version_name document) v q
 
@@ -41,6 +42,7 @@ in_each P v k one two = by_version (one_or_two v k)
     by_version (inl e) = subst P (sym e) one
     by_version (inr e) = subst P (sym e) two
 
+-- a known version knows defences exactly from version 2 on
 pub defences_if_known : (v : ℕ) → IsKnown v → knows_defences v ≡ nat_le 2 v
 defences_if_known v k = in_each (λ x. knows_defences x ≡ nat_le 2 x) v k refl refl
 
