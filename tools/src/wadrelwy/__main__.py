@@ -153,7 +153,8 @@ def main(words: Optional[Sequence[str]] = None) -> int:
     try:
         return answered(words)
     except KeyboardInterrupt:
-        goes_on = "; the same command goes on where it stopped" if words[0] in KEEPS else ""
+        keeps = words[0] in KEEPS or words[0] == "draw" and any(word.startswith("--record") for word in words)
+        goes_on = "; the same command goes on where it stopped" if keeps else ""
         print(f"{name_of(words)}: interrupted{goes_on}", file=sys.stderr)
         return statuses.INTERRUPTED
     except BrokenPipeError:

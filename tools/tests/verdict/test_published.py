@@ -207,6 +207,10 @@ class Table(unittest.TestCase):
     def draw(self, text, *words):
         return command("draw", self.folder, *words, "--program", self.stand_in("pairs", text))
 
+    def rows(self, record):
+        with open(record, encoding="utf-8", newline="") as file:
+            return list(csv.DictReader(file))
+
     def runs(self):
         with open(self.ran, encoding="utf-8") as file:
             return file.read().splitlines()
@@ -258,6 +262,32 @@ class Table(unittest.TestCase):
         self.assertEqual(told.returncode, 16)
         self.assertRegex(told.stdout, "; unequal in cycle 16, with the secrets 11 and [0-9a-f][13579bdf], pair 1 of those tried; of [45] values tried ")
         self.assertIn("traces that are proved equal aren't", told.stderr)
+
+    def test_record(self):
+        """With a record only those values are compared, too, and it says how many were tried; more draws only add."""
+        self.certify("all", *PUBLIC)
+        record = os.path.join(self.folder, "record.csv")
+        self.assertEqual(self.draw(UNLIKE, "--draws", "20", "--record", record).returncode, 0)
+        [row] = self.rows(record)
+        compared, tried = int(row["values_compared"]), int(row["last_value"])
+        self.assertEqual((row["public_streams"], row["values_that_publish_the_same"]), ("2", row["values_compared"]))
+        self.assertTrue(0 < compared < tried <= 22, row)
+        told = self.draw(UNLIKE, "--draws", "256", "--record", record)
+        self.assertEqual((told.returncode, told.stderr), (0, ""))
+        self.assertTrue(told.stdout.endswith(f"; none of 127 values unequal, {127 - compared} of them compared now and {compared} before; of 255 values "
+                                             "tried 127 publish the same\n"), told.stdout)
+        self.assertEqual([[row["first_value"], row["last_value"]] for row in self.rows(record)], [["1", str(tried)], [str(tried + 1), "255"]])
+
+    def test_record_of_nothing(self):
+        """Values of which none publishes the same were tried, and aren't again."""
+        self.certify("all", *PUBLIC, numbers=ITSELF)
+        record = os.path.join(self.folder, "record.csv")
+        for _ in range(2):
+            told = self.draw(EQUAL, "--draws", "256", "--record", record)
+            self.assertEqual((told.returncode, told.stderr), (3, ""))
+            self.assertTrue(told.stdout.endswith("; nothing compared; of 255 values tried 0 publish the same, and there are no others\n"), told.stdout)
+            self.assertEqual([(row["first_pair"], row["last_pair"], row["first_value"], row["last_value"], row["values_compared"], row["result"])
+                              for row in self.rows(record)], [("1", "0", "1", "255", "0", "equal")])
 
     def test_nothing_to_compare(self):
         """Where no other value publishes the same it says so, and has no status of an answer that was held against the machine."""

@@ -1,6 +1,7 @@
 """Holds each answer of a table of certificates against the machine: other values of the secret, and `pair`.
 
     wadrelwy draw FOLDER [--draws N] [--seed S] [--only NAME] [--except NAME] [--public-stream N].. [--jobs N] [--program P]
+                  [--record FILE]
 
 FOLDER is that of wadrelwy certify. Of each certified run `pair` is asked of values of the secret, of two at a time, of the first and the
 image's own to begin with, whether they have one trace: two that haven't contradict what is proved. Of each run in which something shows it
@@ -16,20 +17,31 @@ many steps of the instruction set; of what shows, up to the run's end. The line 
 the same. Where none does, nothing is compared, and the line says so: as a rule of a long output, since hardly a second secret gives it.
 --public-stream needn't stand; where it does, it names the streams that FOLDER was asked with, or is refused.
 
+With --record FILE what is compared is kept in FILE, a CSV with a row for each cell and each stretch of pairs that one call compared of it, which is
+replaced after each pair. Pairs that it has of the same image, description, secret, streams, cycles and seed aren't run again, by whichever
+simulator they were; what is told of a cell counts them, and says how many were compared now and how many before. So where it was stopped, by
+an interrupt too, the same command goes on; and a larger N only adds, since the values of N draws are the first of those of more. All cells
+go on side by side, that of which fewest values were tried first, so a stop leaves each with about as many; a line is written for each as soon
+as it is through. One process at a time may write FILE, which is locked by FILE.lock; another is refused, and so is a file that is no record.
+
 N is 20 and S is 1 without them, and as many --jobs as processors; P is the simulator: without --program the variable STT_CLI, else
 crates/stt_cli/out/stt_cli. The status is 0; 16 where traces that are proved equal aren't; 3 where a run was skipped, or nothing of it was
 compared; 2 for a refusal, and 130 if interrupted."""
+import io
 import itertools
 import os
 import sys
 import tempfile
+import threading
 from concurrent.futures import ThreadPoolExecutor
 from functools import cache
+from typing import NamedTuple, Optional
 
 from wadrelwy import Fault, built_programs, statuses
 from wadrelwy.machine import words as asking
+from wadrelwy.sweep.kept import digest, sha256
 from wadrelwy.sweep.results import Store
-from wadrelwy.verdict import certificates, certifying, drawing, published, ranges, report, secrecy, simulator
+from wadrelwy.verdict import certificates, certifying, drawing, published, ranges, report, secrecy, side_by_side, simulator, stretches
 from wadrelwy.verdict.certificate import MOST_RETIRED
 from wadrelwy.verdict.loaded import Loaded, load
 from wadrelwy.verdict.patched import Patches
@@ -46,6 +58,7 @@ def words(parser):
     asking.public_streams(parser)
     parser.add_argument("--jobs", type=int, default=len(os.sched_getaffinity(0)), metavar="N")
     parser.add_argument("--program", metavar="P")
+    parser.add_argument("--record", metavar="FILE")
 
 
 def name_of(plan, run):
@@ -55,19 +68,40 @@ def name_of(plan, run):
     return " ".join([file.removesuffix(".elf"), build, *[run.base] * several, *certificates.told_setting(plan, run)])
 
 
+# one value at a time is looked at: cells of one image come to the same one, and it is kept for all
+LOOKING = threading.Lock()
+
+
 @cache
-def of_one_output(path, memory, secret, streams, steps, values):
-    """Those values of a secret with which an image publishes what it does with its own, in so many steps: found once for all descriptions of one
-    memory."""
+def output_of(path, memory, streams, steps):
+    """An image in a memory, and what it publishes in so many steps: one walk for all descriptions of one memory."""
     image = Loaded(path, *memory)
-    wanted = published.output(image, streams, steps)
-    return [value for value in values if published.is_published(published.with_value(image, secret, value), wanted)]
+    return image, published.output(image, streams, steps)
+
+
+@cache
+def publishes_the_same(path, memory, secret, streams, steps, value):
+    """Whether an image publishes with this value of a secret what it does with its own, in so many steps."""
+    image, wanted = output_of(path, memory, streams, steps)
+    return published.is_published(published.with_value(image, secret, value), wanted)
+
+
+class Outcome(NamedTuple):
+    """What came of a run's values: how many were tried, and how many of them compared; where two traces are unequal in which cycle, of which two
+    secrets, and in which pair; and, where there is a record, how many were compared before, and whether the unequal two were."""
+    tried: int
+    compared: int
+    unequal: Optional[tuple] = None
+    pair: int = 0
+    before: Optional[int] = None
+    is_old: bool = False
 
 
 class Drawing:
     """A run of the table, and the values that are tried of its secret."""
 
-    def __init__(self, plan, run, program, store):
+    def __init__(self, plan, run, program, store, screen=sys.stderr):
+        self.screen = screen
         plan.check(run)
         self.of_path = run.of_path
         self.row = certificates.row_of(plan, run, store)
@@ -82,57 +116,91 @@ class Drawing:
         """The first unequal cycle of the traces of two values; none where they are equal."""
         images = [self.patches.write(os.path.join(folder, name), self.secret, value) for name, value in zip(("one.elf", "two.elf"), values, strict=True)]
         words = "pair", self.description, *images, "--cycles", str(self.cycles)
-        return simulator.answer(simulator.run(self.program, *words), self.program).unequal
+        return simulator.answer(simulator.run(self.program, *words, screen=self.screen), self.program).unequal
 
-    def values(self, own, draws, seed):
-        """The values that are tried: those that are drawn, and such as show what hardly one of them does."""
+    def fixed(self, own, seed):
+        """The values that are tried whatever the number of draws: such as show what hardly a drawn one does."""
         machine = read_description(self.description)
         found = drawing.telling(own, machine.base, machine.size, seed)
         shown = self.row.answer.shown
         if shown and shown.what == BRANCH:
             image = load(self.row.image, machine)
             found += drawing.of_operands(own, drawing.operands_at(image, shown.pc, MOST_RETIRED * shown.cycle))
-        found += drawing.drawn(own, draws, seed) + (drawing.changed(own) if shown else [])
-        return drawing.others(own, found), machine.size
+        return found + (drawing.changed(own) if shown else [])
 
-    def alike(self, values):
-        """Those values with which the program publishes what it does with the secret's own, in as many steps; all where no stream is public."""
+    def is_alike(self, value):
+        """Whether the program publishes with a value what it does with the secret's own, in as many steps; so it is where no stream is public."""
         if not self.row.streams:
-            return values
+            return True
         machine, end = read_description(self.description), self.row.answer.end
         steps = end.retired if end else MOST_RETIRED * self.cycles
-        return of_one_output(self.row.image, (machine.base, machine.size, machine.misaligned), tuple(self.secret), self.row.streams, steps, tuple(values))
+        with LOOKING:
+            return publishes_the_same(self.row.image, (machine.base, machine.size, machine.misaligned), tuple(self.secret), self.row.streams, steps, value)
 
-    def told(self, draws, seed):
-        """The line of this run, and its status: whether it contradicts what is proved, or can't be tried."""
-        line, status = self.tried(draws, seed)
-        return f"{self.name}: {self.row.verdict()}; {line}", status
+    def question(self, draws, seed, folder):
+        """The run as a cell whose pairs are kept; the list of its values is known by those that are fixed, and the first that is drawn."""
+        own = self.patches.value(self.secret)
+        fixed = self.fixed(own, seed)
+        words = " ".join(f"{each.address:08x}:{each.size}" for each in self.secret), " ".join(map(str, self.row.streams)), str(self.cycles), str(seed)
+        listed = sha256(b"".join([own, *fixed, *drawing.drawn(own, 1, seed)]))
+        cell = stretches.Cell(digest(self.row.image), digest(self.description), *words, listed)
+        values, by = drawing.others(own, fixed + drawing.drawn(own, draws, seed)), digest(self.program)
+
+        def unequal(two):
+            cycle = self.unequal(two, folder)
+            if digest(self.program) != by:
+                raise Fault(f"{self.program} isn't what it was when this call began: the same command goes on with what it is now")
+            return cycle
+        return side_by_side.Question(self.name, cell, own, values, bool(self.row.answer.shown), self.is_alike, unequal, by)
+
+    def skipped(self):
+        """Why this run can't be tried; none where it can."""
+        if self.of_path:
+            return "it is of every core that delays, and of no one machine"
+        try:
+            self.patches.value(self.secret)
+        except Fault as fault:
+            return str(fault)
+        return None
+
+    def told(self, said):
+        """The line of this run."""
+        return f"{self.name}: {self.row.verdict()}; {said}"
 
     def tried(self, draws, seed):
-        """What came of the values that are tried, and the status."""
-        shown = self.row.answer.shown
-        if self.of_path:
-            return "skipped: it is of every core that delays, and of no one machine", statuses.CUT
-        try:
-            own = self.patches.value(self.secret)
-        except Fault as fault:
-            return f"skipped: {fault}", statuses.CUT
-        drawn, size = self.values(own, draws, seed)
-        values = self.alike(drawn)
-        same = f"; of {report.plural(len(drawn), 'value')} tried {len(values)} publish the same" if self.row.streams else ""
-        if not values:
-            rest = ", and there are no others" if self.is_whole(len(drawn)) else ": --draws N looks further"
-            return f"nothing compared{same}{rest}", statuses.CUT
+        """What came of the values that are tried: its line, and the status."""
+        why = self.skipped()
+        if why:
+            return self.told(f"skipped: {why}"), statuses.CUT
+        own, shown = self.patches.value(self.secret), self.row.answer.shown
+        drawn = drawing.others(own, self.fixed(own, seed) + drawing.drawn(own, draws, seed))
+        values = [value for value in drawn if self.is_alike(value)]
+        found = Outcome(len(drawn), len(values))
         pairs = [(own, value) for value in values] if shown else list(itertools.zip_longest([own, *values][::2], values[::2], fillvalue=own))
         with tempfile.TemporaryDirectory() as folder:
-            for number, two in enumerate(pairs, 1):
+            for number, two in enumerate(pairs if values else [], 1):
                 cycle = self.unequal(two, folder)
                 if cycle is not None:
-                    secrets = " and ".join(value.hex() for value in two)
-                    line = f"unequal in cycle {cycle}, with the secrets {secrets}, pair {number} of those tried{same}"
-                    return line, statuses.HOLDS if shown else statuses.REFUTED
-        none = f"none of {report.plural(len(values), 'value')} unequal{same}"
-        return none + (self.none_of(len(drawn), min(draws, 256 ** len(own)), size) if shown else ""), statuses.HOLDS
+                    return self.answered(found._replace(unequal=(cycle, *two), pair=number), draws)
+        return self.answered(found, draws)
+
+    def answered(self, found, draws):
+        """The line that tells an outcome, and the status: whether it contradicts what is proved, or nothing was compared."""
+        shown = self.row.answer.shown
+        same = f"; of {report.plural(found.tried, 'value')} tried {found.compared} publish the same" if self.row.streams else ""
+        if found.unequal:
+            cycle, *two = found.unequal
+            secrets = " and ".join(value.hex() for value in two)
+            line = f"unequal in cycle {cycle}, with the secrets {secrets}, pair {found.pair} of those tried{', compared before' * found.is_old}{same}"
+            return self.told(line), statuses.HOLDS if shown else statuses.REFUTED
+        if not found.compared:
+            rest = ", and there are no others" if self.is_whole(found.tried) else ": --draws N looks further"
+            return self.told(f"nothing compared{same}{rest}"), statuses.CUT
+        since = "" if found.before is None else f", {found.compared - found.before} of them compared now and {found.before} before"
+        line = f"none of {report.plural(found.compared, 'value')} unequal{since}{same}"
+        size = read_description(self.description).size
+        rest = self.none_of(found.tried, min(draws, 256 ** sum(each.size for each in self.secret)), size) if shown else ""
+        return self.told(line + rest), statuses.HOLDS
 
     def is_whole(self, count):
         """Whether so many values besides the secret's own are all there are."""
@@ -152,23 +220,64 @@ def drawings(asked, program):
     made = certifying.read(asked.folder, asked.public_stream)
     store = Store(made, certifying.Asks(made))
     runs = [run for run in made.runs if run.id in store.found and asked.only in name_of(made, run)]
-    found = [Drawing(made, run, program, store) for run in runs if asked.left_out is None or asked.left_out not in name_of(made, run)]
+    # with a record the rest of all cells is told, and not how long a pair goes on
+    screen = sys.stderr if asked.record is None else io.StringIO()
+    found = [Drawing(made, run, program, store, screen) for run in runs if asked.left_out is None or asked.left_out not in name_of(made, run)]
     if not found:
         raise Fault(f"{asked.folder} has no answer of such a name: names are as `chacha20 gcc-O2 spectre`")
     return found
 
 
+def side_by_side_of(found, asked):
+    """The lines and statuses of these runs, pair by pair of all of them, with what the record has."""
+    for each in found:
+        if each.skipped():
+            yield each.told(f"skipped: {each.skipped()}"), statuses.CUT
+    with stretches.Locked(asked.record), tempfile.TemporaryDirectory() as folder:
+        record, of_cells, begun = stretches.Record(asked.record), {}, []
+        for number, each in enumerate(each for each in found if not each.skipped()):
+            question = each.question(asked.draws, asked.seed, os.path.join(folder, str(number)))
+            of_cells.setdefault(question.cell, []).append(each)
+            if len(of_cells[question.cell]) == 1:
+                os.mkdir(os.path.join(folder, str(number)))
+                begun.append(side_by_side.Going(question, record.known(question.cell)))
+        for going in side_by_side.ended(begun, asked.jobs, record):
+            for each in of_cells[going.question.cell]:
+                # a record may have more than is asked for now
+                yield each.answered(outcome_of(going), asked.draws + max(0, going.tried - len(going.question.values)))
+
+
+def outcome_of(going):
+    """What came of a cell's pairs, of this call and of those before."""
+    old = going.before.unequal
+    found = Outcome(going.tried, going.compared, before=going.before.compared)
+    if old:
+        return found._replace(unequal=old.unequal, pair=old.last_pair, is_old=True)
+    stretch = going.stretch()
+    return found._replace(unequal=stretch.unequal, pair=stretch.last_pair) if stretch else found
+
+
+def lines(found, asked):
+    """The line and the status of each run."""
+    if asked.record is not None:
+        yield from side_by_side_of(found, asked)
+        return
+    with ThreadPoolExecutor(asked.jobs) as pool:
+        yield from pool.map(lambda each: each.tried(asked.draws, asked.seed), found)
+
+
 def main(asked):
     if asked.jobs < 1 or asked.draws < 1:
         raise Fault("jobs and draws are at least 1")
+    if asked.record == "":
+        raise Fault("--record names a file")
     program = built_programs.simulator(asked.program)
     if program is None:
         raise Fault("no simulator: build it (docs/using.md, \"Before you start\"), or name it with --program")
     found = [statuses.HOLDS]
-    with ThreadPoolExecutor(asked.jobs) as pool:
-        for line, status in pool.map(lambda each: each.told(asked.draws, asked.seed), drawings(asked, program)):
-            print(line, flush=True)
-            found.append(status)
-            if status == statuses.REFUTED:
-                print("wadrelwy draw: traces that are proved equal aren't: please report it", file=sys.stderr)
+    for line, status in lines(drawings(asked, program), asked):
+        print(line, flush=True)
+        found.append(status)
+        if status == statuses.REFUTED:
+            print("wadrelwy draw: traces that are proved equal aren't: please report it", file=sys.stderr)
     return statuses.worst(found)

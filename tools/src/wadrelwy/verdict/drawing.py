@@ -11,11 +11,11 @@ WORD = 4
 
 
 def drawn(own, draws, seed):
-    """Values of as many bytes as the secret's own: all there are, where they are no more than the draws."""
-    if 256 ** len(own) <= draws:
-        return [bytes(value) for value in itertools.product(range(256), repeat=len(own)) if bytes(value) != own]
-    found = random.Random(seed)
-    return [found.randbytes(len(own)) for _ in range(draws)]
+    """Values of as many bytes as the secret's own. The values of so many draws are the first of those of more draws. Where there are no more values
+    than draws, each comes behind those."""
+    found, all_there_are = random.Random(seed), 256 ** len(own)
+    values = [found.randbytes(len(own)) for _ in range(min(draws, all_there_are - 1))]
+    return values + ([bytes(value) for value in itertools.product(range(256), repeat=len(own))] if all_there_are <= draws else [])
 
 
 def changed(own):

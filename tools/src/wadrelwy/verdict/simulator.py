@@ -2,6 +2,7 @@
 import os
 import re
 import subprocess
+import sys
 import tempfile
 from typing import NamedTuple, Optional
 
@@ -67,11 +68,12 @@ class Answer(NamedTuple):
     retired: int = 0
 
 
-def started(program, words, out):
-    """Runs the program for these words, what it writes going there; answers the note that it leaves where it ran."""
+def started(program, words, out, screen=sys.stderr):
+    """Runs the program for these words, what it writes going there; answers the note that it leaves where it ran. That it goes on is told on a
+    screen."""
     built_programs.refuse_unproved(program)
     try:
-        with Screen(" ".join([os.path.basename(program), *words[:1]])):
+        with Screen(" ".join([os.path.basename(program), *words[:1]]), screen):
             ended = subprocess.run([program, *words], stdout=out, stderr=subprocess.PIPE, text=True, errors="replace", check=False)
     except OSError as error:
         raise Fault(f"{program}: {error.strerror}") from None
@@ -81,10 +83,10 @@ def started(program, words, out):
     return note
 
 
-def run(program, *words):
+def run(program, *words, screen=sys.stderr):
     """What the program writes for these words."""
     with tempfile.TemporaryFile("w+", encoding="utf-8", errors="replace") as file:
-        started(program, words, file)
+        started(program, words, file, screen)
         file.seek(0)
         return file.read()
 
