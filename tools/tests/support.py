@@ -5,6 +5,7 @@ import re
 import struct
 import subprocess
 import tempfile
+import unittest
 
 ROOT = os.path.dirname(os.path.dirname(os.path.dirname(os.path.abspath(__file__))))
 TOOL = os.path.join(ROOT, "tools", "wadrelwy")
@@ -33,6 +34,13 @@ LARGER = {"rob": 192, "stations": 96, "loads": 64, "stores": 48, "queue": 32}
 SMALLEST = {"fetch_width": 1, "retire_width": 1, "rob": 4, "stations": 2, "loads": 1, "stores": 1, "queue": 1, "alus": 1,
             "mul_latency": 1, "counters": 2, "btb": 1, "sets": 1, "ways": 1, "line": 4, "hit_latency": 1, "miss_latency": 2,
             "mshrs": 1}
+
+
+def answer(ended):
+    """What a command has answered; where it could read no image, as there is no pyelftools, the test is skipped."""
+    if NO_IMAGES and "has no package elftools" in ended.stderr:
+        raise unittest.SkipTest(NO_IMAGES)
+    return ended
 
 
 def example(name):

@@ -4,6 +4,11 @@ import sys
 
 from wadrelwy import Fault
 
+
+class NoPackage(Fault):
+    """What reads images isn't there."""
+
+
 try:
     from elftools.common.exceptions import DWARFError, ELFError
     from elftools.construct import Array, ConstructError
@@ -24,5 +29,5 @@ except ModuleNotFoundError:
         """Stands for that of pyelftools, and refuses every file."""
 
         def __init__(self, *_: object) -> None:
-            raise Fault(f"{sys.executable} has no package elftools, by which images are read: `apt-get install python3-pyelftools`, or "
-                        "`pip install pyelftools`")
+            raise NoPackage(f"{sys.executable} has no package elftools, by which images are read: `apt-get install python3-pyelftools`, or "
+                            "`pip install pyelftools`")

@@ -85,8 +85,7 @@ def programs():
 
 def command(name, *arguments):
     """What a command of this tool writes, and its status."""
-    return subprocess.run([sys.executable, support.TOOL, name, *arguments], capture_output=True, text=True,
-                          check=False)
+    return support.answer(subprocess.run([sys.executable, support.TOOL, name, *arguments], capture_output=True, text=True, check=False))
 
 
 def isa_report(path, steps, description=None):

@@ -1,7 +1,7 @@
 """The path and the premises (docs/machine.md, "Paths"; docs/theorems.md, "Noninterference")."""
 import unittest
 
-from material import BOUND_0, BOUND_1, CODE, CORE, DATA, SECRET, gadget, loaded, segment, words
+from material import BOUND_0, BOUND_1, CODE, CORE, DATA, SECRET, gadget, loaded, segment, support, words
 from wadrelwy.verdict.path import walk
 from wadrelwy.verdict.premises import premises
 from wadrelwy.view import Fault
@@ -90,6 +90,7 @@ class Loading(unittest.TestCase):
         self.assertEqual(image.memory[:16], words(1, 7, 3, 0))
         self.assertNotIn(CODE + 12, image.words)
 
+    @unittest.skipIf(support.NO_IMAGES, support.NO_IMAGES)
     def test_outside_memory(self):
         with self.assertRaisesRegex(Fault, "takes 00008000 to 00008003, and memory is 00010000 to 0001ffff"):
             loaded("low.elf", [segment(0x8000, words(1), True)])

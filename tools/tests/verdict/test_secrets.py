@@ -172,7 +172,8 @@ class OneImage(unittest.TestCase):
         said = program(HIDDEN.replace("\n", "\\n"))
         words = CORE, support.example("bounds_check.elf"), "--secret", WORD, "--secrets-program", said
         with open("/dev/full", "w", encoding="ascii") as full:
-            told = subprocess.run([sys.executable, support.TOOL, "verdict", *words], stdout=full, stderr=subprocess.PIPE, text=True, check=False)
+            told = support.answer(subprocess.run([sys.executable, support.TOOL, "verdict", *words], stdout=full, stderr=subprocess.PIPE, text=True,
+                                                 check=False))
         self.assertEqual(told.returncode, 7)
         self.assertRegex(told.stderr, r"\A[^\n]*verdict: [^\n]*\n\Z")
 

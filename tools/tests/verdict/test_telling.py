@@ -113,6 +113,7 @@ class StoredRuns(unittest.TestCase):
         self.assertGreater(wrong, 20)
 
 
+@unittest.skipIf(support.NO_IMAGES, support.NO_IMAGES)
 class OtherTraces(unittest.TestCase):
     """A trace that isn't one of the image is told from one that is by what is computed."""
 

@@ -174,6 +174,7 @@ class OtherPrograms(unittest.TestCase):
                 self.assertEqual((told.returncode, told.stdout, told.stderr.count("\n")), (2, "", 1), told.stderr)
                 self.assertIn(note, told.stderr)
 
+    @unittest.skipIf(support.NO_IMAGES, support.NO_IMAGES)
     def test_interrupt(self):
         mark = os.path.join(support.FOLDER.name, "begun")
         words = self.words(f"#!/bin/sh\ntouch {mark}\nexec sleep 60\n")

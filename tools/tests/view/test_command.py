@@ -12,7 +12,7 @@ from wadrelwy.view import places
 
 
 def view(*words, text=None):
-    return subprocess.run([sys.executable, support.TOOL, "view", *words], capture_output=True, text=True, input=text, timeout=60)
+    return support.answer(subprocess.run([sys.executable, support.TOOL, "view", *words], capture_output=True, text=True, input=text, timeout=60))
 
 
 class Command(unittest.TestCase):
@@ -119,6 +119,7 @@ class Command(unittest.TestCase):
         for first, status in (("21", 0), ("0", 2), ("x", 2)):
             self.assertEqual(view("list", self.trace, *self.files, "--from", first).returncode, status)
 
+    @unittest.skipIf(support.NO_IMAGES, support.NO_IMAGES)
     def test_an_interrupt(self):
         path = os.path.join(support.FOLDER.name, "fifo")
         os.mkfifo(path)

@@ -41,7 +41,7 @@ class Page(unittest.TestCase):
         self.assertEqual([command[2] for command, _ in found], ["why", "stack", "stats", "annotate", "diff"])
         for command, below in found:
             words = [sys.executable, support.TOOL, *(files.get(word, word) for word in command[1:])]
-            answer = subprocess.run(words, capture_output=True, text=True, cwd=support.ROOT, timeout=60)
+            answer = support.answer(subprocess.run(words, capture_output=True, text=True, cwd=support.ROOT, timeout=60))
             self.assertEqual((answer.stdout.splitlines(), answer.stderr), (below, ""))
 
 

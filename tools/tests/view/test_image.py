@@ -82,6 +82,7 @@ class Code(unittest.TestCase):
         with self.assertRaises(Fault):
             Image("/nowhere/a.elf")
 
+    @unittest.skipIf(support.NO_IMAGES, support.NO_IMAGES)
     def test_images_for_other_machines(self):
         """What the simulator refuses is refused here, with what to do: width, machine, kind, compressed code."""
         plain = support.elf([(5, 0x10000, b"\x73\0\0\0", 4)])

@@ -66,6 +66,7 @@ class Index(unittest.TestCase):
         self.assertIsNone(self.found(12))
         support.file_of("indexed.trace", "".join(self.lines).encode())
 
+    @unittest.skipIf(support.NO_IMAGES, support.NO_IMAGES)
     def test_a_damaged_one_is_refused(self):
         for data in (b"", b"no zip at all"):
             support.file_of("indexed.trace.index", data)

@@ -39,6 +39,19 @@ class Runner(unittest.TestCase):
         self.assertIn("  skipped: no python3-pyelftools", answer.stdout)
         self.assertEqual(answer.stdout.splitlines()[-1], "0 passed, 0 failed, 1 skipped")
 
+    def test_what_reads_images_where_nothing_can_is_told_and_skipped(self):
+        """Once for each test, whatever of it does: the file, its class, the test, or parts of it; and what fails otherwise fails."""
+        none, test = "from wadrelwy.elf import NoPackage\nimport unittest\nclass T(unittest.TestCase):\n pass\n ", "def test_a(self): "
+        for text, last in [(none.replace("class T", "raise NoPackage('a')\nclass T"), "0 passed, 0 failed, 1 skipped"),
+                           (f"{none}{test}raise NoPackage('a')\n def test_b(self): pass\n", "1 passed, 0 failed, 1 skipped"),
+                           (f"{none}@classmethod\n def setUpClass(cls): raise NoPackage('a')\n {test}pass\n", "0 passed, 0 failed, 1 skipped"),
+                           (f"{none}{test}\n  for n in range(3):\n   with self.subTest(n=n): raise NoPackage('a')\n", "0 passed, 0 failed, 1 skipped"),
+                           (f"{none}{test}raise OSError('no python3-pyelftools')\n", "0 passed, 1 failed")]:
+            with self.subTest(text=text):
+                answer = self.run_on(text)
+                self.assertEqual(answer.stdout.splitlines()[-1], last, answer.stdout)
+                self.assertEqual("  skipped: no python3-pyelftools" in answer.stdout, "skipped" in last)
+
     def test_a_file_that_is_no_test_fails(self):
         for text in ("import a_module_that_nobody_has\n", "this is no Python\n"):
             answer = self.run_on(text)

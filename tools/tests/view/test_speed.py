@@ -42,6 +42,7 @@ class Quiet(unittest.TestCase):
         self.assertEqual(found, taken(lines, image, described, False)[1])
         return repeated
 
+    @unittest.skipIf(support.NO_IMAGES, support.NO_IMAGES)
     def test_small_programs(self):
         repeated = 0
         for name, words in PROGRAMS.items():
@@ -83,6 +84,7 @@ class Ring(unittest.TestCase):
             self.assertTrue(list(run.items()))
         self.assertGreater(len(run.pipeline.ring), 2)
 
+    @unittest.skipIf(support.NO_IMAGES, support.NO_IMAGES)
     def test_a_serial_in_flight(self):
         """What is renamed with the serial of another entry in flight can't follow."""
         lines = "".join(support.worked_trace("Bounds check bypass")).replace("ren:1:", "ren:0:", 1).splitlines(keepends=True)

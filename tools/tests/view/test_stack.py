@@ -111,6 +111,7 @@ class Parts(unittest.TestCase):
         with self.assertRaisesRegex(Fault, "no instruction of <main>"):
             bounds_check(function="main")
 
+    @unittest.skipIf(support.NO_IMAGES, support.NO_IMAGES)
     def test_a_span_behind_the_end(self):
         with self.assertRaisesRegex(Fault, "behind the last cycle"):
             bounds_check(span=(22, None))
