@@ -226,8 +226,11 @@ class Recorded(unittest.TestCase):
             told = self.draw("--draws", "3")
             self.assertEqual((told.returncode, told.stdout, self.pairs()), (2, "", []))
             self.assertEqual(told.stderr, f"wadrelwy draw: {self.record} is written by another wadrelwy draw, process {os.getpid()}: one at a time may\n")
-        self.assertEqual(self.draw("--draws", "3").returncode, 0)
+        with open(f"{self.record}.lock", "w", encoding="ascii") as file:
+            file.write("12345\n")
+        self.assertEqual(self.draw("--draws", "3").returncode, 0, "a process that was killed has no lock, though its file may be there")
         self.assertEqual(len(self.pairs()), 2 * 6)
+        self.assertEqual(sorted(name for name in os.listdir(os.path.dirname(self.record)) if name.startswith("record")), ["record.csv"])
 
     def test_a_simulator_that_changes(self):
         """A program that is built anew while it is asked ends the call, and its pair isn't kept."""

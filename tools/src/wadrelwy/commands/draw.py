@@ -22,7 +22,7 @@ replaced after each pair. Pairs that it has of the same image, description, secr
 simulator they were; what is told of a cell counts them, and says how many were compared now and how many before. So where it was stopped, by
 an interrupt too, the same command goes on; and a larger N only adds, since the values of N draws are the first of those of more. All cells
 go on side by side, that of which fewest values were tried first, so a stop leaves each with about as many; a line is written for each as soon
-as it is through. One process at a time may write FILE, which is locked by FILE.lock; another is refused, and so is a file that is no record.
+as it is through. One process at a time may write FILE, and locks FILE.lock; another is refused, and so is a file that is no record.
 
 N is 20 and S is 1 without them, and as many --jobs as processors; P is the simulator: without --program the variable STT_CLI, else
 crates/stt_cli/out/stt_cli. The status is 0; 16 where traces that are proved equal aren't; 3 where a run was skipped, or nothing of it was
@@ -215,36 +215,33 @@ class Drawing:
         return f": what shows may be conservative, or is hardly ever met: of the {draws} drawn none is, so {drawing.odds(draws, size)}"
 
 
-def drawings(asked, program):
-    """The runs that are over and asked for."""
+def drawings(asked, program, screen):
+    """The runs that are over and asked for; how long a pair goes on is told on a screen."""
     made = certifying.read(asked.folder, asked.public_stream)
     store = Store(made, certifying.Asks(made))
     runs = [run for run in made.runs if run.id in store.found and asked.only in name_of(made, run)]
-    # with a record the rest of all cells is told, and not how long a pair goes on
-    screen = sys.stderr if asked.record is None else io.StringIO()
     found = [Drawing(made, run, program, store, screen) for run in runs if asked.left_out is None or asked.left_out not in name_of(made, run)]
     if not found:
         raise Fault(f"{asked.folder} has no answer of such a name: names are as `chacha20 gcc-O2 spectre`")
     return found
 
 
-def side_by_side_of(found, asked):
+def side_by_side_of(found, asked, record, folder):
     """The lines and statuses of these runs, pair by pair of all of them, with what the record has."""
-    for each in found:
+    of_cells, begun = {}, []
+    for number, each in enumerate(found):
         if each.skipped():
             yield each.told(f"skipped: {each.skipped()}"), statuses.CUT
-    with stretches.Locked(asked.record), tempfile.TemporaryDirectory() as folder:
-        record, of_cells, begun = stretches.Record(asked.record), {}, []
-        for number, each in enumerate(each for each in found if not each.skipped()):
-            question = each.question(asked.draws, asked.seed, os.path.join(folder, str(number)))
-            of_cells.setdefault(question.cell, []).append(each)
-            if len(of_cells[question.cell]) == 1:
-                os.mkdir(os.path.join(folder, str(number)))
-                begun.append(side_by_side.Going(question, record.known(question.cell)))
-        for going in side_by_side.ended(begun, asked.jobs, record):
-            for each in of_cells[going.question.cell]:
-                # a record may have more than is asked for now
-                yield each.answered(outcome_of(going), asked.draws + max(0, going.tried - len(going.question.values)))
+            continue
+        question = each.question(asked.draws, asked.seed, os.path.join(folder, str(number)))
+        of_cells.setdefault(question.cell, []).append(each)
+        if len(of_cells[question.cell]) == 1:
+            os.mkdir(os.path.join(folder, str(number)))
+            begun.append(side_by_side.Going(question, record.known(question.cell)))
+    for going in side_by_side.ended(begun, asked.jobs, record):
+        for each in of_cells[going.question.cell]:
+            # a record may have more than is asked for now
+            yield each.answered(outcome_of(going), asked.draws + max(0, going.tried - len(going.question.values)))
 
 
 def outcome_of(going):
@@ -257,13 +254,17 @@ def outcome_of(going):
     return found._replace(unequal=stretch.unequal, pair=stretch.last_pair) if stretch else found
 
 
-def lines(found, asked):
+def lines(asked, program):
     """The line and the status of each run."""
-    if asked.record is not None:
-        yield from side_by_side_of(found, asked)
+    if asked.record is None:
+        found = drawings(asked, program, sys.stderr)
+        with ThreadPoolExecutor(asked.jobs) as pool:
+            yield from pool.map(lambda each: each.tried(asked.draws, asked.seed), found)
         return
-    with ThreadPoolExecutor(asked.jobs) as pool:
-        yield from pool.map(lambda each: each.tried(asked.draws, asked.seed), found)
+    with stretches.Locked(asked.record), tempfile.TemporaryDirectory() as folder:
+        record = stretches.Record(asked.record)
+        # the rest of all cells is told, and not how long a pair goes on
+        yield from side_by_side_of(drawings(asked, program, io.StringIO()), asked, record, folder)
 
 
 def main(asked):
@@ -275,7 +276,7 @@ def main(asked):
     if program is None:
         raise Fault("no simulator: build it (docs/using.md, \"Before you start\"), or name it with --program")
     found = [statuses.HOLDS]
-    for line, status in lines(drawings(asked, program), asked):
+    for line, status in lines(asked, program):
         print(line, flush=True)
         found.append(status)
         if status == statuses.REFUTED:

@@ -1,5 +1,6 @@
 """What was compared of each certificate, kept from one call of wadrelwy draw to the next (--record): a CSV with a row for each stretch of pairs
 that one call compared of one cell. It is replaced as a whole, so it is whole whenever it is read, and one process alone writes it."""
+import contextlib
 import csv
 import fcntl
 import io
@@ -132,24 +133,39 @@ def known(stretches: Sequence[Stretch]) -> Known:
 
 
 class Locked:
-    """The lock of a record, which one process has. It goes with the process, however that ends."""
+    """The lock of a record, which one process has: it goes with the process, however that ends, and the lock's file does where it ends by itself."""
 
     def __init__(self, path: str) -> None:
         self.record, self.path = path, f"{path}.lock"
 
     def __enter__(self) -> "Locked":
+        self.take()
+        while not self.stands():
+            os.close(self.file)
+            self.take()
+        os.ftruncate(self.file, 0)
+        os.write(self.file, f"{os.getpid()}\n".encode())
+        return self
+
+    def take(self) -> None:
+        self.file = os.open(self.path, os.O_RDWR | os.O_CREAT, 0o644)
         try:
-            self.file = os.open(self.path, os.O_RDWR | os.O_CREAT, 0o644)
             fcntl.flock(self.file, fcntl.LOCK_EX | fcntl.LOCK_NB)
         except BlockingIOError:
             holder = os.read(self.file, 20).decode(errors="replace").strip()
             os.close(self.file)
             raise Fault(f"{self.record} is written by another wadrelwy draw{f', process {holder}' * bool(holder)}: one at a time may") from None
-        os.ftruncate(self.file, 0)
-        os.write(self.file, f"{os.getpid()}\n".encode())
-        return self
+
+    def stands(self) -> bool:
+        """Whether what is locked is the file of that name still, and not one that its process has just taken away."""
+        try:
+            return os.path.samestat(os.stat(self.path), os.fstat(self.file))
+        except FileNotFoundError:
+            return False
 
     def __exit__(self, *_: object) -> None:
+        with contextlib.suppress(FileNotFoundError):
+            os.unlink(self.path)
         os.close(self.file)
 
 
