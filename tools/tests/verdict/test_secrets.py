@@ -253,8 +253,10 @@ class Fates(unittest.TestCase):
         words = "--secret", WORD, "--secrets-program", program("shown 16 access 5 00010014\\n", 1), "--program", traces
         told = command("verdict", CORE, support.example("fault_shadow.elf"), *words, "--all")
         self.assertEqual((told.returncode, told.stderr), (1, ""))
-        self.assertRegex(told.stdout, r"\nmade          of 0001fff8\b.*, by 3 instructions\n {14}00010008 lbu .*\n {14}0001000c slli? .*\n {14}00010010 add .*\n"
-                                      r"list          00010014 lw .*: its access, 1 time, first in cycle 16, on wrong paths\n")
+        # where there is no objdump an instruction is told by its kind
+        self.assertRegex(told.stdout, r"\nmade          of 0001fff8\b.*, by 3 instructions\n {14}00010008 (lbu|load) .*\n {14}0001000c (slli?|arithmetic) .*\n"
+                                      r" {14}00010010 (add|arithmetic) .*\n"
+                                      r"list          00010014 (lw|load) .*: its access, 1 time, first in cycle 16, on wrong paths\n")
         made = json.loads(command("verdict", CORE, support.example("fault_shadow.elf"), *words, "--all", "--json").stdout)["made"]
         self.assertEqual((made["byte"], made["instructions"], [each["address"] for each in made["last"]]), ("0001fff8", 3, ["00010008", "0001000c", "00010010"]))
         plain = [command("verdict", CORE, support.example("fault_shadow.elf"), *words, *more).stdout for more in ([], ["--json"])]
