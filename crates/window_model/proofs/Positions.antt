@@ -5,7 +5,7 @@ use Rattle.std.specs.List.{All}
 use Rattle.std.proofs.lemmas.Bool.{cases_lt}
 use Rattle.std.proofs.lemmas.Bool.Decides.{nat_tests}
 use Rattle.std.proofs.lemmas.List.{append-nil, get_or-take, length-take-le, take_all, take_more}
-use Rattle.std.proofs.lemmas.List.Elements.{All-head, All-weaker, filter-append}
+use Rattle.std.proofs.lemmas.List.Elements.{All-cons, All-head, All-weaker, filter-append}
 use Rattle.std.proofs.lemmas.Option.{get_or_from_slice_get}
 use Rattle.window_model.specs.declared.Entry.{Entry}
 use Rattle.window_model.specs.Serials.{Rise, below}
@@ -51,6 +51,16 @@ older_at serial es j e rise some le h lt walked = sym (walked ∙ all_below seri
 pub older_at_start : (serial : ℕ) (es : List Entry) (j : ℕ) → j ≡ 0 → below serial es ≡ below serial (take j es) → take j es ≡ below serial es
 older_at_start serial es zero z walked = sym walked
 older_at_start serial es (suc j) z walked = absurd (omega arith)
+
+-- ---- halving: none behind an entry whose serial isn't lower has a lower one
+
+pub below_to : (serial : ℕ) (es : List Entry) (j : ℕ) (e : Entry) → Rise es → slice_get es j ≡ Some e → serial ≤ e.serial → below serial es ≡ below serial (take j es)
+below_to serial [] j e rise h le = absurd (cc)
+below_to serial (x ∷ es) zero e rise h le =
+    let is : x ≡ e = cc in
+    let not_lower : serial ≤ x.serial = subst (λ (d : Entry). serial ≤ d.serial) (sym is) le in
+    none_below serial (x ∷ es) (All-cons (λ d. serial ≤ d.serial) x es not_lower (All-weaker (λ d. x.serial < d.serial) (λ d. serial ≤ d.serial) (λ d lt. omega (arith, not_lower, lt)) es (rise_head x es rise)))
+below_to serial (x ∷ es) (suc j) e rise h le = ap (λ older. cond (nat_lt x.serial serial) (x ∷ older) older) (below_to serial es j e (rise_tail x es rise) h le)
 
 -- ---- where the walk begins
 

@@ -2,14 +2,10 @@ use Rattle.std.proofs.Common.{arith}
 use Rattle.window_model.proofs.Positions.{above_of, below_of, below_on, count_of, older_at, older_at_start}
 use Rattle.window_model.proofs.position.position_of.Goals as goal
 
-pub loop-position-preserved : goal.loop-position-preserved
-loop-position-preserved g c =
+pub halved-position-requires-clause-older : goal.halved-position-requires-clause-older
+halved-position-requires-clause-older g c =
     let t = c.loop-position.invariant in
-    let within = t.within in
-    record {
-      walked = below_on c.args.serial (g.W.Window.entries c.args.window.now) c.loop-position.position c.lend.result.now c.loop-position-test.true t.within c.lend.ensures (let h = c.if-lend-serial.true in omega (arith, h)) t.walked;
-      within = omega (arith, within);
-    }
+    below_on c.args.serial (g.W.Window.entries c.args.window.now) c.loop-position.position c.lend.result.now c.loop-position-test.true t.within c.lend.ensures (let h = c.if-lend-serial.true in omega (arith, h)) t.walked
 
 pub returns-else-lend-serial-clause-older : goal.returns-else-lend-serial-clause-older
 returns-else-lend-serial-clause-older g c =
