@@ -1,6 +1,6 @@
 //! Flags beside the entries, as the bits of three words: bit k % 64 of word k / 64 is set where the entry at position k
 //! has a flag.
-ghost use Rattle.std.specs.Prelude.{◌≡◌, ◌≢◌, ◌+◌, ◌<◌, ℕ, if◌then◌else◌, nat_lt};
+ghost use Rattle.std.specs.Prelude.{◌≡◌, ◌≢◌, ◌+◌, ◌<◌, ℕ, if◌then◌else◌, max, nat_lt};
 ghost use Rattle.std.specs.Int.{bit_at};
 ghost use Rattle.word_bits.specs.Bits.{one_if, NextBit};
 ghost use Rattle.rob_ring.specs.Flags.{flag_at};
@@ -76,36 +76,42 @@ fn shifted(word: u64, next: u64) -> u64
     with_bit(word >> 1, 63, next % 2 == 1)
 }
 
-/// The first position with a flag from one on. Where the words behind the first have none, that alone is searched.
+/// The first position with a flag from one on.
 pub(crate) fn next_flag(flags: [u64; WORDS], from: u32) -> Option<u32>
     ensures { NextBit (flag_at flags) from 192 result }
 {
-    if flags[1] == 0 && flags[2] == 0 {
-        return next_low(flags[0], from);
+    match next_in(flags[0], from) {
+        Some(bit) => Some(bit),
+        None => next_from_second(flags, from),
     }
-    next_of_all(flags, from)
+}
+
+// The first position with a flag from one on, where the first word has none from there on.
+fn next_from_second(flags: [u64; WORDS], from: u32) -> Option<u32>
+    ensures { NextBit (flag_at flags) (max from 64) 192 result }
+{
+    match next_in(flags[1], from.saturating_sub(64)) {
+        Some(bit) => Some(64 + bit),
+        None => next_in_third(flags, from),
+    }
+}
+
+// The first position with a flag from one on, where the first two words have none from there on.
+fn next_in_third(flags: [u64; WORDS], from: u32) -> Option<u32>
+    ensures { NextBit (flag_at flags) (max from 128) 192 result }
+{
+    match next_in(flags[2], from.saturating_sub(128)) {
+        Some(bit) => Some(128 + bit),
+        None => None,
+    }
 }
 
 // The first bit of a word that is set from one on.
-fn next_low(word: u64, from: u32) -> Option<u32>
+fn next_in(word: u64, from: u32) -> Option<u32>
     ensures { NextBit (bit_at word) from 64 result }
 {
     if from >= 64 {
         return None;
     }
     next_bit(word, from)
-}
-
-// The first position with a flag from one on, word by word.
-fn next_of_all(flags: [u64; WORDS], from: u32) -> Option<u32>
-    ensures { NextBit (flag_at flags) from 192 result }
-{
-    let first = from / 64;
-    for j in first..3 {
-        let skipped = if j == first { from % 64 } else { 0 };
-        if let Some(bit) = next_bit(flags[j as usize], skipped) {
-            return Some(64 * j + bit);
-        }
-    }
-    None
 }
