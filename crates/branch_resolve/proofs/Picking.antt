@@ -54,11 +54,21 @@ closed_stays d point e rs h =
     by_parts true true false d h = refl
     by_parts true true true d h = absurd (cc)
 
--- at each position of the window there are roots
-roots_there : (roots : List (List (Option ℕ))) (i : ℕ) → i < length roots → (rs : List (Option ℕ)) × (slice_get roots i ≡ Some rs)
-roots_there [] i lt = absurd (omega (arith, lt))
-roots_there (rs ∷ roots) zero lt = (rs, refl)
-roots_there (rs ∷ roots) (suc i) lt = roots_there roots i (omega (arith, lt))
+-- an entry that isn't Done can't be resolved
+pub not_done : (d : Desc) (point : ℕ) (e : Entry) (rs : List (Option ℕ)) → is_done e.state ≡ false → can_resolve d point e rs ≡ false
+not_done d point e rs h =
+    by_parts (is_control e.item.kind) (is_done e.state) (not e.resolved) (not (list_any (is_hidden point) rs) && may_show_by d point e.serial) h
+  where
+    by_parts : (a b c d : Bool) → b ≡ false → (a && b && c && d) ≡ false
+    by_parts false b c d h = refl
+    by_parts true false c d h = refl
+    by_parts true true c d h = absurd (cc)
+
+-- there is something at each position of a list
+pub there : {X : Type 0} (xs : List X) (i : ℕ) → i < length xs → (x : X) × (slice_get xs i ≡ Some x)
+there [] i lt = absurd (omega (arith, lt))
+there (x ∷ xs) zero lt = (x, refl)
+there (x ∷ xs) (suc i) lt = there xs i (omega (arith, lt))
 
 module _ (d : Desc) (point : ℕ) (es : List Entry) (roots : List (List (Option ℕ))) (r : Option ℕ) (l : length roots ≡ length es) where
   -- what the search comes to from a position on
@@ -68,7 +78,7 @@ module _ (d : Desc) (point : ℕ) (es : List Entry) (roots : List (List (Option 
   past : (i : ℕ) (e : Entry) → slice_get es i ≡ Some e → is_open e ≡ false → Left i → Left (i + 1)
   past i e at closed h =
       let within = slice_get_within es i e at in
-      let rs = roots_there roots i (omega (arith, within, l)) in
+      let rs = there roots i (omega (arith, within, l)) in
       pick_on d point i es roots e rs.0 r false at rs.1 (sym (closed_stays d point e rs.0 closed)) h refl
 
   -- the search can go on at the next entry that isn't settled

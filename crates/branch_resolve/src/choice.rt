@@ -1,6 +1,7 @@
 //! Which entry is resolved in a cycle (`docs/machine.md`, "Resolve").
-ghost use Rattle.std.specs.Prelude.{◌≡◌, ◌<◌, length, Some};
+ghost use Rattle.std.specs.Prelude.{◌≡◌, ◌<◌, length, slice_get, Some};
 ghost use Rattle.rob_ring.specs.Beside.{each_roots};
+ghost use Rattle.rob_ring.specs.declared.beside.Sources.{Sources};
 ghost use Rattle.visibility.specs.Pick.{can_resolve, pick_from};
 
 use circular_buffer::HeapCircularBuffer;
@@ -27,12 +28,31 @@ pub fn pick(
 {
     let mut from = 0;
     while let Some(i) = rob.next_open(from) {
-        if may_resolve(rob.lend(i), point, sources_at(sources, i).roots, desc) {
+        if may_resolve_at(rob.lend(i), i, point, sources, desc) {
             return Some(i);
         }
         from = i + 1;
     }
     None
+}
+
+// Whether the entry at a position may be resolved, by what is kept there of its sources. Of one that isn't Done no more
+// is looked at.
+fn may_resolve_at(
+    entry: &Entry,
+    i: u32,
+    point: &VisPoint,
+    sources: &HeapCircularBuffer<Sources>,
+    desc: &Desc,
+) -> bool
+    requires within { i < length sources.now.items }
+    ensures { (s : Sources) → slice_get sources.now.items i ≡ Some s
+        → result ≡ can_resolve desc.now point.now.serial entry.now s.roots }
+{
+    if !entry.is_done() {
+        return false;
+    }
+    may_resolve(entry, point, sources_at(sources, i).roots, desc)
 }
 
 // Whether an entry whose sources have these youngest roots may be resolved.
