@@ -50,6 +50,7 @@ def built(compiler):
 
 
 @needs_program
+@unittest.skipIf(support.NO_IMAGES, support.NO_IMAGES)
 class Victims(unittest.TestCase):
     def each_compiler(self):
         """The folder of each compiler's victims; one that isn't there is skipped with a word."""

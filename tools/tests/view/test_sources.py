@@ -94,6 +94,7 @@ class Tables(unittest.TestCase):
         self.assertRegex(text, r"(?m)^ +\d+ .*     2     return x \* 2 \+ 1;$")
         self.assertIn("outer.c:6", "\n".join(annotate.lines_of(run, False)))
 
+    @unittest.skipIf(support.NO_IMAGES, support.NO_IMAGES)
     def test_a_cut_table_is_refused(self):
         path = next(self.each(), None)
         if path is None:
