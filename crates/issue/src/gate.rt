@@ -42,10 +42,11 @@ impl<'a> Seen<'a> {
         ensures bytes { bytes_requested result
             ≡ bytes_of (around_of self.now) (before_of self.now candidate.now) candidate.now.entry.now }
     {
+        let width = candidate.entry.width();
         LoadRequest {
             addr,
-            width: candidate.entry.width(),
-            fault: self.ram.load_fault(addr, candidate.entry.bytes()),
+            width,
+            fault: self.ram.load_fault(addr, width.bytes()),
         }
     }
 

@@ -6,4 +6,4 @@ use Rattle.issue.proofs.seen.Seen.request_at.Goals as goal
 pub returns-clause-bytes : goal.returns-clause-bytes
 returns-clause-bytes c =
     let a = c.requires in
-    ap₂ unless_fault (c.load_fault.ensures ∙ ap₂ (load_fault c.args.self.now.ram.now) a c.bytes.ensures.value) (ap₂ range a c.width.ensures)
+    ap₂ unless_fault (c.load_fault.ensures ∙ ap₂ (load_fault c.args.self.now.ram.now) a (c.bytes.ensures.value ∙ c.width-width.ensures)) (ap₂ range a c.width-width.ensures)
