@@ -1,6 +1,6 @@
 //! The ring of the entries in flight.
 ghost use Rattle.std.specs.Prelude.{◌≡◌, ◌≢◌, ◌<◌, ◌≤◌, ◌^◌, ◌++◌, ◌∷◌, [], length, take, drop};
-ghost use Rattle.std.specs.Prelude.{slice_get, slice_set, None, Some, IfOk, IfSome};
+ghost use Rattle.std.specs.Prelude.{slice_get, slice_set, None, Some, IfOk, IfSome, true};
 ghost use Rattle.std.specs.List.{All};
 ghost use Rattle.window_model.specs.declared.Entry.{Entry};
 ghost use Rattle.window_model.specs.declared.Progress.TheVariants.{Done};
@@ -224,7 +224,7 @@ impl RobRing {
 
     /// The position of the entry with this serial, or the one at which it would stand: how many entries have a serial
     /// below it. Serials rise by one, but for gaps that squashes leave: where no entry behind it was squashed it is
-    /// counted back from the youngest, else the walk of `position_of` of `window_model` finds it from the oldest on.
+    /// counted back from the youngest, else `position_of` of `window_model` finds it.
     pub fn position_of(&self, serial: u64) -> u32
         requires rise { Rise self.now.entries }
         ensures count { result ≡ length (below serial self.now.entries) }
@@ -246,13 +246,28 @@ impl RobRing {
         ensures serial { IfSome result (λ f. f.entry.now.serial ≡ serial) }
         ensures lacking { result ≡ None → All (λ e. e.serial ≢ serial) self.now.entries }
     {
-        match self.guessed(serial) {
-            Some(found) => Some(found),
-            None => self.searched(serial),
+        if let Some(found) = self.guessed(serial) {
+            return Some(found);
         }
+        if self.begins_behind(serial) {
+            return None;
+        }
+        self.searched(serial)
     }
 
-    // The entry with this serial and its position, by the walk of `position_of` of `window_model`.
+    // Whether the oldest entry is younger than an entry with this serial would be, or there is none.
+    fn begins_behind(&self, serial: u64) -> bool
+        requires rise { Rise self.now.entries }
+        ensures { result ≡ true → All (λ e. e.serial ≢ serial) self.now.entries }
+    {
+        if self.len() == 0 {
+            return true;
+        }
+        serial < self.lend(0).serial
+    }
+
+    // The entry with this serial and its position, by `position_of` of `window_model`.
+    #[inline(never)]
     fn searched(&self, serial: u64) -> Option<Found<'_>>
         requires rise { Rise self.now.entries }
         ensures position { IfSome result (λ f. f.position ≡ length (below serial self.now.entries)) }
