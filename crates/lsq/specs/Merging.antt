@@ -1,5 +1,5 @@
 -- What a load finds in the stores before it and in memory (docs/machine.md, "Loads").
-use Rattle.std.specs.Prelude.{ℕ, ◌+◌, ◌-◌, Bool, not, ◌&&◌, nat_le, nat_lt, if◌then◌else◌, List, [], ◌∷◌, map, slice_index, Option, Some, None, is_some}
+use Rattle.std.specs.Prelude.{ℕ, ◌+◌, ◌-◌, Bool, false, not, ◌&&◌, nat_le, nat_lt, if◌then◌else◌, List, [], ◌∷◌, map, slice_index, Option, Some, None, is_some}
 use Rattle.std.specs.Option.{option_or}
 use Rattle.std.specs.List.{list_all}
 use Rattle.rv_types.specs.Word.{to_le}
@@ -40,3 +40,14 @@ merged_bytes ram stores a n = map (λ b. byte_or_memory ram b (forwarded stores 
 -- stores give all n bytes from an address on
 abbrev pub all_forwarded : List Store → ℕ → ℕ → Bool
 all_forwarded stores a n = list_all (λ b. is_some (forwarded stores b)) (range a n)
+
+-- what a store writes reaches an address, where it is known by a cycle where it writes
+abbrev pub reaches_by : ℕ → ℕ → Option Span → Bool
+reaches_by cycle a None = false
+reaches_by cycle a (Some k) = reaches a k && nat_le k.known_from cycle
+
+-- the serial of the store that gives the byte at an address: of these stores, youngest first, of which it is known by a
+-- cycle where they write, the youngest that writes it
+abbrev pub giver : ℕ → List Store → ℕ → Option ℕ
+giver cycle [] a = None
+giver cycle (s ∷ stores) a = if reaches_by cycle a s.span then Some s.serial else giver cycle stores a

@@ -12,19 +12,19 @@
 //! what it finds; `Clearing.antt`, which load is violated; `Keepers.antt`, guesses which store keeps a load, on which
 //! nothing rests; `docs/machine.md`, "Issue", "Loads" and "Clear".
 //!
-//! Promises: the loads and stores in flight, by age; of a store where it writes and what, each once that part has
-//! issued. Of a load: whether all stores before it have both parts, whether one of them lacks its address, which is the
-//! oldest that writes bytes of the load and lacks its data, and what it waits for in them. A store by its serial, and
-//! whether it keeps a load so; and of 64 groups of loads which store was noted last as one that keeps a load of theirs.
-//! The bytes that it gets, each from the youngest of them whose address is known and that writes it, else from memory.
-//! Whether they write all of these bytes, and the youngest root of their addresses. Where loads may pass stores, of a
-//! load also what it reads and in which cycle it issued. Then of a store from which cycle on its address is known, and
-//! whether it is cleared; and of a store that is cleared the oldest younger load that passed it and shares a byte with
-//! it.
+//! Promises: the loads and stores in flight, by age; of a store where it writes, from which cycle on that is known, and
+//! what it writes, each once that part has issued. Of a load: whether all stores before it have both parts, whether one
+//! of them lacks its address, which is the oldest that writes bytes of the load and lacks its data, and what it waits
+//! for in them. A store by its serial, and whether it keeps a load so; and of 64 groups of loads which store was noted
+//! last as one that keeps a load of theirs. The bytes that it gets, each from the youngest of them whose address is
+//! known and that writes it, else from memory. Whether they write all of these bytes, and the youngest root of their
+//! addresses. Of a byte also which store gives it, of those whose address is known by a cycle. Where loads may pass
+//! stores, of a load also what it reads and in which cycle it issued. Then of a store whether it is cleared; and of a
+//! store that is cleared the oldest younger load that passed it and shares a byte with it.
 //!
 //! Clauses: `Lsq::new`, `has_load_room`, `has_store_room`, `add_load`, `load_issued`, `add_store`, `store_addr`,
 //! `store_data`, `store_at`, `store`, `clear`, `awaits_address`, `keeper`, `all_older_known`, `pending`, `merge`,
-//! `cut`, `pop`; `Store::keeps`; `Keepers::none`, `keeper`, `note`.
+//! `giver`, `cut`, `pop`; `Store::keeps`; `Keepers::none`, `keeper`, `note`.
 #![tactic(auto)]
 
 mod clearing;

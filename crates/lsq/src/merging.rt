@@ -7,7 +7,7 @@ ghost use Rattle.rv_types.specs.Memory.{load_fault};
 ghost use Rattle.rv_types.specs.Value.{bytes_in};
 ghost use Rattle.rv_types.specs.Word.{from_le, to_le};
 ghost use Rattle.lsq.specs.Queues.{older, youngest_root};
-ghost use Rattle.lsq.specs.Merging.{all_forwarded, byte_by, byte_or_memory, merged_bytes, reaches};
+ghost use Rattle.lsq.specs.Merging.{all_forwarded, byte_by, byte_or_memory, giver, merged_bytes, reaches, reaches_by};
 ghost use Rattle.lsq.specs.Gathering.{covered_in, gathered, is_near, nothing, number_in, passed};
 
 use crate::load::LoadRequest;
@@ -227,4 +227,28 @@ pub(crate) fn merge(stores: &[Store], serial: u64, request: &LoadRequest, ram: &
         covered: gathered.is_covered(request.width),
         root: gathered.root,
     }
+}
+
+// Whether what a store writes reaches an address, where it is known by a cycle where it writes.
+fn reaches_by(store: &Store, addr: u64, cycle: u64) -> bool
+    ensures { result ≡ reaches_by cycle addr store.now.span }
+{
+    match &store.span {
+        Some(span) => reaches(span, addr) && span.known_from <= cycle,
+        None => false,
+    }
+}
+
+// The serial of the youngest store older than a serial that writes the byte at an address, of those of which it is
+// known by a cycle where they write.
+pub(crate) fn giver(stores: &[Store], serial: u64, addr: u64, cycle: u64) -> Option<u64>
+    ensures { result ≡ giver cycle (older serial stores.now) addr }
+{
+    let mut giver = None;
+    for store in stores {
+        if store.serial < serial && reaches_by(store, addr, cycle) {
+            giver = Some(store.serial);
+        }
+    }
+    giver
 }

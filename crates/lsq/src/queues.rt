@@ -7,14 +7,14 @@ ghost use Rattle.rv_types.specs.Value.{bytes_in};
 ghost use Rattle.rv_types.specs.Word.{from_le};
 ghost use Rattle.lsq.specs.Clearing.{info_of, store_of, violated_by};
 ghost use Rattle.lsq.specs.Queues.{addressed_at, cleared_at, cut_at, empty, filled_at, is_known, issued_at, older, without, youngest_root};
-ghost use Rattle.lsq.specs.Merging.{all_forwarded, merged_bytes};
+ghost use Rattle.lsq.specs.Merging.{all_forwarded, giver, merged_bytes};
 ghost use Rattle.lsq.specs.Pending.{bytes_requested, keeps, lacks_address, lacks_data_for};
 
 use crate::clearing::{StoreInfo, info_of, violated_by};
 use crate::keepers::Keeper;
 use crate::load::{IssuedLoad, Load, LoadRequest};
 use crate::loads::issue_load;
-use crate::merging::{Merged, merge};
+use crate::merging::{Merged, giver, merge};
 use crate::pending::{Pending, keeper_place, lack_address, pending_in};
 use crate::serials::{cut_items, find_near, pop_item, rises_with};
 use crate::store::{Span, Store};
@@ -217,6 +217,14 @@ impl Lsq {
         ensures root { result.root ≡ youngest_root (older serial self.now.stores) }
     {
         merge(self.stores.as_slice(), serial, request, ram)
+    }
+
+    /// The serial of the store that gives a load with a serial the byte at an address: the youngest older store that
+    /// writes it, of those of which it is known by a cycle where they write. None where memory gives it.
+    pub fn giver(&self, serial: u64, addr: u64, cycle: u64) -> Option<u64>
+        ensures { result ≡ giver cycle (older serial self.now.stores) addr }
+    {
+        giver(self.stores.as_slice(), serial, addr, cycle)
     }
 
     /// What is told of the store at a place, the oldest at 0, if there are so many.
