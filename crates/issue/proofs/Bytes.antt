@@ -1,6 +1,6 @@
 -- What the queue of stores gives to a load is what the older entries give to it.
-use Rattle.std.proofs.Common.{◌≡◌, ℕ, ◌≤◌, Bool, true, not, ◌&&◌, ◌||◌, List, Option, Some, ap, ap₂, sym, subst, ◌∙◌, arith, slice_get}
-use Rattle.std.specs.Prelude.{is_some, map, nat_le, reverse}
+use Rattle.std.proofs.Common.{◌≡◌, ℕ, ◌≤◌, Bool, true, not, ◌&&◌, ◌||◌, List, Option, ap, ap₂, sym, ◌∙◌, arith}
+use Rattle.std.specs.Prelude.{is_some, map, nat_le}
 use Rattle.std.specs.List.{filter, list_any}
 use Rattle.std.proofs.lemmas.Bool.Decides.{nat_tests}
 use Rattle.rv_types.specs.Memory.{range}
@@ -14,30 +14,18 @@ use Rattle.window_model.specs.Access.{all_covered, any_store_hidden, load_bytes}
 use Rattle.window_model.specs.MayIssue.{stores_let}
 use Rattle.window_model.specs.Order.{before_at}
 use Rattle.window_model.specs.Retire.{byte_count}
-use Rattle.rob_ring.specs.Ring.{below}
-use Rattle.lsq.specs.Queues.{Queues, older, youngest_root}
+use Rattle.lsq.specs.Queues.{older, youngest_root}
 use Rattle.lsq.specs.Merging.{all_forwarded, merged_bytes}
 use Rattle.lsq.specs.Pending.{bytes_asked, lacks_address, lacks_data_for}
 use Rattle.lsq.specs.declared.store.Store.{Store}
-use Rattle.queue_laws.specs.Window.{StandFor, StoresStandFor, hides, tainted_stores}
-use Rattle.queue_laws.proofs.Keeping.{older_stands}
+use Rattle.queue_laws.specs.Window.{StoresStandFor, hides, tainted_stores}
 use Rattle.queue_laws.proofs.Letting.{lets_are}
 use Rattle.queue_laws.proofs.Roots.{hidden_is}
 use Rattle.queue_laws.proofs.Telling.{bytes_are, covered_is}
 use Rattle.visibility.specs.Point.{is_hidden}
-use Rattle.window_model.specs.Serials.{Rise}
-use Rattle.window_model.proofs.Serials.{splits}
-use Rattle.refinement.proofs.Queues.{hides_root, queues_stand, tells_each_store}
-use Rattle.refinement.proofs.Serials.{below_is}
+use Rattle.refinement.proofs.Queues.{hides_root, queues_stand, stores_before, tells_each_store}
 use Rattle.issue.specs.declared.seen.Seen.{Seen}
 use Rattle.issue.specs.State.{IssueInvariant, StandsAt, flight_of}
-
--- the queue's stores before an entry stand for the entries before it
-pub stores_before : (q : Queues) (es : List Entry) (i : ℕ) (e : Entry) → StandFor q es → Rise es → slice_get es i ≡ Some e → StoresStandFor (older e.serial q.stores) (before_at es i)
-stores_before q es i e s r h =
-    let t = splits e.serial es r in
-    subst (λ es. StoresStandFor (older e.serial q.stores) (reverse es)) (below_is es i e r h)
-    (older_stands q (below e.serial es) t.gone e.serial (subst (StandFor q) t.whole s) t.older t.younger)
 
 -- what is older than a visible entry is visible
 down : (point a b : ℕ) → a ≤ b → nat_le b point ≡ true → nat_le a point ≡ true

@@ -24,11 +24,12 @@ pub record Area : Type 0 where
   pub bytes : ℕ
   pub fault : Option Cause
 
--- a store: its serial, where it writes and what, each once that part has issued, and whether it has its outcome once
--- one has
+-- a store: its serial, where it writes, from which cycle on that is known, and what it writes, each once that part has
+-- issued, and whether it has its outcome once one has
 pub record Shown : Type 0 where
   pub serial : ℕ
   pub span : Option Area
+  pub known_from : Option ℕ
   pub stored : Option ℕ
   pub computed : Bool
 
@@ -38,7 +39,13 @@ area_of k = record { addr = k.addr; bytes = bytes_in k.width; fault = k.fault }
 
 -- what is looked at of a store of the queue, none of which lacks its outcome once a part of it has issued
 abbrev pub shown_store : Store → Shown
-shown_store s = record { serial = s.serial; span = option_map area_of s.span; stored = s.stored; computed = true }
+shown_store s = record {
+  serial = s.serial;
+  span = option_map area_of s.span;
+  known_from = option_map (λ (k : Span). k.known_from) s.span;
+  stored = s.stored;
+  computed = true;
+}
 
 -- what a store of the window writes on
 abbrev pub area_in : Entry → Area
@@ -49,6 +56,7 @@ abbrev pub shown_entry : Entry → Shown
 shown_entry e = record {
   serial = e.serial;
   span = if has_address e then Some (area_in e) else None;
+  known_from = e.addr_due;
   stored = if has_data e then Some (stored_of e.outcome) else None;
   computed = not (has_address e || has_data e) || is_some e.outcome;
 }

@@ -117,7 +117,7 @@ own_store : (t : Terms) (f : ℕ) (root : Option ℕ) (w : Width) (e e2 : Entry)
 own_store t f root w e e2 x n g c h =
     store_is (store_in t f (record x { span = if has_address e2 then Some (span_in w e2) else x.span; stored = if has_data e2 then Some (stored_of e2.outcome) else x.stored })) (store_footprint t root e2)
     (ap (λ (s : StoreFootprint). s.serial) h ∙ sym n) (ap (λ (s : StoreFootprint). s.root) h) (by_span (has_address e2) refl) (by_stored (has_data e2) refl)
-    (computed (has_address e2 || has_data e2) (is_some e2.outcome) g.outcome) (by_known t.tracked (has_address e2) refl) (by_cleared t.tracked (ap (λ (s : StoreFootprint). s.cleared) h) c)
+    (computed (has_address e2 || has_data e2) (is_some e2.outcome) g.outcome) (by_known (has_address e2) refl) (by_cleared t.tracked (ap (λ (s : StoreFootprint). s.cleared) h) c)
   where
     span : has_address e2 ≡ false → option_map area_of x.span ≡ None
     span q = ap (λ (s : StoreFootprint). s.span) h ∙ ap (λ b. if b then Some (area_in e) else None) (gone (has_address e) (has_address e2) g.address q)
@@ -138,10 +138,9 @@ own_store t f root w e e2 x n g c h =
     known None k = absurd (cc)
     known (Some c) k = refl
 
-    by_known : (tracked b : Bool) → has_address e2 ≡ b → (if tracked then option_map (λ (k : Span). k.known_from) (if b then Some (span_in w e2) else x.span) else None) ≡ (if tracked then e2.addr_due else None)
-    by_known false b q = refl
-    by_known true true q = known e2.addr_due q
-    by_known true false q = ap (option_map (λ (k : Span). k.known_from)) (none_of area_of x.span (span q)) ∙ unknown e2.addr_due q
+    by_known : (b : Bool) → has_address e2 ≡ b → option_map (λ (k : Span). k.known_from) (if b then Some (span_in w e2) else x.span) ≡ e2.addr_due
+    by_known true q = known e2.addr_due q
+    by_known false q = ap (option_map (λ (k : Span). k.known_from)) (none_of area_of x.span (span q)) ∙ unknown e2.addr_due q
 
     by_cleared : (tracked : Bool) → (tracked && x.cleared) ≡ (tracked && e.cleared) → (tracked ≡ true → e2.cleared ≡ e.cleared) → (tracked && x.cleared) ≡ (tracked && e2.cleared)
     by_cleared true h c = h ∙ sym (c refl)

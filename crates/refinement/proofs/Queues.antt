@@ -3,15 +3,17 @@ use mathlib.Core.List.{reverse_aux}
 use Rattle.std.proofs.Common.{Bool, List, None, Option, Some, [], ap, ap₂, arith, cond, drop, false, map, refl, slice_get, subst, sym, take, true, ℕ, ◌&&◌, ◌∙◌, ◌∷◌, ◌≡◌}
 use Rattle.std.specs.List.{cons_option, filter, list_any}
 use Rattle.std.specs.Option.{option_map}
-use Rattle.std.specs.Prelude.{if◌then◌else◌, nat_le, nat_lt}
-use Rattle.lsq.specs.Queues.{older}
+use Rattle.std.specs.Prelude.{if◌then◌else◌, nat_le, nat_lt, reverse}
+use Rattle.lsq.specs.Queues.{Queues, older}
 use Rattle.lsq.specs.declared.store.Store.{Store as QueuedStore}
-use Rattle.queue_laws.specs.Window.{Shown, ShownClearing, ShownLoad, hides, shown_cleared, shown_clearing, shown_entry, shown_load, shown_reader, tainted_stores}
+use Rattle.queue_laws.proofs.Keeping.{older_stands}
+use Rattle.queue_laws.specs.Window.{Shown, ShownClearing, ShownLoad, StandFor, StoresStandFor, hides, shown_cleared, shown_clearing, shown_entry, shown_load, shown_reader, tainted_stores}
 use Rattle.visibility.specs.Point.{HasAdvanced, Point, is_hidden}
 use Rattle.visibility.proofs.Moving.{Tells}
 use Rattle.window_model.proofs.Booleans.{or_false}
 use Rattle.window_model.proofs.EntryByEntry.{along_front}
-use Rattle.window_model.proofs.Serials.{Falls}
+use Rattle.rob_ring.specs.Ring.{below}
+use Rattle.window_model.proofs.Serials.{Falls, splits}
 use Rattle.window_model.specs.Along.{Along, Behind}
 use Rattle.window_model.specs.Order.{before_at, each_from, is_load, is_store}
 use Rattle.window_model.specs.Serials.{Rise}
@@ -50,7 +52,7 @@ if_view : {X Y : Type 0} (view : X → Y) (b : Bool) (x : X) (y : Y) → view x 
 if_view view b x y h = sym (if_mapped view b x) ∙ ap (λ y. if b then Some y else None) h
 
 abbrev column_of : StoreFootprint → Shown
-column_of s = record { serial = s.serial; span = s.span; stored = s.stored; computed = s.computed }
+column_of s = record { serial = s.serial; span = s.span; known_from = s.known_from; stored = s.stored; computed = s.computed }
 
 -- the queues hold the window's loads and stores
 pub queues_stand : QueuesStand
@@ -78,11 +80,18 @@ queues_track p s tr =
           ∙ of_kind t (λ k. k.load) (λ l. l) shown_reader (λ e. is_load e.item.kind)
           (λ b e. if_view (λ l. l) (is_load e.item.kind) _ (shown_reader e) (ap (λ b. record { serial = e.serial; reading = if b then (shown_reader e).reading else None }) tr)) [] p.window;
       stores = map_same shown_cleared (λ x. clearing_of (store_in t f x)) p.queues.stores
-          (λ x. ap (λ b. record { serial = x.serial; known_from = if b then (shown_cleared x).known_from else None; cleared = b && x.cleared }) (sym tr))
+          (λ x. ap (λ b. record (shown_cleared x) { cleared = b && x.cleared }) (sym tr))
           ∙ sym (map_twice clearing_of (store_in t f) p.queues.stores) ∙ ap (map clearing_of) s.columns.stores
           ∙ of_kind t (λ k. k.store) clearing_of shown_clearing (λ e. is_store e.item.kind)
-          (λ b e. if_view clearing_of (is_store e.item.kind) _ (shown_clearing e) (ap (λ b. record { serial = e.serial; known_from = if b then e.addr_due else None; cleared = b && e.cleared }) tr)) [] p.window;
+          (λ b e. if_view clearing_of (is_store e.item.kind) _ (shown_clearing e) (ap (λ b. record (shown_clearing e) { cleared = b && e.cleared }) tr)) [] p.window;
     }
+
+-- the queue's stores before an entry stand for the entries before it
+pub stores_before : (q : Queues) (es : List Entry) (i : ℕ) (e : Entry) → StandFor q es → Rise es → slice_get es i ≡ Some e → StoresStandFor (older e.serial q.stores) (before_at es i)
+stores_before q es i e s r h =
+    let t = splits e.serial es r in
+    subst (λ es. StoresStandFor (older e.serial q.stores) (reverse es)) (below_is es i e r h)
+    (older_stands q (below e.serial es) t.gone e.serial (subst (StandFor q) t.whole s) t.older t.younger)
 
 -- ---- what the roots tell
 

@@ -93,9 +93,9 @@ stores_queued _ n root q = refl
 
 -- no part of a fresh store has issued, and a fresh load has read nothing
 fresh_store : (t : Terms) (root : Option ℕ) (e : Entry) → has_address e ≡ false → has_data e ≡ false → (t.tracked ≡ true → e.cleared ≡ false) →
-    record { serial = e.serial; root = root; span = None; stored = None; computed = true; known_from = if t.tracked then None else None; cleared = t.tracked && false } ≡ store_footprint t root e
+    record { serial = e.serial; root = root; span = None; stored = None; computed = true; known_from = None; cleared = t.tracked && false } ≡ store_footprint t root e
 fresh_store t root e a d c =
-    ap₂ (λ (k : Option ℕ) v. record { serial = e.serial; root = root; span = None; stored = None; computed = true; known_from = if t.tracked then k else None; cleared = v }) (unknown e.addr_due a) (uncleared t.tracked c)
+    ap₂ (λ (k : Option ℕ) v. record { serial = e.serial; root = root; span = None; stored = None; computed = true; known_from = k; cleared = v }) (unknown e.addr_due a) (uncleared t.tracked c)
     ∙ ap₂ (λ a d. record (store_footprint t root e) { span = if a then Some (area_in e) else None; stored = if d then Some (stored_of e.outcome) else None; computed = not (a || d) || is_some e.outcome }) (sym a) (sym d)
   where
     uncleared : (b : Bool) → (b ≡ true → e.cleared ≡ false) → (b && false) ≡ (b && e.cleared)
@@ -132,7 +132,7 @@ refines_renamed p e s awaits place h fresh rs ws aw =
             ∙ pushed_if (load_in t) (λ k. k.load) (is_load e.item.kind) p.queues.loads _ (load_footprint t e) ks k h.columns.loads (λ l. fresh_load t e fresh.unissued) refl;
         stores = ap (map (store_in t f)) (stores_queued e.item.kind e.serial (base_root s.roots) p.queues)
             ∙ pushed_if (store_in t f) (λ k. k.store) (is_store e.item.kind) p.queues.stores _ (store_footprint t (base_root (source_roots (reverse p.window) e)) e) ks k h.columns.stores
-            (λ l. ap (λ (r : Option ℕ). record { serial = e.serial; root = r; span = None; stored = None; computed = true; known_from = if t.tracked then None else None; cleared = t.tracked && false }) root
+            (λ l. ap (λ (r : Option ℕ). record { serial = e.serial; root = r; span = None; stored = None; computed = true; known_from = None; cleared = t.tracked && false }) root
             ∙ fresh_store t (base_root (source_roots (reverse p.window) e)) e fresh.address fresh.stored (λ b. fresh.uncleared b l)) refl;
       }));
       point = point_renames p.point p.next p.window e h.point fresh.serial fresh.unresolved;

@@ -32,16 +32,16 @@ look_back h before e = record { roots = source_roots before e; writers = source_
 
 -- ---- what an entry leaves in the parts
 
--- a store: its serial, the root of its address, where it writes and what, each once that part has issued, whether it
--- has its outcome once one has, and, where loads may pass stores, from which cycle on its address is known, and whether
--- it is cleared
+-- a store: its serial, the root of its address, where it writes, from which cycle on that is known, and what it writes,
+-- each once that part has issued, whether it has its outcome once one has, and, where loads may pass stores, whether it
+-- is cleared
 pub record StoreFootprint : Type 0 where
   pub serial : ℕ
   pub root : Option ℕ
   pub span : Option Area
+  pub known_from : Option ℕ
   pub stored : Option ℕ
   pub computed : Bool
-  pub known_from : Option ℕ
   pub cleared : Bool
 
 -- what an entry leaves in the parts: its sources, what it writes, its station if it waits, and what a load or store is
@@ -70,9 +70,9 @@ store_footprint t root e = record {
   serial = e.serial;
   root = root;
   span = if has_address e then Some (area_in e) else None;
+  known_from = e.addr_due;
   stored = if has_data e then Some (stored_of e.outcome) else None;
   computed = not (has_address e || has_data e) || is_some e.outcome;
-  known_from = if t.tracked then e.addr_due else None;
   cleared = t.tracked && e.cleared;
 }
 
@@ -116,8 +116,8 @@ store_in t oldest s = record {
   serial = s.serial;
   root = unretired oldest s.root;
   span = option_map area_of s.span;
+  known_from = option_map (λ (k : Span). k.known_from) s.span;
   stored = s.stored;
   computed = true;
-  known_from = if t.tracked then option_map (λ (k : Span). k.known_from) s.span else None;
   cleared = t.tracked && s.cleared;
 }
