@@ -1,0 +1,4 @@
+pub mod Counting
+pub mod Events
+pub mod Sums
+pub mod Worked

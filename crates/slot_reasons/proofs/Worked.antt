@@ -1,0 +1,149 @@
+-- Reasons and slots that were worked out by hand.
+use Rattle.std.proofs.Common.{◌≡◌, ℕ, IsTrue, Bool, true, false, List, [], ◌∷◌, Option, Some, None, map, refl}
+use Rattle.std.specs.Int.Count.{count_leading_zeros}
+use Rattle.rv_types.specs.Decode.{decode}
+use Rattle.rv_types.specs.declared.End.TheVariants.{Exit}
+use Rattle.rv_types.specs.declared.Instr.TheVariants.{Illegal}
+use Rattle.rv_types.specs.declared.Kind.{Kind}
+use Rattle.rv_types.specs.declared.Kind.TheVariants as kind
+use lib.Count.{ones}
+use Rattle.machine_desc.specs.Example.{example}
+use Rattle.machine_desc.specs.Ranges.{key_number}
+use Rattle.machine_desc.specs.declared.Defence.TheVariants.{Stt}
+use Rattle.machine_desc.specs.declared.SttModel.TheVariants.{Spectre}
+use Rattle.machine_desc.specs.declared.keys.Key.{Key}
+use Rattle.machine_desc.specs.declared.keys.Key.TheVariants.{CacheHitLatency, CacheSecondLatency, CacheSecondSets}
+use Rattle.machine_desc.proofs.Tested.{all_pass, tested}
+use Rattle.machine_desc.specs.declared.Desc.{Desc}
+use Rattle.window_model.specs.declared.Entry.{Entry}
+use Rattle.window_model.specs.declared.Event.TheVariants.{Res, Bp, Bt, Sq, Clr, Vio, Dp, Ret, Call, Alu, Ren, Fet}
+use Rattle.window_model.specs.declared.Progress.{Progress}
+use Rattle.window_model.specs.declared.Progress.TheVariants.{Waiting, Busy, Done}
+use Rattle.window_model.specs.declared.Way.TheVariants.{Taken, Jump}
+use Rattle.window_model.specs.History.{no_checkpoint}
+use Rattle.window_model.specs.State.{opening}
+use Rattle.window_model.specs.Cycle.{cycle}
+use Rattle.window_model.specs.Retire.{retire}
+use Rattle.window_model.specs.Rename.{rename}
+use Rattle.window_model.specs.Fetch.{fetch}
+use Rattle.window_model.proofs.Worked.{code_of, memory, bounds_check}
+use Rattle.run_counts.specs.Counted.{as_told}
+use Rattle.slot_reasons.specs.declared.Past.{Past}
+use Rattle.slot_reasons.specs.declared.Reason.{Reason}
+use Rattle.slot_reasons.specs.declared.Reason.TheVariants as reason
+use Rattle.slot_reasons.specs.Reasons.{first_past, past_after, reason_of}
+use Rattle.slot_reasons.specs.Slots.{charges_of, seen, slot_names, slots}
+
+-- ---- What comes late
+
+-- behind a branch and a JALR that were wrongly predicted, a load that had passed a store wrongly, a call, and neither
+abbrev lates : List Past
+lates =
+    map (past_after first_past)
+    ((Res 2 Taken ∷ Bp 2 2 ∷ Sq 7 ∷ Ret 0 ∷ []) ∷ (Res 2 Jump ∷ Bt 1 64 ∷ Sq 0 ∷ []) ∷ (Clr 1 ∷ Vio 4 ∷ Dp 0 1 ∷ Sq 3 ∷ []) ∷ (Ret 5 ∷ Call 5 3 ∷ [])
+    ∷ (Res 2 Taken ∷ Bp 2 2 ∷ Fet 64 ∷ []) ∷ [])
+
+lates_are : lates
+    ≡ record { renamed = None; late = reason.Misprediction; next = reason.Misprediction }
+    ∷ record { renamed = None; late = reason.Misprediction; next = reason.Misprediction }
+    ∷ record { renamed = None; late = reason.Violation; next = reason.Violation }
+    ∷ record { renamed = None; late = reason.Call; next = reason.Call }
+    ∷ first_past ∷ []
+lates_are = refl
+
+-- the first that is renamed behind a squash comes late for it, and what comes next doesn't
+abbrev squashed : Past
+squashed = past_after first_past (Res 2 Taken ∷ Bp 2 2 ∷ Sq 7 ∷ [])
+
+renamed_late : past_after squashed (Alu 1 ∷ Ren 8 64 ∷ Ren 9 68 ∷ Fet 72 ∷ []) ≡ record { renamed = Some 8; late = reason.Misprediction; next = reason.FrontEnd }
+renamed_late = refl
+
+-- ---- The oldest entry
+
+-- an entry with serial 8 of this kind, so far and issued in this cycle, cleared or not
+abbrev entry : Kind → Progress → Option ℕ → Bool → Entry
+entry k state issued cleared = record {
+  serial = 8;
+  item = record { pc = 64; instr = Illegal 0; kind = k; predicted = None; checkpoint = no_checkpoint };
+  state = state;
+  outcome = None;
+  resolved = false;
+  issued = issued;
+  addr_due = None;
+  data_due = None;
+  cleared = cleared;
+}
+
+-- the example, where a hit takes 2 cycles, with a second level that takes 6
+abbrev second_number : Key → ℕ
+second_number CacheSecondSets = 4
+second_number CacheSecondLatency = 6
+second_number key = key_number example key
+
+second_passes : IsTrue (all_pass 2 second_number Spectre Stt)
+unfolding ones
+second_passes = refl
+
+abbrev d : Desc
+d = tested 2 second_number Spectre Stt second_passes
+
+-- the example where a hit takes 1 cycle, without a second level, which would take 2
+abbrev quick_number : Key → ℕ
+quick_number CacheHitLatency = 1
+quick_number key = key_number example key
+
+quick_passes : IsTrue (all_pass 2 quick_number Spectre Stt)
+unfolding ones
+quick_passes = refl
+
+abbrev quick : Desc
+quick = tested 2 quick_number Spectre Stt quick_passes
+
+-- a cycle in which nothing was renamed, and one whose first that was has this serial, late behind a misprediction
+abbrev quiet : Past
+quiet = first_past
+
+abbrev renamed : ℕ → Past
+renamed first = record { renamed = Some first; late = reason.Misprediction; next = reason.FrontEnd }
+
+-- by how far the oldest entry is, where nothing was renamed lately
+abbrev by_progress : List Reason
+by_progress =
+    map (λ e. reason_of d quiet quiet None (Some e))
+    (entry kind.Load (Busy 12) (Some 10) true ∷ entry kind.Load (Busy 13) (Some 10) true ∷ entry kind.Load (Busy 16) (Some 10) true ∷ entry kind.Load (Busy 17) (Some 10) true
+    ∷ entry kind.Mul (Busy 13) (Some 10) true ∷ entry kind.Div (Busy 30) (Some 10) true ∷ entry kind.Store (Busy 11) None false ∷ entry kind.Alu (Busy 11) (Some 10) true
+    ∷ entry kind.Branch (Busy 11) (Some 10) true ∷ entry kind.Load Waiting None true ∷ entry kind.Div Waiting None true ∷ entry kind.Store Waiting None false
+    ∷ entry kind.Branch Done (Some 10) true ∷ entry kind.Jalr Done (Some 10) true ∷ entry kind.Store Done None false ∷ entry kind.Store Done None true ∷ entry kind.Call Done None true ∷ [])
+
+progress_tells : by_progress
+    ≡ reason.LoadFirst ∷ reason.LoadSecond ∷ reason.LoadSecond ∷ reason.LoadMemory
+    ∷ reason.Multiplier ∷ reason.Divider ∷ reason.Store ∷ reason.Simple
+    ∷ reason.Simple ∷ reason.Registers ∷ reason.Divider ∷ reason.Store
+    ∷ reason.Resolve ∷ reason.Resolve ∷ reason.Clear ∷ reason.StorePort ∷ reason.Call ∷ []
+progress_tells = refl
+
+-- where there is no second level, nothing is served by it
+no_second_tells : reason_of quick quiet quiet None (Some (entry kind.Load (Busy 12) (Some 10) true)) ≡ reason.LoadMemory
+no_second_tells = refl
+
+-- by when the oldest entry was renamed: in this cycle; in the one before, with what issued since and what waits; and
+-- before that
+renaming_tells :
+    map (λ (p : Past × (Past × Progress)). reason_of d p.0 p.1.0 None (Some (entry kind.Div p.1.1 None true)))
+    ((quiet, (renamed 8, Waiting)) ∷ (quiet, (renamed 7, Waiting)) ∷ (renamed 8, (quiet, Busy 30)) ∷ (renamed 8, (quiet, Waiting)) ∷ (quiet, (renamed 9, Busy 30)) ∷ (renamed 9, (quiet, Busy 30)) ∷ [])
+    ≡ reason.Misprediction ∷ reason.Misprediction ∷ reason.Misprediction ∷ reason.Divider ∷ reason.Divider ∷ reason.Divider ∷ []
+renaming_tells = refl
+
+-- without an entry for what comes late, and once the run has ended for that
+none_tells : (reason_of d quiet (renamed 8) None None ≡ reason.Misprediction) × (reason_of d quiet quiet (Some (Exit 0)) (Some (entry kind.Alu Done None true)) ≡ reason.End)
+none_tells = (refl, refl)
+
+-- ---- A run
+
+-- a bounds check that is passed over, of 21 cycles with two slots each (docs/view.md, "Where the time went: the CPI
+-- stack"): 5 instructions retire; 6 slots go to the front end, 5 to the misprediction, 1 to the call, 1 to an
+-- operation, 5 to the multiplication, 18 to a load from memory, and 1 to the end
+run_counted : slots (charges_of (seen example (code_of bounds_check) 100 (opening example 0x10000 (memory 0 17)) first_past))
+    ≡ 5 ∷ 6 ∷ 5 ∷ 0 ∷ 1 ∷ 1 ∷ 5 ∷ 0 ∷ 0 ∷ 0 ∷ 0 ∷ 18 ∷ 0 ∷ 0 ∷ 0 ∷ 0 ∷ 1 ∷ []
+unfolding decode cycle retire rename fetch count_leading_zeros memory code_of slot_names as_told
+run_counted = refl

@@ -1,0 +1,4 @@
+pub mod Reasons
+pub mod Slots
+pub mod Laws
+pub mod inner

@@ -1,0 +1,131 @@
+-- Why slots of retirement stay empty in a cycle (docs/formats.md, "The slots of a run").
+use Rattle.std.specs.Prelude.{ℕ, ◌-◌, Bool, true, false, not, ◌&&◌, nat_le, nat_lt, List, [], ◌∷◌, Option, Some, None, if◌then◌else◌}
+use Rattle.rv_types.specs.declared.End.{End}
+use Rattle.rv_types.specs.declared.Kind.{Kind}
+use Rattle.rv_types.specs.declared.Kind.TheVariants as kind
+use Rattle.machine_desc.specs.declared.Desc.{Desc}
+use Rattle.window_model.specs.declared.Entry.{Entry}
+use Rattle.window_model.specs.declared.Event.{Event}
+use Rattle.window_model.specs.declared.Event.TheVariants.{Sq, Dp, Call, Ren}
+use Rattle.window_model.specs.declared.Progress.{Progress}
+use Rattle.window_model.specs.declared.Progress.TheVariants.{Waiting, Busy, Done}
+use Rattle.window_model.specs.Order.{is_waiting}
+use Rattle.window_model.specs.Rename.{is_call}
+use Rattle.slot_reasons.specs.declared.Reason.{Reason}
+use Rattle.slot_reasons.specs.declared.Reason.TheVariants as reason
+use Rattle.slot_reasons.specs.declared.Past.{Past}
+
+-- ---- What comes late
+
+-- the event tells of a bit of dependence
+abbrev pub is_bit : Event → Bool
+is_bit (Dp index value) = true
+is_bit _ = false
+
+-- why all that is fetched behind a squash comes late: right behind a bit of dependence a load had passed a store
+-- wrongly, and else a branch or JALR was wrongly predicted
+abbrev pub squash_reason : Bool → Reason
+squash_reason behind_bit = if behind_bit then reason.Violation else reason.Misprediction
+
+-- why what is renamed next comes late, behind an event that comes right behind a bit of dependence or doesn't: for a
+-- squash, for a call, or for what it did before
+abbrev pub late_behind : Bool → Event → Reason → Reason
+late_behind behind_bit (Sq count) late = squash_reason behind_bit
+late_behind behind_bit (Call serial count) late = reason.Call
+late_behind behind_bit _ late = late
+
+-- why what is renamed next comes late, behind events that come one after the other
+abbrev pub late_after : Bool → List Event → Reason → Reason
+late_after behind_bit [] late = late
+late_after behind_bit (event ∷ rest) late = late_after (is_bit event) rest (late_behind behind_bit event late)
+
+-- the serial of the first entry that these events rename, if they rename one
+abbrev pub first_renamed : List Event → Option ℕ
+first_renamed [] = None
+first_renamed (Ren serial pc ∷ rest) = Some serial
+first_renamed (_ ∷ rest) = first_renamed rest
+
+-- why what is renamed next comes late: as what was renamed in this cycle did, if nothing was; else as any does
+abbrev pub late_next : Option ℕ → Reason → Reason
+late_next None late = late
+late_next (Some serial) late = reason.FrontEnd
+
+-- what is known of a cycle once it is over, from the cycle before and its events
+abbrev pub past_after : Past → List Event → Past
+past_after past events =
+    let late = late_after false events past.next in
+    let renamed = first_renamed events in
+    record { renamed = renamed; late = late; next = late_next renamed late }
+
+-- before the first cycle nothing is renamed, and what is comes from the front end
+abbrev pub first_past : Past
+first_past = record { renamed = None; late = reason.FrontEnd; next = reason.FrontEnd }
+
+-- the entry of this serial was renamed in the cycle whose first one is this, if there was one
+abbrev pub is_from : Option ℕ → ℕ → Bool
+is_from None serial = false
+is_from (Some first) serial = nat_le first serial
+
+-- ---- What the oldest entry does
+
+-- how long an entry takes that issued in a cycle, if it is kept which, and is Done in the cycle `due`
+abbrev pub time_taken : ℕ → Option ℕ → ℕ
+time_taken due None = 0
+time_taken due (Some issued) = due - issued
+
+-- what serves a load that takes so long: the first level, an older store or a fault no longer than a hit, the second
+-- level, where there is one, no longer than its latency, and else memory
+abbrev pub load_reason : Desc → ℕ → Reason
+load_reason d time =
+    if nat_le time d.cache_hit_latency then reason.LoadFirst
+    else if nat_lt 0 d.cache_second_sets && nat_le time d.cache_second_latency then reason.LoadSecond
+    else reason.LoadMemory
+
+-- where an entry executes, by its kind and how long it takes
+abbrev pub executes : Kind → Desc → ℕ → Reason
+executes kind.Load d time = load_reason d time
+executes kind.Mul d time = reason.Multiplier
+executes kind.Div d time = reason.Divider
+executes kind.Store d time = reason.Store
+executes _ d time = reason.Simple
+
+-- what the oldest entry waits for: a load for miss registers, a division for the divider, a store for its other part
+abbrev pub awaits : Kind → Reason
+awaits kind.Load = reason.Registers
+awaits kind.Div = reason.Divider
+awaits kind.Store = reason.Store
+awaits _ = reason.Simple
+
+-- why the oldest entry hasn't retired that is Done: a store isn't cleared, or is the second of the cycle; a branch or
+-- JALR isn't resolved
+abbrev pub stays_done : Kind → Bool → Reason
+stays_done kind.Store cleared = if cleared then reason.StorePort else reason.Clear
+stays_done _ cleared = reason.Resolve
+
+-- why the oldest entry hasn't retired, by how far it is
+abbrev pub keeps : Progress → Desc → Entry → Reason
+keeps Waiting d e = awaits e.item.kind
+keeps (Busy due) d e = executes e.item.kind d (time_taken due e.issued)
+keeps Done d e = stays_done e.item.kind e.cleared
+
+-- ---- The reason of a cycle
+
+-- why the oldest entry keeps the slots, once a cycle is over, by what was known before and is known now: a call goes
+-- alone; an entry that was renamed in this cycle came late, and so did one of the cycle before that has issued since;
+-- else by how far it is
+abbrev pub head_reason : Desc → Past → Past → Entry → Reason
+head_reason d before now e =
+    if is_call e.item.kind then reason.Call
+    else if is_from now.renamed e.serial then now.late
+    else if is_from before.renamed e.serial && not (is_waiting e.state) then before.late
+    else keeps e.state d e
+
+-- why slots are empty where the run goes on: for the oldest entry, or since what comes next comes late
+abbrev pub oldest_reason : Desc → Past → Past → Option Entry → Reason
+oldest_reason d before now None = now.late
+oldest_reason d before now (Some e) = head_reason d before now e
+
+-- why slots are empty in a cycle, by how the run ended, if it did, and the oldest entry that is left, if there is one
+abbrev pub reason_of : Desc → Past → Past → Option End → Option Entry → Reason
+reason_of d before now (Some e) oldest = reason.End
+reason_of d before now None oldest = oldest_reason d before now oldest

@@ -1,0 +1,84 @@
+//! Why slots of retirement stay empty: each slot of each cycle has one reason, and they are counted by reason.
+//!
+//! Rules: `specs/Reasons.antt`, the reason of a cycle, from the written machine's state once it is over and from the
+//! events of it and the cycle before; `specs/Slots.antt`, the slots of a run; `docs/formats.md`, "The slots of a run".
+//!
+//! Promises: `specs/Laws.antt`: the slots of all reasons are as many as the cycles have. What is counted cycle by cycle
+//! is what the definition counts of a run.
+//!
+//! Clauses: `each_slot_has_one_reason`; `charge_of`; `Slots`: `new`, `count`, `add`.
+#![tactic(auto)]
+
+ghost use Rattle.slot_reasons.specs.Laws.{EachSlotHasOneReason, SeesTheRows};
+
+mod reasons;
+mod slots;
+
+pub use reasons::{charge_of, first_past};
+pub use slots::{SLOTS, Slots, slot_name_at};
+
+/// Why slots of retirement stay empty in a cycle.
+#[derive(Clone, Copy, Debug, PartialEq, Eq)]
+pub enum Reason {
+    /// What comes next comes no earlier from the front end, or there was no room for it.
+    FrontEnd,
+    /// It comes late behind a branch or JALR that was wrongly predicted.
+    Misprediction,
+    /// It comes late behind a load that had passed a store wrongly.
+    Violation,
+    /// A call waits to be alone, or was.
+    Call,
+    /// The oldest entry executes in an arithmetic unit.
+    Simple,
+    /// The oldest entry executes in the multiplier.
+    Multiplier,
+    /// The oldest entry executes in the divider, or waits for it.
+    Divider,
+    /// The oldest entry is a store that executes.
+    Store,
+    /// The oldest entry is a load that takes no longer than a hit.
+    LoadFirst,
+    /// The oldest entry is a load that takes longer than a hit, and no longer than the second level.
+    LoadSecond,
+    /// The oldest entry is a load that takes longer.
+    LoadMemory,
+    /// The oldest entry is a load that waits for miss registers.
+    Registers,
+    /// The oldest entry is a branch or JALR that is Done and isn't resolved.
+    Resolve,
+    /// The oldest entry is a store that is Done and isn't cleared.
+    Clear,
+    /// The oldest entry is a second store of the cycle.
+    StorePort,
+    /// The run has ended.
+    End,
+}
+
+/// What is known of a cycle once it is over.
+#[derive(Clone, Copy, Debug, PartialEq, Eq)]
+pub struct Past {
+    /// The serial of the first entry that was renamed in it, if one was.
+    pub renamed: Option<u64>,
+    /// Why what was renamed in it came late.
+    pub late: Reason,
+    /// Why what is renamed next comes late.
+    pub next: Reason,
+}
+
+/// The slots of a cycle.
+#[derive(Clone, Copy, Debug, PartialEq, Eq)]
+pub struct Charge {
+    /// In how many an instruction retired.
+    pub retired: u64,
+    /// How many stayed empty.
+    pub empty: u64,
+    /// Why they did.
+    pub reason: Reason,
+}
+
+/// The slots of all reasons in a run are as many as its cycles have: none is counted twice, and none is lost. The rows
+/// that are seen with them are those of the run.
+pub fn each_slot_has_one_reason()
+    ensures slots { EachSlotHasOneReason }
+    ensures rows { SeesTheRows }
+{}

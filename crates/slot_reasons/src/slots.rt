@@ -1,0 +1,134 @@
+//! The slots of a run, as they are counted cycle by cycle.
+ghost use Rattle.std.specs.Prelude.{◌≡◌, ◌<◌, ◌≤◌, ◌++◌, ◌∷◌, List, ℕ, [], Some, length, slice_get};
+
+use crate::{Charge, Reason};
+use std::marker::Model;
+
+/// How many numbers there are.
+pub const SLOTS: usize = 17;
+
+/// The slots of a run by reason, seen as a list of numbers in their order. They take no memory, and stop at the
+/// greatest of 64 bits.
+#[derive(Drop)]
+pub struct Slots {
+    numbers: [u64; SLOTS],
+}
+
+impl Model for Slots {
+    ghost use Rattle.std.specs.Prelude.{List, ℕ};
+
+    ghost Value = { List ℕ };
+
+    ghost view = { λ s. s.numbers };
+}
+
+ghost use Rattle.run_counts.specs.inner.Counting.{number_with, numbers_by, sums};
+ghost use Rattle.slot_reasons.specs.declared.Charge.{Charge as ChargeText};
+ghost use Rattle.slot_reasons.specs.Slots.{reason_name, slot_names, slots};
+
+/// The name of the number at a place (`docs/formats.md`, "The slots of a run").
+#[tactic(auto, unfolding(crate::specs::Slots::slot_names))]
+pub fn slot_name_at(place: usize) -> &'static [u8]
+    requires { place < SLOTS }
+    ensures name { slice_get slot_names place ≡ Some result.now }
+    ensures short { length result.now ≤ 21 }
+{
+    match place {
+        0 => b"slots_base",
+        1 => b"slots_front_end",
+        2 => b"slots_misprediction",
+        3 => b"slots_violation",
+        4 => b"slots_call",
+        5 => b"slots_simple",
+        6 => b"slots_multiplier",
+        7 => b"slots_divider",
+        8 => b"slots_store",
+        9 => b"slots_load_first",
+        10 => b"slots_load_second",
+        11 => b"slots_load_memory",
+        12 => b"slots_registers",
+        13 => b"slots_resolve",
+        14 => b"slots_clear",
+        15 => b"slots_store_port",
+        _ => b"slots_end",
+    }
+}
+
+// The place of the number of a reason.
+#[tactic(auto, unfolding(crate::specs::Slots::slot_names))]
+fn place_of(reason: Reason) -> usize
+    ensures at { slice_get slot_names result ≡ Some (reason_name reason) }
+    ensures few { result < SLOTS }
+{
+    match reason {
+        Reason::FrontEnd => 1,
+        Reason::Misprediction => 2,
+        Reason::Violation => 3,
+        Reason::Call => 4,
+        Reason::Simple => 5,
+        Reason::Multiplier => 6,
+        Reason::Divider => 7,
+        Reason::Store => 8,
+        Reason::LoadFirst => 9,
+        Reason::LoadSecond => 10,
+        Reason::LoadMemory => 11,
+        Reason::Registers => 12,
+        Reason::Resolve => 13,
+        Reason::Clear => 14,
+        Reason::StorePort => 15,
+        Reason::End => 16,
+    }
+}
+
+// Adds to the number at a place.
+fn add_at(numbers: &mut [u64; SLOTS], place: usize, n: u64)
+    requires { place < SLOTS }
+    ensures { (at : List ℕ) → slice_get slot_names place ≡ Some at
+        → numbers.new ≡ numbers_by (λ name k. number_with name at n k) slot_names numbers.old }
+{
+    numbers[place] = numbers[place].saturating_add(n);
+}
+
+// Adds the numbers of other cycles.
+fn add_each(numbers: &mut [u64; SLOTS], others: &[u64; SLOTS])
+    ensures { numbers.new ≡ sums numbers.old others.now }
+{
+    for place in 0..SLOTS {
+        numbers[place] = numbers[place].saturating_add(others[place]);
+    }
+}
+
+impl Slots {
+    /// The slots of no cycle.
+    pub fn new() -> Self
+        ensures { result ≡ slots [] }
+    {
+        Slots {
+            numbers: [0; SLOTS],
+        }
+    }
+
+    /// Counts the slots of a cycle behind those of which these are.
+    pub fn count(&mut self, charge: &Charge)
+        ensures { (cs : List ChargeText) → self.old ≡ slots cs → self.new ≡ slots (cs ++ charge.now ∷ []) }
+    {
+        add_at(&mut self.numbers, 0, charge.retired);
+        add_at(&mut self.numbers, place_of(charge.reason), charge.empty);
+    }
+
+    /// Adds the slots of the cycles that come behind those of which these are.
+    pub fn add(&mut self, others: &Slots)
+        ensures { (cs behind : List ChargeText) → self.old ≡ slots cs → others.now ≡ slots behind
+            → self.new ≡ slots (cs ++ behind) }
+    {
+        add_each(&mut self.numbers, &others.numbers);
+    }
+
+    /// The numbers, in their order.
+    pub fn as_slice(&self) -> &[u64]
+        ensures value { result.now ≡ self.now }
+        ensures len { length result.now ≡ SLOTS }
+    {
+        &self.numbers
+    }
+}
