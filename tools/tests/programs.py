@@ -54,6 +54,8 @@ PROGRAMS = {
                                           mul(7, 7, 7), *EXIT],
     "stores that are passed in turn": [mul(5, 0, 0), add(5, 5, 2), sw(2, 0, 5), sw(9, 4, 5), lw(6, 4, 2), lw(7, 0, 2), mul(7, 7, 6), sw(7, 8, 2),
                                        lbu(6, 8, 2), *EXIT],
+    "stores to loaded addresses, cleared in turn": [lw(5, 0, 2), mul(5, 5, 5), blt(0, 5, 8), lbu(6, 8, 2), add(6, 6, 2),
+                                                    *[sw(2, 4 * place, 6) for place in range(4)], *EXIT],
     "loop": [addi(5, 0, 20), lw(6, 0, 2), mul(6, 6, 6), sw(6, 4, 2), addi(5, 5, -1), blt(0, 5, -16), *EXIT],
     "jumps through a register": [addi(6, 0, 6), jal(1, 16), addi(6, 6, -1), blt(0, 6, -8), jal(0, 12), addi(7, 7, 1),
                                  jalr(0, 1, 0), *EXIT],

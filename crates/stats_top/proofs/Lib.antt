@@ -1,6 +1,7 @@
 pub mod Outcomes
 pub mod OverWords
 pub mod Parts
+pub mod Seeing
 pub mod Statuses
 pub mod Stretches
 pub mod Tally

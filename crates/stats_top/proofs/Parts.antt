@@ -1,90 +1,143 @@
--- A run in two parts: its rows, its last state, and how far it came.
-use Rattle.std.proofs.Common.{◌≡◌, ◌<◌, ◌≤◌, ℕ, zero, suc, ◌+◌, [], ◌∷◌, ◌++◌, length, true, Option, Some, None, refl, ap, ap₂, sym, ◌∙◌, arith}
+-- A run in two parts: what is seen of it, its last state, what is known then, and how far it came.
+use Rattle.std.proofs.Common.{◌≡◌, ◌<◌, ◌≤◌, ℕ, zero, suc, ◌+◌, ◌-◌, List, [], ◌∷◌, ◌++◌, length, true, Option, Some, None, refl, ap, ap₂, sym, ◌∙◌, arith}
 use Rattle.std.specs.Option.{is_some}
 use Rattle.rv_types.specs.Memory.{Code}
 use Rattle.rv_types.specs.declared.End.{End}
 use Rattle.machine_desc.specs.declared.Desc.{Desc}
 use Rattle.machine_facts.proofs.FewEvents.{cycle_number}
 use Rattle.window_model.specs.State.{Machine}
-use Rattle.window_model.specs.Cycle.{cycle, rows, after_cycles}
-use Rattle.core_cycle.proofs.Going.{goes_on, stops}
-use Rattle.pair_run.proofs.Cycles.{no_rows}
+use Rattle.window_model.specs.Row.{Row}
+use Rattle.window_model.specs.Cycle.{Cycled, cycle, after_cycles}
+use Rattle.core_cycle.proofs.Going.{goes_on, one_more, stops}
+use Rattle.slot_reasons.specs.declared.Charge.{Charge}
+use Rattle.slot_reasons.specs.declared.Past.{Past}
+use Rattle.slot_reasons.specs.Reasons.{past_after}
+use Rattle.slot_reasons.specs.Slots.{Seen, charge_of, past_at, seen}
 
 module _ (d : Desc) (code : Code) where
-  -- a run that has ended stays where it is
+  -- what is seen of the next cycle, and what is known after it
+  abbrev first_seen : Machine → Past → Seen
+  first_seen x p = let c = cycle d code x in record { row = c.row; charge = charge_of d p x c }
+
+  abbrev known_next : Machine → Past → Past
+  known_next x p = past_after p (cycle d code x).row.events
+
+  -- a run that has ended stays where it is, nothing is seen of it, and no more is known
   pub stays : (k : ℕ) (x : Machine) → is_some x.end ≡ true → after_cycles d code k x ≡ x
   stays zero x e = refl
   stays (suc k) x e = stops x.end x _ e
 
-  -- the first row of a run, and the state behind it
-  row_first : (n : ℕ) (x : Machine) → x.end ≡ None → rows d code (suc n) x ≡ (cycle d code x).row ∷ rows d code n (cycle d code x).machine
-  row_first n x e = goes_on x.end [] _ e
+  pub none_seen : (k : ℕ) (x : Machine) (p : Past) → is_some x.end ≡ true → seen d code k x p ≡ []
+  none_seen zero x p e = refl
+  none_seen (suc k) x p e = stops x.end [] _ e
+
+  pub past_stays : (k : ℕ) (x : Machine) (p : Past) → is_some x.end ≡ true → past_at d code k x p ≡ p
+  past_stays zero x p e = refl
+  past_stays (suc k) x p e = stops x.end p _ e
+
+  -- what is seen of the first cycle, the state behind it, and what is known then
+  seen_first : (n : ℕ) (x : Machine) (p : Past) → x.end ≡ None → seen d code (suc n) x p ≡ first_seen x p ∷ seen d code n (cycle d code x).machine (known_next x p)
+  seen_first n x p e = goes_on x.end [] _ e
 
   state_first : (n : ℕ) (x : Machine) → x.end ≡ None → after_cycles d code (suc n) x ≡ after_cycles d code n (cycle d code x).machine
   state_first n x e = goes_on x.end x _ e
 
+  past_first : (n : ℕ) (x : Machine) (p : Past) → x.end ≡ None → past_at d code (suc n) x p ≡ past_at d code n (cycle d code x).machine (known_next x p)
+  past_first n x p e = goes_on x.end p _ e
+
+  -- one more of n cycles goes, of which i are done
+  module _ (n i : ℕ) (y y' : Machine) (row : Row) (piece : List ℕ) (q q' : Past) (charge : Charge) (h : i < n) (e : y.end ≡ None) (c : record { machine = y'; row = row; piece = piece } ≡ cycle d code y)
+      (k : charge ≡ charge_of d q y (cycle d code y)) (o : q' ≡ past_after q row.events) where
+    row_is : row ≡ (cycle d code y).row
+    row_is = ap (λ (r : Cycled). r.row) c
+
+    state_is : y' ≡ (cycle d code y).machine
+    state_is = ap (λ (r : Cycled). r.machine) c
+
+    past_is : q' ≡ known_next y q
+    past_is = o ∙ ap (λ (r : Row). past_after q r.events) row_is
+
+    pub seen_goes : seen d code (n - i) y q ≡ record { row = row; charge = charge } ∷ seen d code (n - (i + 1)) y' q'
+    seen_goes =
+        ap (λ j. seen d code j y q) (one_more n i h)
+        ∙ seen_first (n - (i + 1)) y q e
+        ∙ sym (ap₂ (λ s r. s ∷ r) (ap₂ (λ (r : Row) (b : Charge). record { row = r; charge = b }) row_is k) (ap₂ (seen d code (n - (i + 1))) state_is past_is))
+
+    pub past_goes : past_at d code (n - i) y q ≡ past_at d code (n - (i + 1)) y' q'
+    past_goes =
+        ap (λ j. past_at d code j y q) (one_more n i h) ∙ past_first (n - (i + 1)) y q e ∙ sym (ap₂ (past_at d code (n - (i + 1))) state_is past_is)
+
   -- ---- A run of a + b cycles is one of a, and then one of b
 
-  abbrev Splits : ℕ → ℕ → Machine → Type 0
-  Splits a b x = (rows d code (a + b) x ≡ rows d code a x ++ rows d code b (after_cycles d code a x)) × (after_cycles d code (a + b) x ≡ after_cycles d code b (after_cycles d code a x))
+  pub record Splits (a b : ℕ) (x : Machine) (p : Past) : Type 0 where
+    pub seen_are : seen d code (a + b) x p ≡ seen d code a x p ++ seen d code b (after_cycles d code a x) (past_at d code a x p)
+    pub state : after_cycles d code (a + b) x ≡ after_cycles d code b (after_cycles d code a x)
 
-  split_next : (a b : ℕ) (x : Machine) (o : Option End) → x.end ≡ o → ((y : Machine) → Splits a b y) → Splits (suc a) b x
-  split_next a b x None e ih =
+  split_next : (a b : ℕ) (x : Machine) (p : Past) (o : Option End) → x.end ≡ o → ((y : Machine) (q : Past) → Splits a b y q) → Splits (suc a) b x p
+  split_next a b x p None e ih =
       let z = (cycle d code x).machine in
-      let row = (cycle d code x).row in
-      let n : suc a + b ≡ suc (a + b) = omega arith in (
-        ap (λ k. rows d code k x) n ∙ row_first (a + b) x e ∙ ap (λ r. row ∷ r) (ih z).0
-            ∙ sym (ap₂ (λ p q. p ++ rows d code b q) (row_first a x e) (state_first a x e)),
-        ap (λ k. after_cycles d code k x) n ∙ state_first (a + b) x e ∙ (ih z).1 ∙ sym (ap (after_cycles d code b) (state_first a x e)),
-      )
-  split_next a b x (Some k) e ih =
+      let q = known_next x p in
+      let one = first_seen x p in
+      let n : suc a + b ≡ suc (a + b) = omega arith in
+      record {
+        seen_are =
+            ap (λ k. seen d code k x p) n
+            ∙ seen_first (a + b) x p e
+            ∙ ap (λ r. one ∷ r) (ih z q).seen_are
+            ∙ sym (ap₂ (λ r (s : Machine × Past). r ++ seen d code b s.0 s.1) (seen_first a x p e) (ap₂ (λ (s : Machine) (t : Past). (s, t)) (state_first a x e) (past_first a x p e)));
+        state = ap (λ k. after_cycles d code k x) n ∙ state_first (a + b) x e ∙ (ih z q).state ∙ sym (ap (after_cycles d code b) (state_first a x e));
+      }
+  split_next a b x p (Some k) e ih =
       let ended : is_some x.end ≡ true = ap is_some e in
-      let last : after_cycles d code (suc a) x ≡ x = stays (suc a) x ended in (
-        no_rows d code (suc a + b) x ended ∙ sym (ap₂ (λ p q. p ++ q) (no_rows d code (suc a) x ended) (ap (rows d code b) last ∙ no_rows d code b x ended)),
-        stays (suc a + b) x ended ∙ sym (ap (after_cycles d code b) last ∙ stays b x ended),
-      )
+      let last : after_cycles d code (suc a) x ≡ x = stays (suc a) x ended in
+      let known : past_at d code (suc a) x p ≡ p = past_stays (suc a) x p ended in
+      record {
+        seen_are = none_seen (suc a + b) x p ended ∙ sym (ap₂ (λ r s. r ++ s) (none_seen (suc a) x p ended) (ap₂ (seen d code b) last known ∙ none_seen b x p ended));
+        state = stays (suc a + b) x ended ∙ sym (ap (after_cycles d code b) last ∙ stays b x ended);
+      }
 
-  pub splits : (a b : ℕ) (x : Machine) → Splits a b x
-  splits zero b x = let e : 0 + b ≡ b = omega arith in (ap (λ n. rows d code n x) e, ap (λ n. after_cycles d code n x) e)
-  splits (suc a) b x = split_next a b x x.end refl (λ y. splits a b y)
+  pub splits : (a b : ℕ) (x : Machine) (p : Past) → Splits a b x p
+  splits zero b x p = let e : 0 + b ≡ b = omega arith in record { seen_are = ap (λ n. seen d code n x p) e; state = ap (λ n. after_cycles d code n x) e }
+  splits (suc a) b x p = split_next a b x p x.end refl (λ y q. splits a b y q)
 
   -- ---- How far a run of n cycles came
 
-  pub record Came (n : ℕ) (x : Machine) : Type 0 where
-    pub clock : (after_cycles d code n x).cycle ≡ x.cycle + length (rows d code n x)
-    pub few : length (rows d code n x) ≤ n
-    pub short : length (rows d code n x) < n → is_some (after_cycles d code n x).end ≡ true
+  pub record Came (n : ℕ) (x : Machine) (p : Past) : Type 0 where
+    pub clock : (after_cycles d code n x).cycle ≡ x.cycle + length (seen d code n x p)
+    pub few : length (seen d code n x p) ≤ n
+    pub short : length (seen d code n x p) < n → is_some (after_cycles d code n x).end ≡ true
 
-  came_next : (n : ℕ) (x : Machine) (o : Option End) → x.end ≡ o → ((y : Machine) → Came n y) → Came (suc n) x
-  came_next n x None e ih =
+  came_next : (n : ℕ) (x : Machine) (p : Past) (o : Option End) → x.end ≡ o → ((y : Machine) (q : Past) → Came n y q) → Came (suc n) x p
+  came_next n x p None e ih =
       let z = (cycle d code x).machine in
-      let i = ih z in
+      let q = known_next x p in
+      let i = ih z q in
       let one : z.cycle ≡ x.cycle + 1 = cycle_number d code x in
-      let long : length (rows d code (suc n) x) ≡ suc (length (rows d code n z)) = ap length (row_first n x e) in
+      let long : length (seen d code (suc n) x p) ≡ suc (length (seen d code n z q)) = ap length (seen_first n x p e) in
       let state = state_first n x e in
       let now : (after_cycles d code (suc n) x).cycle ≡ (after_cycles d code n z).cycle = ap (λ (y : Machine). y.cycle) state in
-      let clock : (after_cycles d code n z).cycle ≡ z.cycle + length (rows d code n z) = i.clock in
-      let few : length (rows d code n z) ≤ n = i.few in
+      let clock : (after_cycles d code n z).cycle ≡ z.cycle + length (seen d code n z q) = i.clock in
+      let few : length (seen d code n z q) ≤ n = i.few in
       record {
         clock = omega (arith, one, long, now, clock);
         few = omega (arith, long, few);
         short = λ h. ap (λ (y : Machine). is_some y.end) state ∙ i.short (omega (arith, h, long));
       }
-  came_next n x (Some k) e ih =
+  came_next n x p (Some k) e ih =
       let ended : is_some x.end ≡ true = ap is_some e in
       let state : after_cycles d code (suc n) x ≡ x = stays (suc n) x ended in
       let now : (after_cycles d code (suc n) x).cycle ≡ x.cycle = ap (λ (y : Machine). y.cycle) state in
-      let long : length (rows d code (suc n) x) ≡ 0 = ap length (no_rows d code (suc n) x ended) in
+      let long : length (seen d code (suc n) x p) ≡ 0 = ap length (none_seen (suc n) x p ended) in
       record {
         clock = omega (arith, now, long);
         few = omega (arith, long);
         short = λ h. ap (λ (y : Machine). is_some y.end) state ∙ ended;
       }
 
-  pub came : (n : ℕ) (x : Machine) → Came n x
-  came zero x = record {
+  pub came : (n : ℕ) (x : Machine) (p : Past) → Came n x p
+  came zero x p = record {
     clock = let z : x.cycle ≡ x.cycle + 0 = omega arith in z;
     few = omega arith;
     short = λ h. absurd (omega (arith, h));
   }
-  came (suc n) x = came_next n x x.end refl (λ y. came n y)
+  came (suc n) x p = came_next n x p x.end refl (λ y q. came n y q)

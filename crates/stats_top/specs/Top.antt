@@ -4,7 +4,10 @@ use Rattle.std.specs.Prelude.{◌≡◌, ◌≢◌, ◌⊎◌, ℕ, List, [], �
 use Rattle.rv_types.specs.declared.End.{End}
 use Rattle.elf_loader.specs.Image.{ImageText}
 use Rattle.machine_desc.specs.declared.Desc.{Desc}
+use Rattle.window_model.specs.State.{opening}
 use Rattle.window_model.specs.Cycle.{Trace}
+use Rattle.slot_reasons.specs.Reasons.{first_past}
+use Rattle.slot_reasons.specs.Slots.{Seen, seen}
 use Rattle.pair_run.specs.Starts.{trace_of}
 use Rattle.tool_io.specs.Outside.{Told, Shelf, Wrote, WrotePrefix, SameCounts, NameFailed, Rose}
 use Rattle.run_inputs.specs.Input.{MayGive, Gives, HasDesc, IsFaultyDescription, from_file, IsImage, IsFaultyImage, IsRead, Refuses}
@@ -32,9 +35,13 @@ pub record Inputs (asked : AskedText) (old new : Shelf) : Type 0 where
 abbrev pub run_in : AskedText → Desc → ImageText → Trace
 run_in asked d image = trace_of d image asked.cycles
 
+-- what is seen of its cycles
+abbrev pub seen_of : Desc → ImageText → ℕ → List Seen
+seen_of d image n = seen d image.code n (opening d image.entry image.ram) first_past
+
 -- what is told of that run
 abbrev pub told_in : AskedText → Desc → ImageText → List ℕ
-told_in asked d image = stats_text asked.every (run_in asked d image)
+told_in asked d image = stats_text asked.every (seen_of d image asked.cycles) (run_in asked d image)
 
 -- why reading is refused: for the description, or for the image under it
 abbrev pub RefusedInputs : AskedText → Shelf → Shelf → Refusal → Type 0

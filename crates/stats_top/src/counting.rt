@@ -1,82 +1,140 @@
 //! A core's run, counted cycle by cycle, and the lines on the way. Nothing here takes memory.
-ghost use Rattle.std.specs.Prelude.{◌≡◌, ◌<◌, ◌≤◌, ◌+◌, ◌^◌, Some, option_map};
-ghost use Rattle.stats_top.specs.Stats.{way_text};
+ghost use Rattle.std.specs.Prelude.{◌≡◌, ◌<◌, ◌≤◌, ◌+◌, ◌-◌, ◌^◌, Some, None, option_map};
+ghost use Rattle.elf_loader.specs.inner.Code.{word_at};
+ghost use Rattle.slot_reasons.specs.Reasons.{first_past, past_after};
+ghost use Rattle.slot_reasons.specs.Slots.{charge_of, past_at};
+ghost use Rattle.window_model.specs.Cycle.{cycle};
 ghost use Rattle.stats_top.specs.inner.Counting.{CountedTo, WritesWay};
 
 use crate::lines::stretch_line;
-use run_counts::Counts;
+use crate::numbers::Numbers;
+use core_cycle::Core;
+use machine_desc::Desc;
+use rename_taint::RenameTaint;
 use rv_types::Piece;
+use slot_reasons::{Charge, Past, charge_of, first_past};
 use stats_words::Every;
 use tool_io::{Failed, Sink};
 use window_model::{Clocked, Row, empty_row};
 
-// Runs at most so many cycles, and counts the events of each. Row and piece are lent, so that many stretches use one.
-fn count_stretch<C: Clocked>(core: &mut C, cycles: u32, row: &mut Row, piece: &mut Piece) -> Counts
-    requires few { (C.machine core.old).cycle + cycles < 2 ^ 32 }
-    ensures counted { CountedTo result (C.desc core.old) (C.code core.old) cycles
-        (C.machine core.old) (C.machine core.new) }
-    ensures later { (C.machine core.old).cycle ≤ (C.machine core.new).cycle }
-    ensures desc { C.desc core.new ≡ C.desc core.old }
-    ensures code { C.code core.new ≡ C.code core.old }
+/// What is kept from cycle to cycle, and what each cycle fills anew: one serves many stretches.
+#[derive(Drop)]
+struct Kept {
+    past: Past,
+    row: Row,
+    piece: Piece,
+}
+
+// What is kept before the first cycle.
+fn kept_at_first() -> Kept
+    ensures { result.past ≡ first_past }
 {
-    let mut counts = Counts::new();
+    Kept {
+        past: first_past(),
+        row: empty_row(),
+        piece: Piece::new(),
+    }
+}
+
+// One cycle, with its row and its slots.
+fn see_cycle<R: RenameTaint>(core: &mut Core<R>, desc: &Desc, kept: &mut Kept) -> Charge
+    requires desc { desc.now ≡ core.old.desc }
+    requires running { core.old.machine.end ≡ None }
+    requires few { core.old.machine.cycle < 2 ^ 32 - 1 }
+    ensures cycled { record { machine = core.new.machine; row = kept.new.row; piece = kept.new.piece }
+        ≡ cycle core.old.desc (word_at core.old.code) core.old.machine }
+    ensures charge { result ≡ charge_of core.old.desc kept.old.past core.old.machine
+        (cycle core.old.desc (word_at core.old.code) core.old.machine) }
+    ensures past { kept.new.past ≡ past_after kept.old.past kept.new.row.events }
+    ensures desc { core.new.desc ≡ core.old.desc }
+    ensures code { word_at core.new.code ≡ word_at core.old.code }
+{
+    let before = core.retired();
+    core.cycle(&mut kept.row, &mut kept.piece);
+    let retired = core.retired().saturating_sub(before);
+    charge_of(
+        desc,
+        &mut kept.past,
+        kept.row.events(),
+        retired,
+        core.end(),
+        core.rob(),
+    )
+}
+
+// Runs at most so many cycles, and counts what is seen of each.
+fn count_stretch<R: RenameTaint>(
+    core: &mut Core<R>,
+    desc: &Desc,
+    cycles: u32,
+    kept: &mut Kept,
+) -> Numbers
+    requires desc { desc.now ≡ core.old.desc }
+    requires few { core.old.machine.cycle + cycles < 2 ^ 32 }
+    ensures counted { CountedTo result core.old.desc (word_at core.old.code) cycles
+        core.old.machine core.new.machine kept.old.past }
+    ensures past { kept.new.past ≡ past_at core.old.desc (word_at core.old.code) cycles core.old.machine kept.old.past }
+    ensures later { core.old.machine.cycle ≤ core.new.machine.cycle }
+    ensures desc { core.new.desc ≡ core.old.desc }
+    ensures code { word_at core.new.code ≡ word_at core.old.code }
+{
+    let mut numbers = Numbers::new();
     for _done in 0..cycles {
         if core.end().is_some() {
-            return counts;
+            return numbers;
         }
-        core.cycle(row, piece);
-        counts.count(row);
+        let charge = see_cycle(core, desc, kept);
+        numbers.count(&kept.row, &charge);
     }
-    counts
+    numbers
 }
 
 // Runs at most so many cycles in stretches, each of which but the last is whole, and writes the line of each that is.
-fn count_stretches<C: Clocked, S: Sink>(
-    core: &mut C,
+fn count_stretches<R: RenameTaint, S: Sink>(
+    core: &mut Core<R>,
+    desc: &Desc,
     cycles: u32,
     every: Every,
     out: &mut S,
-) -> Result<Counts, Failed>
-    requires few { (C.machine core.old).cycle + cycles < 2 ^ 32 }
-    ensures { WritesWay (Some every.cycles) (C.desc core.old) (C.code core.old) cycles
-        (C.machine core.old) (C.machine core.new) (S.told out.old) (S.told out.new) result }
+) -> Result<Numbers, Failed>
+    requires desc { desc.now ≡ core.old.desc }
+    requires few { core.old.machine.cycle + cycles < 2 ^ 32 }
+    ensures { WritesWay (Some every.cycles) core.old.desc (word_at core.old.code) cycles
+        core.old.machine core.new.machine (S.told out.old) (S.told out.new) result }
 {
-    let mut row = empty_row();
-    let mut piece = Piece::new();
-    let mut counts = Counts::new();
+    let mut kept = kept_at_first();
+    let mut numbers = Numbers::new();
     let mut left = cycles;
     while 0 < left {
         let next = left.min(every.cycles);
         let before = core.cycles();
-        let since = count_stretch(core, next, &mut row, &mut piece);
-        counts.add(&since);
+        let since = count_stretch(core, desc, next, &mut kept);
+        numbers.add(&since);
         if core.cycles() - before < every.cycles {
-            return Ok(counts);
+            return Ok(numbers);
         }
         out.put(stretch_line(core.cycles(), &since).as_slice())?;
         left -= next;
     }
-    Ok(counts)
+    Ok(numbers)
 }
 
-/// Runs at most so many cycles, counts the events of each, and writes the lines on the way, if they are asked for, by
+/// Runs at most so many cycles, counts what is seen of each, and writes the lines on the way, if they are asked for, by
 /// one put each. Error: `Failed`, only where the sink's count of faults rose; then a part of them was written.
-pub(crate) fn count_run<C: Clocked, S: Sink>(
-    core: &mut C,
+pub(crate) fn count_run<R: RenameTaint, S: Sink>(
+    core: &mut Core<R>,
+    desc: &Desc,
     cycles: u32,
     every: Option<Every>,
     out: &mut S,
-) -> Result<Counts, Failed>
-    requires few { (C.machine core.old).cycle + cycles < 2 ^ 32 }
-    ensures { WritesWay (option_map (λ k. k.cycles) every) (C.desc core.old) (C.code core.old) cycles
-        (C.machine core.old) (C.machine core.new) (S.told out.old) (S.told out.new) result }
+) -> Result<Numbers, Failed>
+    requires desc { desc.now ≡ core.old.desc }
+    requires few { core.old.machine.cycle + cycles < 2 ^ 32 }
+    ensures { WritesWay (option_map (λ k. k.cycles) every) core.old.desc (word_at core.old.code) cycles
+        core.old.machine core.new.machine (S.told out.old) (S.told out.new) result }
 {
     match every {
-        Some(every) => count_stretches(core, cycles, every, out),
-        None => {
-            let mut row = empty_row();
-            let mut piece = Piece::new();
-            Ok(count_stretch(core, cycles, &mut row, &mut piece))
-        }
+        Some(every) => count_stretches(core, desc, cycles, every, out),
+        None => Ok(count_stretch(core, desc, cycles, &mut kept_at_first())),
     }
 }

@@ -15,6 +15,7 @@
 mod asked;
 mod counting;
 mod lines;
+mod numbers;
 mod performing;
 mod program;
 mod stats;

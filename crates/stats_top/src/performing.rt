@@ -27,6 +27,6 @@ pub(crate) fn perform<O: Sink>(
 {
     let Described { desc, image } = read;
     let mut core = Core::<ByTable>::new(alloc, &desc, image)?;
-    let end = write_stats(&mut core, cycles, every, out)?;
+    let end = write_stats(&mut core, &desc, cycles, every, out)?;
     Ok(end)
 }

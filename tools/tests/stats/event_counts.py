@@ -1,5 +1,4 @@
-"""What the lines of a trace come to, read as docs/formats.md, "The trace", has them, and told as "The program stt_stats" says. Nothing of it is
-taken from the tools or from the programs."""
+"""What the lines of a trace come to, read as docs/formats.md, "The trace", has them. Nothing of it is taken from the tools or from the programs."""
 import re
 
 A = "[0-9a-f]{8}"
@@ -44,14 +43,3 @@ def counted(rows):
         for event, before in zip(events, ["", *events]):
             count(numbers, event, before)
     return [min(numbers[name], MOST) for name in NAMES]
-
-
-def text(trace, every=None):
-    """The text that is told of a trace, with a line for each so many cycles where they are asked for."""
-    *rows, end = trace.splitlines()
-    assert [row.split(" ")[0] for row in rows] == [str(cycle) for cycle in range(1, len(rows) + 1)] and end.startswith("end "), end
-    lines = []
-    for last in range(every, len(rows) + 1, every) if every else ():
-        lines.append(" ".join(map(str, [last, *counted(rows[last - every:last])])))
-    lines += [f"{name} {number}" for name, number in zip(NAMES, counted(rows))]
-    return "".join(f"{line}\n" for line in [*lines, end])

@@ -3,18 +3,24 @@ import os
 import re
 import subprocess
 import unittest
+from collections import Counter
 
 import event_counts
+import slot_counts
 import support
 from generate.generated import generated_image
 from programs import PROGRAMS
 from wadrelwy import built_programs
+from wadrelwy.view import slots
+from wadrelwy.view.description import read_description
+from wadrelwy.view.replay import Replay
+from wadrelwy.view.trace import Trace
 
 CRATE = os.path.join(support.ROOT, "crates", "stt_stats")
 STATS = built_programs.program("stt_stats", os.environ.get("STT_STATS") or os.path.join(CRATE, "out", "stt_stats"))
 NO_STATS = support.NO_PROGRAM or (None if STATS else "the program isn't built (crates/stt_stats/out/stt_stats, or STT_STATS)")
 DESCRIPTIONS = ("core", "core_futuristic", "core_unprotected", "core_hold", "core_delay", "core_passing", "core_any_address", "core_history",
-                "core_two_levels", "medium", "desktop", "large_two_levels", "large_futuristic_hold")
+                "core_two_levels", "medium", "desktop", "large_passing", "large_two_levels", "large_futuristic_hold")
 CYCLES = 2000
 
 
@@ -35,13 +41,14 @@ class Counts(unittest.TestCase):
         """The names and their order are those of the page."""
         section = read("docs", "formats.md").split("\n## The program stt_stats\n")[1].split("\n## ")[0]
         rows = re.findall(r"^\| (`[^|]*) \|", section, re.MULTILINE)
-        self.assertEqual([name for row in rows for name in re.findall(r"`(\w+)`", row)], event_counts.NAMES)
+        self.assertEqual([name for row in rows for name in re.findall(r"`(\w+)`", row)], [*event_counts.NAMES, *slot_counts.NAMES])
 
     def test_stored_run(self):
         """What the gate compares with is what the worked trace of docs/traces.md comes to."""
         words = read("crates", "stt_stats", "args").split()
         self.assertEqual(words, ["core.toml", "bounds_check.elf", "--cycles", "100", "--every", "8"])
-        self.assertEqual(event_counts.text("".join(support.worked_trace("Bounds check bypass")), 8), read("crates", "stt_stats", "stdout"))
+        told = slot_counts.text("".join(support.worked_trace("Bounds check bypass")), support.example("bounds_check.elf"), support.example("core.toml"), 8)
+        self.assertEqual(told, read("crates", "stt_stats", "stdout"))
 
     def test_neighbours(self):
         """A squash is counted by what it stands right behind, in its own line alone."""
@@ -58,6 +65,61 @@ class Counts(unittest.TestCase):
                 event_counts.counted([row])
 
 
+class OwnReasons(slots.Slots):
+    """The viewer's stack, where the oldest entry is charged for what it does, and nothing for what the defence made late."""
+
+    def late(self, head):
+        return None
+
+
+# what the viewer tells apart and the numbers don't, or the other way round: the viewer knows what stood in the queue, and by what a load was
+# served; the numbers know for what a Done entry waits
+LOADS = {slots.HIT, slots.FORWARDED, slots.SECOND_LEVEL, slots.MEMORY, slots.JOINED, slots.FAULTING}
+WAITS = {slots.PORTS, slots.CLEARING, *slots.TAINTS.values()}
+THEIRS = {slots.BASE: "base", slots.MISPREDICTION: "misprediction", slots.VIOLATION: "violation", slots.SIMPLE: "simple", slots.END: "end",
+          slots.MULTIPLIER: "multiplier", slots.DIVIDER_BUSY: "divider", slots.STORES: "store", slots.REGISTERS: "registers",
+          **dict.fromkeys((slots.FRONT_END, slots.ROOM, slots.SYSTEM_CALL), "front end or call"), **dict.fromkeys(LOADS, "load"),
+          **dict.fromkeys(WAITS, "done")}
+OURS = {"front_end": "front end or call", "call": "front end or call", "load_first": "load", "load_second": "load", "load_memory": "load",
+        "resolve": "done", "clear": "done", "store_port": "done"}
+
+
+@unittest.skipIf(support.NO_IMAGES, support.NO_IMAGES)
+class BesideTheStack(unittest.TestCase):
+    """The slots by reason beside those of `view stack`, over the programs under each kind of description."""
+
+    def stacks(self, described, image):
+        """Both stacks of a run, by the names that both know; and the viewer's own."""
+        description, lines = read_description(described), support.modelled(described, image, 400)
+        run = Replay(Trace(iter(lines)), support.Image(image), description)
+        run.slots = OwnReasons(run.pipeline)
+        for _ in run.items():
+            pass
+        ours, theirs, own = Counter(), Counter(), Counter()
+        for retired, empty, reason in slot_counts.cycles(Trace(iter(lines)), support.Image(image), description):
+            ours += Counter({"base": retired}) + Counter({OURS.get(reason, reason): empty})
+            own[reason] += empty
+        for reason, number in run.slots.sums().items():
+            theirs[THEIRS[reason]] += number
+        self.assertEqual(sum(ours.values()), run.pipeline.cycle * description.retire_width)
+        return ours, theirs, own, run.slots.sums()
+
+    def test_each_slot(self):
+        """Both charge the same slots to the same. A load that doesn't join a miss, and lies in one line, is served by what both say."""
+        described = [*support.descriptions(1), *support.descriptions(2, ("spectre", "futuristic", "off"), depend=2),
+                     *support.descriptions(2, ("spectre",), defence='"hold"'), *support.descriptions(2, ("spectre",), defence='"delay"'),
+                     support.description("second", "spectre", 2, second_sets=4, second_latency=5)]
+        for description in described:
+            for name, words in PROGRAMS.items():
+                with self.subTest(name=name, description=description):
+                    ours, theirs, own, told = self.stacks(description, support.image_of_words(name.replace(" ", "_"), words))
+                    self.assertEqual(ours, theirs)
+                    served = [told.get(slots.HIT, 0) + told.get(slots.FORWARDED, 0) + told.get(slots.FAULTING, 0),
+                              told.get(slots.SECOND_LEVEL, 0), told.get(slots.MEMORY, 0)]
+                    if not told.get(slots.JOINED):
+                        self.assertEqual([own["load_first"], own["load_second"], own["load_memory"]], served)
+
+
 @unittest.skipIf(NO_STATS, NO_STATS)
 class Program(unittest.TestCase):
     def told(self, description, image, *words):
@@ -67,17 +129,18 @@ class Program(unittest.TestCase):
 
     def test_beside_the_trace(self):
         """Of each run the text and the status are those of the trace, also with lines on the way; and each number counts something somewhere."""
-        seen = [0] * len(event_counts.NAMES)
+        names = [*event_counts.NAMES, *slot_counts.NAMES]
+        seen = [0] * len(names)
         for description in (support.example(f"{name}.toml") for name in DESCRIPTIONS):
             for number, image in enumerate(images()):
                 trace = support.run_program("trace", description, image, "--cycles", str(CYCLES))
                 every = (1, 2, 7, 100, CYCLES, 4294967295)[number % 6]
-                text = event_counts.text(trace.stdout)
+                text = slot_counts.text(trace.stdout, image, description)
                 with self.subTest(description=description, image=image, every=every):
                     self.assertEqual(self.told(description, image), (trace.returncode, text))
-                    self.assertEqual(self.told(description, image, "--every", str(every)), (trace.returncode, event_counts.text(trace.stdout, every)))
+                    self.assertEqual(self.told(description, image, "--every", str(every)), (trace.returncode, slot_counts.text(trace.stdout, image, description, every)))
                 seen = [total + int(line.split()[1]) for total, line in zip(seen, text.splitlines())]
-        self.assertEqual([name for name, number in zip(event_counts.NAMES, seen) if not number], [])
+        self.assertEqual([name for name, number in zip(names, seen) if not number], [])
 
 
 if __name__ == "__main__":

@@ -1,29 +1,31 @@
 -- Beside Stats.antt: what only clauses of the code and lemmas cite.
-use Rattle.std.specs.Prelude.{◌≡◌, ℕ, List, Option, Result, MatchResult}
+use Rattle.std.specs.Prelude.{◌≡◌, ℕ, Option, Result, MatchResult}
 use Rattle.rv_types.specs.Memory.{Code}
 use Rattle.rv_types.specs.declared.End.{End}
 use Rattle.machine_desc.specs.declared.Desc.{Desc}
 use Rattle.window_model.specs.State.{Machine}
-use Rattle.window_model.specs.Cycle.{rows, after_cycles, trace_from}
+use Rattle.window_model.specs.Cycle.{after_cycles, trace_from}
 use Rattle.tool_io.specs.Outside.{Told, Wrote, WrotePrefix}
 use Rattle.tool_io.specs.declared.Failed.{Failed}
-use Rattle.run_counts.specs.Counted.{numbers}
-use Rattle.stats_top.specs.Stats.{way_text, stats_from}
+use Rattle.slot_reasons.specs.declared.Past.{Past}
+use Rattle.slot_reasons.specs.Reasons.{first_past}
+use Rattle.slot_reasons.specs.Slots.{seen}
+use Rattle.stats_top.specs.Stats.{Numbers, numbers_of, way_text, stats_from}
 
--- a core came from x to the state after at most n cycles, and these are the numbers of their rows
-pub record CountedTo (counts : List ℕ) (d : Desc) (code : Code) (n : ℕ) (x y : Machine) : Type 0 where
-  pub counts_are : counts ≡ numbers (rows d code n x)
+-- a core came from x to the state after at most n cycles, and these are the numbers of what is seen of them
+pub record CountedTo (counts : Numbers) (d : Desc) (code : Code) (n : ℕ) (x y : Machine) (p : Past) : Type 0 where
+  pub counts_are : counts ≡ numbers_of (seen d code n x p)
   pub last : y ≡ after_cycles d code n x
 
 -- at most n cycles from x are counted, and the lines on the way are written, whole and with the core at their end, or
 -- in part
-abbrev pub WritesWay : Option ℕ → Desc → Code → ℕ → Machine → Machine → Told → Told → Result (List ℕ) Failed → Type 0
+abbrev pub WritesWay : Option ℕ → Desc → Code → ℕ → Machine → Machine → Told → Told → Result Numbers Failed → Type 0
 WritesWay every d code n x y old new result =
-    MatchResult result (λ counts. CountedTo counts d code n x y × Wrote (way_text every x.cycle (rows d code n x)) old new)
-    (λ _. WrotePrefix (way_text every x.cycle (rows d code n x)) old new)
+    MatchResult result (λ counts. CountedTo counts d code n x y first_past × Wrote (way_text every x.cycle (seen d code n x first_past)) old new)
+    (λ _. WrotePrefix (way_text every x.cycle (seen d code n x first_past)) old new)
 
 -- all that is told of a run of at most n cycles from x is written, whole and with how the run ended, or in part
 abbrev pub TellsStats : Option ℕ → Desc → Code → ℕ → Machine → Told → Told → Result (Option End) Failed → Type 0
 TellsStats every d code n x old new result =
-    MatchResult result (λ end. Wrote (stats_from every x.cycle (trace_from d code n x)) old new × (end ≡ (trace_from d code n x).end))
-    (λ _. WrotePrefix (stats_from every x.cycle (trace_from d code n x)) old new)
+    MatchResult result (λ end. Wrote (stats_from every x.cycle (seen d code n x first_past) (trace_from d code n x)) old new × (end ≡ (trace_from d code n x).end))
+    (λ _. WrotePrefix (stats_from every x.cycle (seen d code n x first_past) (trace_from d code n x)) old new)

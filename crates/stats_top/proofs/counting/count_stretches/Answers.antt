@@ -1,29 +1,39 @@
 -- Each stretch is counted, and its line is written where it is whole.
-use Rattle.std.proofs.Common.{◌≡◌, ◌≤◌, ◌<◌, ◌-◌, ◌∙◌, ap, subst, arith}
+use Rattle.std.proofs.Common.{◌≡◌, ◌≤◌, ◌<◌, ◌-◌, ◌∙◌, ap, ap₂, subst, refl, arith}
 use Rattle.std.proofs.lemmas.Result.{MatchResult-from_err}
+use Rattle.elf_loader.specs.inner.Code.{word_at}
 use Rattle.tool_io.specs.Outside.{Wrote, WrotePrefix}
+use Rattle.slot_reasons.specs.Slots.{past_at}
 use Rattle.stats_top.specs.Stats.{stretch_line}
-use Rattle.stats_top.proofs.Tally.{same_core, stretch_written, stretch_part, stretches_ended}
+use Rattle.stats_top.proofs.Tally.{none_written, same_core, stretch_written, stretch_part, stretches_ended}
 use Rattle.stats_top.proofs.counting.count_stretches.Goals as goal
+
+pub loop-left-init : goal.loop-left-init
+loop-left-init g c = record {
+  desc = refl;
+  code = refl;
+  written = none_written c.args.every.cycles c.args.every.some _ _ _ _ _ _ _ c.new-numbers.ensures c.kept_at_first-kept.ensures;
+}
 
 pub returns-then-cycles-before : goal.returns-then-cycles-before
 returns-then-cycles-before g c =
-    let old = g.C.Clocked.machine c.args.core.now in
-    let y = g.C.Clocked.machine c.loop-left.core in
-    let z = g.C.Clocked.machine c.count_stretch-since.new.core in
+    let old = c.args.core.now.machine in
+    let y = c.loop-left.core.machine in
+    let z = c.count_stretch-since.new.core.machine in
     let before : c.cycles-before.result ≡ y.cycle = c.cycles-before.ensures in
     let after : c.cycles.result ≡ z.cycle = c.cycles.ensures in
     let test = c.if-cycles-before.true in
     let short : z.cycle - y.cycle < c.args.every.cycles = omega (arith, before, after, test) in
-    stretches_ended c.args.every.cycles c.args.every.some (g.C.Clocked.desc c.args.core.now) (g.C.Clocked.code c.args.core.now) c.args.cycles old (g.S.Sink.told c.args.out.now)
-    c.loop-left.left y z c.loop-left.counts c.count_stretch-since.result c.add.new.self c.min-next.result (g.S.Sink.told c.loop-left.out) c.min-next.ensures
-    (same_core _ _ _ _ _ _ _ _ c.loop-left.invariant.desc c.loop-left.invariant.code c.count_stretch-since.ensures.counted) c.add.ensures c.loop-left.invariant.written short
+    stretches_ended c.args.every.cycles c.args.every.some c.args.core.now.desc (word_at c.args.core.now.code) c.args.cycles old (g.S.Sink.told c.args.out.now)
+    c.loop-left.left y z c.loop-left.numbers c.count_stretch-since.result c.add.new.self c.loop-left.kept.past c.count_stretch-since.new.kept.past c.min-next.result (g.S.Sink.told c.loop-left.out) c.min-next.ensures
+    (same_core _ _ _ _ _ _ _ _ _ c.loop-left.invariant.desc c.loop-left.invariant.code c.count_stretch-since.ensures.counted)
+    (c.count_stretch-since.ensures.past ∙ ap₂ (λ d k. past_at d k c.min-next.result y c.loop-left.kept.past) c.loop-left.invariant.desc c.loop-left.invariant.code) c.add.ensures c.loop-left.invariant.written short
 
 pub returns-in_err-put : goal.returns-in_err-put
 returns-in_err-put g c =
-    let old = g.C.Clocked.machine c.args.core.now in
-    let y = g.C.Clocked.machine c.loop-left.core in
-    let z = g.C.Clocked.machine c.count_stretch-since.new.core in
+    let old = c.args.core.now.machine in
+    let y = c.loop-left.core.machine in
+    let z = c.count_stretch-since.new.core.machine in
     let before : c.cycles-before.result ≡ y.cycle = c.cycles-before.ensures in
     let after : c.cycles.result ≡ z.cycle = c.cycles.ensures in
     let test = c.if-cycles-before.false in
@@ -32,16 +42,17 @@ returns-in_err-put g c =
     let t = g.S.Sink.told c.loop-left.out in
     let u = g.S.Sink.told c.put.new.self in
     MatchResult-from_err _ _ _ c.from_residual.ensures.0
-    (λ _. stretch_part c.args.every.cycles c.args.every.some (g.C.Clocked.desc c.args.core.now) (g.C.Clocked.code c.args.core.now) c.args.cycles old (g.S.Sink.told c.args.out.now)
-    c.loop-left.left y z c.loop-left.counts c.count_stretch-since.result c.add.new.self c.min-next.result t c.min-next.ensures
-    (same_core _ _ _ _ _ _ _ _ c.loop-left.invariant.desc c.loop-left.invariant.code c.count_stretch-since.ensures.counted) c.add.ensures c.loop-left.invariant.written whole
+    (λ _. stretch_part c.args.every.cycles c.args.every.some c.args.core.now.desc (word_at c.args.core.now.code) c.args.cycles old (g.S.Sink.told c.args.out.now)
+    c.loop-left.left y z c.loop-left.numbers c.count_stretch-since.result c.add.new.self c.loop-left.kept.past c.count_stretch-since.new.kept.past c.min-next.result t c.min-next.ensures
+    (same_core _ _ _ _ _ _ _ _ _ c.loop-left.invariant.desc c.loop-left.invariant.code c.count_stretch-since.ensures.counted)
+    (c.count_stretch-since.ensures.past ∙ ap₂ (λ d k. past_at d k c.min-next.result y c.loop-left.kept.past) c.loop-left.invariant.desc c.loop-left.invariant.code) c.add.ensures c.loop-left.invariant.written whole
     u (subst (λ text. WrotePrefix text t u) line c.in_err-put.ensures))
 
 pub loop-left-preserved : goal.loop-left-preserved
 loop-left-preserved g c =
-    let old = g.C.Clocked.machine c.args.core.now in
-    let y = g.C.Clocked.machine c.loop-left.core in
-    let z = g.C.Clocked.machine c.count_stretch-since.new.core in
+    let old = c.args.core.now.machine in
+    let y = c.loop-left.core.machine in
+    let z = c.count_stretch-since.new.core.machine in
     let before : c.cycles-before.result ≡ y.cycle = c.cycles-before.ensures in
     let after : c.cycles.result ≡ z.cycle = c.cycles.ensures in
     let test = c.if-cycles-before.false in
@@ -52,8 +63,9 @@ loop-left-preserved g c =
     record {
       desc = c.count_stretch-since.ensures.desc ∙ c.loop-left.invariant.desc;
       code = c.count_stretch-since.ensures.code ∙ c.loop-left.invariant.code;
-      written = stretch_written c.args.every.cycles c.args.every.some (g.C.Clocked.desc c.args.core.now) (g.C.Clocked.code c.args.core.now) c.args.cycles old (g.S.Sink.told c.args.out.now)
-          c.loop-left.left y z c.loop-left.counts c.count_stretch-since.result c.add.new.self c.min-next.result t c.min-next.ensures
-          (same_core _ _ _ _ _ _ _ _ c.loop-left.invariant.desc c.loop-left.invariant.code c.count_stretch-since.ensures.counted) c.add.ensures c.loop-left.invariant.written whole
+      written = stretch_written c.args.every.cycles c.args.every.some c.args.core.now.desc (word_at c.args.core.now.code) c.args.cycles old (g.S.Sink.told c.args.out.now)
+          c.loop-left.left y z c.loop-left.numbers c.count_stretch-since.result c.add.new.self c.loop-left.kept.past c.count_stretch-since.new.kept.past c.min-next.result t c.min-next.ensures
+          (same_core _ _ _ _ _ _ _ _ _ c.loop-left.invariant.desc c.loop-left.invariant.code c.count_stretch-since.ensures.counted)
+          (c.count_stretch-since.ensures.past ∙ ap₂ (λ d k. past_at d k c.min-next.result y c.loop-left.kept.past) c.loop-left.invariant.desc c.loop-left.invariant.code) c.add.ensures c.loop-left.invariant.written whole
           u (subst (λ text. Wrote text t u) line c.in_ok-put.ensures);
     }

@@ -1,5 +1,6 @@
 -- The stretches so far are counted, and their lines are written.
 use Rattle.std.proofs.Common.{◌≡◌}
+use Rattle.elf_loader.specs.inner.Code.{word_at}
 use Rattle.stats_top.proofs.Tally.{StretchesLeft}
 use Rattle.stats_top.proofs.counting.count_stretches.Given as goal
 
@@ -8,8 +9,8 @@ decreases-loop-left g l = l.left
 
 abbrev pub invariant-loop-left : goal.invariant-loop-left
 invariant-loop-left g l = record {
-  desc : g.C.Clocked.desc l.core ≡ g.C.Clocked.desc l.initial.core;
-  code : g.C.Clocked.code l.core ≡ g.C.Clocked.code l.initial.core;
-  written : StretchesLeft l.every.cycles l.counts (g.C.Clocked.desc l.initial.core) (g.C.Clocked.code l.initial.core) l.cycles l.left (g.C.Clocked.machine l.initial.core) (g.C.Clocked.machine l.core)
+  desc : l.core.desc ≡ l.initial.core.desc;
+  code : word_at l.core.code ≡ word_at l.initial.core.code;
+  written : StretchesLeft l.every.cycles l.numbers l.initial.core.desc (word_at l.initial.core.code) l.cycles l.left l.initial.core.machine l.core.machine l.kept.past
       (g.S.Sink.told l.initial.out) (g.S.Sink.told l.out);
 }
