@@ -19,9 +19,17 @@ STATS = built_programs.program(built_programs.STATS)
 EXAMPLES = ("bounds_check", "tainted_store", "store_bypass", "target_injection", "fault_shadow")
 
 
+def with_slots(counts, cycles):
+    """Counts with the slots of so many cycles, two in each, those in which nothing retired by the front end."""
+    retired = counts.get("retired", 0)
+    return {"slots_base": retired, "slots_front_end": 2 * cycles - retired} | counts
+
+
 def text(end="exit 0", retired=4, cycles=9, rows=(), **counts):
     """A text as the program writes it: rows are dictionaries with their last cycle."""
-    told = {name: 0 for name in numbers.NAMES} | {"retired": retired} | counts
+    told = {name: 0 for name in numbers.NAMES} | with_slots({"retired": retired} | counts, cycles)
+    every = rows[0]["cycle"] if rows else 0
+    rows = [with_slots(row, every) for row in rows]
     lines = [" ".join(map(str, [row["cycle"], *(row.get(name, 0) for name in numbers.NAMES)])) for row in rows]
     return "".join(f"{line}\n" for line in [*lines, *(f"{name} {told[name]}" for name in numbers.NAMES), f"end {end} retired {retired} cycles {cycles}"])
 
@@ -36,9 +44,10 @@ class Numbers(unittest.TestCase):
             section = file.read().split("\n## The program stt_stats\n")[1].split("\n## ")[0]
         named = [name for row in re.findall(r"(?m)^\| (`[^|]+) \|", section) for name in re.findall("`([^`]+)`", row)]
         self.assertEqual(tuple(named), numbers.NAMES)
-        with open(os.path.join(support.ROOT, "crates", "run_counts", "specs", "Counted.antt"), encoding="utf-8") as file:
-            defined = file.read().split("\nnames =\n")[1].split("[]")[0]
-        self.assertEqual(tuple(re.findall('codes "([^"]+)"', defined)), numbers.NAMES)
+        for crate, of, name, told in (("run_counts", "Counted", "names", numbers.COUNTS), ("slot_reasons", "Slots", "slot_names", numbers.SLOTS)):
+            with open(os.path.join(support.ROOT, "crates", crate, "specs", f"{of}.antt"), encoding="utf-8") as file:
+                defined = file.read().split(f"\n{name} =\n")[1].split("[]")[0]
+            self.assertEqual(tuple(re.findall('codes "([^"]+)"', defined)), told)
 
     def test_gem5s_names_are_those_of_the_page(self):
         with open(os.path.join(support.ROOT, "docs", "view.md"), encoding="utf-8") as file:
@@ -51,6 +60,12 @@ class Numbers(unittest.TestCase):
         self.assertEqual(numbers.reckoned(told.counts), {numbers.CPI: 2.25, numbers.MISSES: 750.0, numbers.MEMORY: 500.0, numbers.MISPREDICTIONS: 1000.0})
         self.assertEqual(numbers.GEM5["system.cpu.dcache.ReadReq.misses::total"].of(told.counts), 7)
         self.assertEqual(numbers.RECKONED[numbers.MISSES].told, "1000 * (load_second + load_misses) / retired")
+
+    def test_shares_of_the_slots(self):
+        told = read(text(slots_front_end=9, slots_load_memory=5))
+        self.assertEqual({name: share for name, share in numbers.shares(told.counts).items() if share},
+                         {"slots_base": 4 / 18, "slots_front_end": 9 / 18, "slots_load_memory": 5 / 18})
+        self.assertEqual(set(numbers.shares(read(text("budget", 0, 0)).counts).values()), {None})
 
     def test_a_figure_that_isnt_known(self):
         """Nothing retired; or a number that stands for greater ones."""
@@ -68,7 +83,8 @@ class Numbers(unittest.TestCase):
         for wrong, every in ((good.replace("mul 0", "mull 0"), None), (good.replace("alu 0\n", ""), None), (good + good, None), ("x\n" + good, None),
                              (good.replace("retired 4\n", "retired 5\n", 1), None), (text(rows=[{"cycle": 4}]), 4),
                              (text(rows=[{"cycle": 4}, {"cycle": 9}]), 4), (text(rows=[{"cycle": 4, "alu": 1}, {"cycle": 8}]), 4),
-                             (text(rows=[{"cycle": 4}, {"cycle": 8}]), None), ("retired 4 5\n", None)):
+                             (text(rows=[{"cycle": 4}, {"cycle": 8}]), None), ("retired 4 5\n", None), (good.replace("slots_end 0", "slots_end 1"), None),
+                             (text(slots_base=3, slots_front_end=15), None), (text(rows=[{"cycle": 4, "slots_end": 1}, {"cycle": 8}]), 4)):
             with self.subTest(wrong[:40]), self.assertRaisesRegex(Fault, "doesn't answer as stt_stats does"):
                 read(wrong, every)
 
@@ -121,6 +137,7 @@ class Command(unittest.TestCase):
         self.assertRegex(written, rf"(?m)^by +stt_stats sha256 {sha256(content(program))}, kit ")
         self.assertRegex(written, r"(?m)^ +4 +2 +2\.000 ")
         self.assertRegex(written, r"(?m)^cycles per instruction +2\.250   cycles / retired$")
+        self.assertRegex(written, r"(?m)^slots_front_end +14   77\.8 % of all slots$")
         self.assertTrue(written.endswith("\nend exit 0 retired 4 cycles 9\n"))
         path = os.path.join(self.folder, "kept")
         self.assertEqual(self.ask("--every", "4", "-o", path, program=program), ("", "", 0))
@@ -142,7 +159,9 @@ class Command(unittest.TestCase):
         told = [part.text for part in ElementTree.fromstring(written).iter() if part.text]
         self.assertIn(f"image {sha256(content(BOUNDS))}", told)
         self.assertIn("cycle 4: 2.000", told)
-        self.assertFalse([part for part in told if part.startswith("cycle 8")])
+        self.assertFalse([part for part in told if part.startswith("cycle 8:")])
+        self.assertIn("cycles 1 to 4, base: 25.0 %", told)
+        self.assertIn("cycles 5 to 8, front end: 100.0 %", told)
 
     def test_ends_are_told(self):
         _, note, status = self.ask(program=self.answering(text("budget"), 3))

@@ -57,15 +57,20 @@ rob=$(sed -n 's/^rob = \\([0-9]*\\).*/\\1/p' $2)
 echo "out 00"
 echo "end exit 0 retired ${RETIRED:-500} cycles $((cycles - 8 * rob))"
 """
-# the stand-in beside it that counts: two of each but what retired; a word of the environment says another number, or another end
+# the stand-in beside it that counts: two of each but what retired, and of two slots a cycle the others for the end of the run; a word of the
+# environment says another number, or another end
 COUNTING = """#!/bin/sh
 said=$(STAND_IN run "$@")
 status=$?
 last=$(echo "$said" | tail -n 1)
 case $last in end*) ;; *) exit $status ;; esac
 [ -n "$OTHER" ] && last=${last%[0-9]}
-echo "retired $(echo "$last" | sed 's/.*retired \\([0-9]*\\).*/\\1/')"
+retired=$(echo "$last" | sed 's/.*retired \\([0-9]*\\).*/\\1/')
+echo "retired $retired"
 for name in NAMES; do echo "$name ${COUNTED:-2}"; done
+for name in SLOTS; do
+  case $name in slots_base) echo "$name $retired" ;; slots_end) echo "$name $((2 * ${last##* } - retired))" ;; *) echo "$name 0" ;; esac
+done
 echo "$last"
 exit $status
 """
@@ -122,7 +127,8 @@ class Counted(Folder):
 
     def setUp(self):
         super().setUp()
-        self.counting = self.write("stt_stats", COUNTING.replace("STAND_IN", self.program).replace("NAMES", " ".join(numbers.NAMES[1:])))
+        self.counting = self.write("stt_stats", COUNTING.replace("STAND_IN", self.program).replace("NAMES", " ".join(numbers.COUNTS[1:]))
+                                   .replace("SLOTS", " ".join(numbers.SLOTS)))
         os.chmod(self.counting, 0o755)
 
     def test_columns(self):
@@ -131,6 +137,8 @@ class Counted(Folder):
         self.assertNotIn("no program stt_stats", told.stdout)
         for row in self.rows():
             self.assertEqual((row["retired"], row["load_misses_per_thousand"], row["mispredictions_per_thousand"]), ("500", "8.0", "8.0"))
+            self.assertEqual((row["slots_base"], row["slots_load_memory"]), ("500", "0"))
+            self.assertEqual(int(row["slots_base"]) + int(row["slots_end"]), 2 * int(row["cycles"]))
             self.assertGreater(float(row["host_seconds"]), 0)
             self.assertTrue(row["made_by"].startswith(f"stt_stats sha256 {kept.sha256(kept.content(self.counting))}, stand_in sha256 "))
         self.assertEqual([row["cycles"] for row in self.rows()], ["744", "744", "844", "844"])

@@ -28,7 +28,7 @@ given here, and no other file; each goes on where it was stopped:
 --pack makes FOLDER.tar.gz of all that the lists need, to be unpacked on another machine.
 
 Where stt_stats is found, it makes the runs: it tells the same end, and the tables have the columns load_misses_per_thousand,
-mispredictions_per_thousand and host_seconds. A run that a list made has none of these. P2 of --stats-program is that program: without it the
+mispredictions_per_thousand, slots_base and the other slots by reason, and host_seconds. A run that a list made has none of these. P2 of --stats-program is that program: without it the
 variable STT_STATS, else one beside the simulator that --program or STT_CLI names, and where neither does the one that is built in this tree. It
 has to tell the simulator's end of some cycles under each description.
 

@@ -6,11 +6,18 @@ from typing import Callable, Iterable, Mapping, NamedTuple, Optional, Sequence
 from wadrelwy import Fault, built_programs
 from wadrelwy.view.trace import END, End, read_end
 
-NAMES = (
+COUNTS = (
     "retired", "fetched", "renamed", "alu", "mul", "divisions", "division_cycles", "store_addresses", "store_data", "load_hits", "load_second",
     "load_misses", "load_joins", "load_forwards", "load_faults", "prefetch_second", "prefetch_memory", "fills", "done", "branches_taken",
     "branches_not_taken", "jumps", "mispredicted_branches", "mispredicted_jumps", "counters", "targets", "cleared_stores", "violations",
     "dependence_bits", "load_squashes", "dropped", "store_hits", "store_misses", "calls", "output_bytes")
+# the slots of retirement by reason: each slot of each cycle is in one of them
+BASE = "slots_base"
+SLOTS = (
+    BASE, "slots_front_end", "slots_misprediction", "slots_violation", "slots_call", "slots_simple", "slots_multiplier", "slots_divider",
+    "slots_store", "slots_load_first", "slots_load_second", "slots_load_memory", "slots_registers", "slots_resolve", "slots_clear",
+    "slots_store_port", "slots_end")
+NAMES = (*COUNTS, *SLOTS)
 # stands for itself and any greater number
 MOST = 18446744073709551615
 CYCLES = "cycles"
@@ -122,10 +129,24 @@ def read(lines: Iterable[str], every: Optional[int] = None, seen: Callable[[Row]
     return checked(Told(rows, {CYCLES: end.cycles, **counts}, end), every) if end else None
 
 
+def shares(counts: Counts) -> dict[str, Optional[float]]:
+    """The part of all slots that each reason has; none where that isn't known, as a number stands for greater ones, or there is no slot."""
+    numbers = [counts[name] for name in SLOTS]
+    known = sum(numbers) and MOST not in numbers
+    return {name: counts[name] / sum(numbers) if known else None for name in SLOTS}
+
+
+def has_slots(counts: Counts, cycles: int) -> bool:
+    """Whether each cycle has as many slots as any other, as far as that is known; and as many instructions are in them as retired."""
+    numbers = [counts[name] for name in SLOTS]
+    return MOST in numbers or counts[BASE] == counts["retired"] and (sum(numbers) % cycles == 0 if cycles else sum(numbers) == 0)
+
+
 def checked(told: Told, every: Optional[int]) -> Told:
     """Refuses what can't be of one run."""
     parts = {name: sum(row.counts[name] for row in told.rows) for name in NAMES}
     more = [name for name in NAMES if told.counts[name] != MOST and parts[name] > told.counts[name]]
-    if more or told.counts["retired"] != told.end.retired or every and len(told.rows) != told.end.cycles // every:
+    slots = all(has_slots(row.counts, row.counts[CYCLES]) for row in (*told.rows, told))
+    if more or not slots or told.counts["retired"] != told.end.retired or every and len(told.rows) != told.end.cycles // every:
         raise other_program()
     return told

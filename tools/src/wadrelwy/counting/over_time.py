@@ -5,13 +5,17 @@ from typing import Iterator, Optional, Sequence
 from wadrelwy.sweep.plots import BOTTOM, HEIGHT, LEFT, RIGHT, TOP, Drawing, Scale, axis, heading
 
 from .asked import Of
-from .numbers import CPI, CYCLES, MEMORY, MISPREDICTIONS, MISSES, NAMES, Row, Told, reckoned
+from .numbers import CPI, CYCLES, MEMORY, MISPREDICTIONS, MISSES, NAMES, SLOTS, Row, Told, reckoned, shares
 
 WIDE, MOST_POINTS, MARKS, LINE = 900, 450, 6, 14
 # the panels from above: what is drawn, its title, its colour
 PANELS = ((CPI, "cycles per instruction", "#2e86c1"), (MISSES, "load misses per thousand instructions", "#ec7014"),
           (MEMORY, "loads from memory per thousand instructions", "#b9770e"),
           (MISPREDICTIONS, "mispredictions per thousand instructions", "#984ea3"))
+# the colours of the slots by reason, from the foot of the stack on, and how many columns their names have below it
+COLOURS = dict(zip(SLOTS, ("#4daf4a", "#b3b3b3", "#984ea3", "#c48fd0", "#8c8c8c", "#a6cee3", "#6fa8dc", "#1f78b4", "#5ab4ac", "#fee391", "#fec44f",
+                           "#ec7014", "#e9a3c9", "#d7301f", "#b2df8a", "#f4c7dc", "#444444"), strict=True))
+COLUMNS = 6
 
 
 def merged(rows: Sequence[Row]) -> list[Row]:
@@ -45,6 +49,7 @@ def picture(of: Of, told: Told) -> str:
     drawing.height, drawing.width = 30, max(drawing.width, LEFT + WIDE + RIGHT)
     for name, title, colour in PANELS:
         panel(drawing, [(row.cycle, figure[name]) for row, figure in zip(rows, figures)], title, colour)
+    stack(drawing, rows)
     facts = [told.end.text, *(f"{name} {of.digests[name]}" for name in of.question.files), of.cited]
     for fact in facts:
         drawing.height += LINE
@@ -69,3 +74,33 @@ def panel(drawing: Drawing, points: Sequence[tuple[int, Optional[float]]], title
         for (x, y), (cycle, value) in zip(dots, part):
             drawing.pieces.append(f'<circle cx="{x:.1f}" cy="{y:.1f}" r="2" fill="{colour}"><title>cycle {cycle}: {value:.3f}</title></circle>')
     drawing.height = top + HEIGHT + BOTTOM
+
+
+def stack(drawing: Drawing, rows: Sequence[Row]) -> None:
+    """Of each row the part of its slots that each reason has, one on the other; below them what the colours are."""
+    top, last, began = drawing.height + TOP, max([1, *(row.cycle for row in rows)]), 0
+    drawing.text(LEFT, top - 10, "slots of retirement by reason, in percent", "start", 12, 'font-weight="bold"')
+    axis(drawing, Scale([100.0], top), LEFT, LEFT + WIDE, lambda value: f"{value:g}")
+    scale, used = Scale([100.0], top), set()
+    for row in rows:
+        left, right, below = LEFT + WIDE * began / last, LEFT + WIDE * row.cycle / last, 0.0
+        for name, share in shares(row.counts).items():
+            if share:
+                upper, used = below + 100 * share, used | {name}
+                drawing.pieces.append(
+                    f'<rect x="{left:.1f}" y="{scale.y(upper):.1f}" width="{right - left:.1f}" height="{scale.y(below) - scale.y(upper):.1f}" '
+                    f'fill="{COLOURS[name]}"><title>cycles {began + 1} to {row.cycle}, {plain(name)}: {100 * share:.1f} %</title></rect>')
+                below = upper
+        began = row.cycle
+    for mark in range(MARKS + 1):
+        drawing.text(LEFT + WIDE * mark / MARKS, top + HEIGHT + 16, f"{last * mark / MARKS:.0f}")
+    for place, name in enumerate(name for name in SLOTS if name in used):
+        x, y = LEFT + place % COLUMNS * WIDE / COLUMNS, top + HEIGHT + 34 + place // COLUMNS * LINE
+        drawing.pieces.append(f'<rect x="{x:.1f}" y="{y - 9:.1f}" width="9" height="9" fill="{COLOURS[name]}"/>')
+        drawing.text(x + 13, y, plain(name), "start", 9)
+    drawing.height = top + HEIGHT + BOTTOM + -(-len(used) // COLUMNS) * LINE
+
+
+def plain(name: str) -> str:
+    """A reason in words."""
+    return name.removeprefix("slots_").replace("_", " ")

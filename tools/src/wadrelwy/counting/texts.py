@@ -3,7 +3,7 @@ import json
 from typing import Iterator, Optional
 
 from .asked import Of
-from .numbers import CYCLES, FIGURES, GEM5, MOST, NAMES, RECKONED, Row, Told, reckoned
+from .numbers import COUNTS, CYCLES, FIGURES, GEM5, MOST, NAMES, RECKONED, SLOTS, Row, Told, reckoned, shares
 
 HEADS = ("cycle", "retired", "cycles per instruction", "load misses", "memory loads", "mispredictions")
 WIDTHS = (12, 12, 24, 13, 14, 16)
@@ -38,8 +38,12 @@ def row_line(row: Row) -> str:
 def whole_lines(told: Told) -> Iterator[str]:
     """The numbers of the whole run, what is reckoned from them, and gem5's names."""
     yield ""
-    for name in NAMES:
+    for name in COUNTS:
         yield f"{name:{NAME}}{told.counts[name]:>{VALUE}}" + (" or more" if told.counts[name] == MOST else "")
+    yield ""
+    for name, share in shares(told.counts).items():
+        part = "" if share is None else f"   {100 * share:.1f} % of all slots"
+        yield f"{name:{NAME}}{told.counts[name]:>{VALUE}}" + (" or more" if told.counts[name] == MOST else part)
     yield ""
     for name, figure in RECKONED.items():
         yield f"{name.replace('_', ' '):{NAME}}{plain(figure.of(told.counts)):>{VALUE}}   {figure.told}"

@@ -29,7 +29,7 @@ class Refuted(Exception):
 class Row(NamedTuple):
     """A run that is over, or that is refused. `slowdown` is how much longer it takes than the same without protection, 0.1 for a tenth; none
     where no such run is there, or one of the two didn't end by an exit. `against` is how much longer than the same of another build. Where it
-    was counted there are its misses and mispredictions for a thousand instructions, and the seconds that it took."""
+    was counted there are its misses and mispredictions for a thousand instructions, its slots by reason, and the seconds that it took."""
     program: str
     description: str
     values: dict
@@ -41,6 +41,7 @@ class Row(NamedTuple):
     against: Optional[float] = None
     misses: Optional[float] = None
     mispredictions: Optional[float] = None
+    slots: Optional[dict] = None
     seconds: Optional[float] = None
 
     @property
@@ -159,7 +160,8 @@ def with_counts(row, counted):
         return row
     told, seconds = counted
     figures = numbers.reckoned(told.counts)
-    return row._replace(misses=figures[numbers.MISSES], mispredictions=figures[numbers.MISPREDICTIONS], seconds=seconds)
+    slots = {name: told.counts[name] for name in numbers.SLOTS}
+    return row._replace(misses=figures[numbers.MISSES], mispredictions=figures[numbers.MISPREDICTIONS], slots=slots, seconds=seconds)
 
 
 def with_slowdowns(found):
@@ -231,8 +233,8 @@ def records(found, keys, cited):
                   "instructions_per_cycle": round(row.retired / row.cycles, 4) if row.cycles else None,
                   "slowdown": rounded(row.slowdown, 6)}
                | ({"against": rounded(row.against, 6)} if against else {})
-               | ({numbers.MISSES: rounded(row.misses, 4), numbers.MISPREDICTIONS: rounded(row.mispredictions, 4), "host_seconds": row.seconds}
-                  if counted else {})
+               | ({numbers.MISSES: rounded(row.misses, 4), numbers.MISPREDICTIONS: rounded(row.mispredictions, 4)}
+                  | (row.slots or dict.fromkeys(numbers.SLOTS)) | {"host_seconds": row.seconds} if counted else {})
                | {"made_by": cited})
 
 
