@@ -1,6 +1,7 @@
 pub mod Before
 pub mod Sources
-pub mod Covering
+pub mod Giving
+pub mod Lending
 pub mod Getting
 pub mod Exposed
 pub mod YoungestFirst

@@ -3,6 +3,7 @@ use Rattle.std.specs.Prelude.{◌≡◌, ℕ, List, length, slice_get, Some}
 use Rattle.window_model.specs.declared.Entry.{Entry}
 use Rattle.window_model.specs.Order.{before_at}
 use Rattle.rob_ring.specs.declared.beside.Sources.{Sources}
+use Rattle.lsq.specs.Queues.{Queues}
 use Rattle.refinement.specs.InFlight.{InFlight}
 use Rattle.refinement.specs.Refines.{Refines}
 use Rattle.secret_marks.specs.declared.EntryMarks.{EntryMarks}
@@ -11,15 +12,15 @@ use Rattle.entry_marks.specs.declared.marks.Marks.{Marks as Beside}
 use Rattle.entry_marks.specs.declared.walk.Walk.{Walk}
 use Rattle.entry_marks.specs.Beside.{marks_before}
 
--- the sources, with some other parts, refine the window, and each entry has its marks
-pub record RefinesBeside (window : List Entry) (sources : List Sources) (marks : List EntryMarks) : Type 0 where
+-- the sources and queues, with some other parts, refine the window, and each entry has its marks
+pub record RefinesBeside (window : List Entry) (sources : List Sources) (queues : Queues) (marks : List EntryMarks) : Type 0 where
   pub rest : InFlight
-  pub refines : Refines (record rest { window = window; sources = sources })
+  pub refines : Refines (record rest { window = window; sources = sources; queues = queues })
   pub step : length marks ≡ length window
 
--- the sources that a walk looks at refine its window, and each entry has its marks
+-- the sources and queues that a walk looks at refine its window, and each entry has its marks
 abbrev pub WalkInvariant : Walk → Type 0
-WalkInvariant w = RefinesBeside w.rob.now.entries w.sources.now.items w.marks.now.items
+WalkInvariant w = RefinesBeside w.rob.now.entries w.sources.now.items w.lsq.now w.marks.now.items
 
 -- the entry stands at position i, counted from the oldest
 abbrev pub StandsAt : Walk → ℕ → Entry → Type 0

@@ -39,7 +39,7 @@ impl<'a> Walk<'a> {
         if entry.is_faulty() {
             return UNMARKED;
         }
-        self.loaded(i, entry.op(), entry.addr())
+        self.loaded(entry)
     }
 
     // Whether the entry at a position is a branch or JALR that goes by something marked.

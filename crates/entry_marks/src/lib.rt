@@ -3,7 +3,7 @@
 //! or JALR that is resolved.
 //!
 //! Each function answers what its definition in `secret_marks` says; marks of single words are those of `mark_words`.
-//! `marked_core` walks them beside a core.
+//! Which store gives a byte to a load the queue of stores tells. `marked_core` walks them beside a core.
 //!
 //! Rules: `secret_marks/specs/Marks.antt`, `Results.antt`, `Shows.antt`, `Shown.antt`; `specs/Walk.antt`, what is
 //! looked at; `Oldest.antt`, what Retire's entries leave; `Named.antt`, which entries are named as those that issued;

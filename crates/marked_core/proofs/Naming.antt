@@ -8,7 +8,6 @@ use Rattle.window_model.specs.Issue.{issue}
 use Rattle.window_model.specs.State.{Machine}
 use Rattle.machine_facts.proofs.Ports.{issue_adds}
 use Rattle.core_parts.specs.Described.{Described}
-use Rattle.core_parts.specs.Held.{Held, Whole, described}
 use Rattle.issue.specs.Named.{NamesIssued}
 use Rattle.entry_marks.specs.Named.{NamesEachIssued, has_issued}
 use Rattle.entry_marks.proofs.Fitting.{each_at}
@@ -45,7 +44,3 @@ issue_names s s2 positions e fresh names =
     let cycle : s2.machine.cycle ≡ s.machine.cycle = ap (λ (x : Machine). x.cycle) machine ∙ (issue_adds s.desc s.machine).cycle in
     let same : length s2.machine.window ≡ length s.machine.window = ap (λ (x : Machine). length x.window) machine ∙ issue_keeps s.desc s.machine in
     subst (λ n. NamesEachIssued n s2.machine.window positions) (sym cycle) (names_each s.machine.cycle s.machine.window s2.machine.window positions names same fresh)
-
--- what is named of the machine is named of the parts
-pub named_beside : (h : Held) (v : Described) (positions : List ℕ) → Whole h → described h ≡ v → NamesEachIssued v.machine.cycle v.machine.window positions → NamesEachIssued h.cycle h.rob.entries positions
-named_beside h v positions w s n = subst (λ (v : Described). NamesEachIssued v.machine.cycle v.machine.window positions) (sym s) n

@@ -1,15 +1,14 @@
 -- Marks stay in step with the entries in flight, phase by phase.
-use Rattle.std.proofs.Common.{◌≡◌, ℕ, ◌+◌, ◌-◌, ◌≤◌, List, [], ◌++◌, length, take, drop, replicate, ap, sym, ◌∙◌, subst, arith}
+use Rattle.std.proofs.Common.{◌≡◌, ℕ, ◌+◌, ◌-◌, ◌≤◌, ◌++◌, length, take, drop, replicate, ap, sym, ◌∙◌, subst, arith}
 use Rattle.std.proofs.lemmas.List.{length-drop}
 use Rattle.circular_buffer.specs.Buffer.{Buffer, buffer}
 use Rattle.visibility.specs.Point.{Point}
 use Rattle.window_model.specs.State.{Machine}
 use Rattle.core_parts.specs.Described.{Described}
-use Rattle.core_parts.specs.Held.{Held, Whole, described, in_flight}
 use Rattle.secret_marks.specs.declared.EntryMarks.{EntryMarks}
-use Rattle.secret_marks.specs.Marks.{Marks as Beside, after_issue_marks, cut, extended, issued_from, new_entry}
+use Rattle.secret_marks.specs.Marks.{cut, extended, new_entry}
 use Rattle.entry_marks.specs.declared.marks.Marks.{Marks}
-use Rattle.entry_marks.specs.Walk.{RefinesBeside, marks_of, marks_with}
+use Rattle.entry_marks.specs.Walk.{marks_of, marks_with}
 use Rattle.marked_core.specs.InStep.{InStep}
 use Rattle.marked_core.proofs.Lengths.{cut_length, extended_length}
 
@@ -69,19 +68,3 @@ pub marks_extended : (m : Marks) (w : Buffer EntryMarks) (n : ℕ) (s : Describe
 marks_extended m w n s count e =
     ap (λ (b : Buffer EntryMarks). marks_with m b.items) e
     ∙ ap (λ n. marks_with m (m.window.items ++ replicate (n - length m.window.items) new_entry)) count
-
--- ---- what Issue looks at
-
--- the parts refine the window that Issue looks at, and each entry has its marks
-pub parts_beside : (h : Held) (v : Described) (ms : List EntryMarks) → Whole h → described h ≡ v → length ms ≡ length v.machine.window → RefinesBeside h.rob.entries h.sources.items ms
-parts_beside h v ms w s e = record {
-  rest = in_flight h;
-  refines = w.refines;
-  step = e ∙ sym (ap (λ (v : Described). length v.machine.window) s);
-}
-
-pub marks_issued : (h : Held) (v : Described) (m : Beside) (base : ℕ) → Whole h → described h ≡ v → base ≡ v.machine.ram.base →
-    ◌≡◌ {A = Beside} record m { window = issued_from h.cycle base m [] [] h.rob.entries m.window } (after_issue_marks v.machine m)
-marks_issued h v m base w s e =
-    ap (λ base. let n : Beside = record m { window = issued_from h.cycle base m [] [] h.rob.entries m.window } in n) (e ∙ sym (ap (λ (v : Described). v.machine.ram.base) s))
-    ∙ ap (λ (v : Described). after_issue_marks v.machine m) s

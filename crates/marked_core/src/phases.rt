@@ -16,7 +16,6 @@ ghost use Rattle.secret_marks.specs.Marks.{after_issue_marks, after_retire_marks
 ghost use Rattle.secret_marks.specs.Published.{published_marks};
 ghost use Rattle.secret_marks.specs.Streams.{public_in};
 ghost use Rattle.secret_marks.specs.Shown.{head_shown, operands_shown, resolved_shown};
-ghost use Rattle.entry_marks.specs.Named.{NamesEachIssued};
 ghost use Rattle.entry_marks.specs.Walk.{marks_of};
 ghost use Rattle.marked_core.specs.InStep.{AsNoted, InStep, NotYet};
 
@@ -148,23 +147,6 @@ pub(crate) fn retire_marked<R: RenameTaint>(
     shown
 }
 
-// The entries at these positions, which issued in this cycle, get the marks of their operands.
-fn mark<R: RenameTaint>(parts: &Parts<R>, marks: &mut Marks, issued: &[u32])
-    requires step { InStep parts.now marks.old }
-    requires named { NamesEachIssued parts.now.machine.cycle parts.now.machine.window issued.now }
-    ensures marks { marks_of marks.new ≡ after_issue_marks parts.now.machine (marks_of marks.old) }
-    ensures step { InStep parts.now marks.new }
-{
-    mark_issued(
-        &parts.rob,
-        &parts.sources,
-        marks,
-        issued,
-        base(parts),
-        parts.cycle,
-    );
-}
-
 /// Phase Issue, in a cycle in which nothing has issued yet. What issues, as the phase names it, gets the marks of its
 /// operands. What shows is the oldest operand that tells an address or the time of a division and is marked, as the
 /// phase finds it.
@@ -189,7 +171,7 @@ pub(crate) fn issue_marked<R: RenameTaint>(
 {
     let shown = operands_shown(parts, marks);
     let issued = issue(parts, row);
-    mark(parts, marks, issued.as_slice());
+    mark_issued(parts, marks, issued.as_slice());
     shown
 }
 

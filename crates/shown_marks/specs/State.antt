@@ -37,6 +37,7 @@ flight_of rest s = record rest {
   window = window_of s;
   sources = s.walk.sources.now.items;
   held = s.stations.now.held;
+  queues = s.walk.lsq.now;
   point = s.point.now;
 }
 

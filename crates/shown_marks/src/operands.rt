@@ -59,6 +59,7 @@ pub fn operands_shown<R: RenameTaint>(parts: &Parts<R>, marks: &Marks) -> Option
         walk: Walk {
             rob: &parts.rob,
             sources: &parts.sources,
+            lsq: &parts.lsq,
             marks: &marks.window,
             regs: &marks.regs,
             bytes: &marks.bytes,

@@ -7,9 +7,9 @@ use Rattle.entry_marks.proofs.issuing.mark_issued.Given as goal
 -- the entries behind those that the first k positions name have the marks with which Issue leaves them, the others
 -- those that they had
 abbrev pub invariant-loop-k : goal.invariant-loop-k
-invariant-loop-k l = record {
+invariant-loop-k g l = record {
   marks : marks_of l.marks
-      ≡ marks_with l.initial.marks (left_from l.cycle l.base (marks_of l.initial.marks) l.rob.entries l.initial.marks.window.items (behind l.issued l.k));
+      ≡ marks_with l.initial.marks (left_from l.parts.machine.cycle l.parts.machine.ram.base (marks_of l.initial.marks) l.parts.machine.window l.initial.marks.window.items (behind l.issued l.k));
   step : length l.marks.window.items ≡ length l.initial.marks.window.items;
   room : l.marks.window.capacity ≡ l.initial.marks.window.capacity;
 }

@@ -1,9 +1,0 @@
-use Rattle.std.proofs.Common.{◌≡◌}
-use Rattle.secret_marks.specs.Marks.{byte_mark}
-use Rattle.entry_marks.specs.Walk.{entries_at, marks_at}
-use Rattle.entry_marks.proofs.walk.Walk.byte_mark.Given as goal
-
-abbrev pub invariant-loop-k : goal.invariant-loop-k
-invariant-loop-k l =
-    byte_mark l.self.cycle l.self.base l.self.bytes.now.items (entries_at l.self l.k) (marks_at l.self l.k) l.a
-    ≡ byte_mark l.self.cycle l.self.base l.self.bytes.now.items (entries_at l.self l.i) (marks_at l.self l.i) l.a
