@@ -10,15 +10,15 @@ use Rattle.branch_resolve.specs.declared.effect.Resolution.{Resolution}
 use Rattle.branch_resolve.specs.declared.effect.Resolution.TheVariants.{Right, Wrong, Fault}
 
 -- the predictor after it has learnt from the entry
-abbrev pub taught : Desc → Tables → Entry → Tables
-taught d p e = record {
+abbrev pub tables_after_learning : Desc → Tables → Entry → Tables
+tables_after_learning d p e = record {
   counters = (learn d e p.counters p.targets).counters;
   targets = (learn d e p.counters p.targets).targets;
 }
 
 -- the events of what the predictor learns of an entry
-abbrev pub told : Desc → Tables → Entry → List Event
-told d p e = (learn d e p.counters p.targets).events
+abbrev pub learn_events : Desc → Tables → Entry → List Event
+learn_events d p e = (learn d e p.counters p.targets).events
 
 -- the entry will trap, or its next address is the one that was predicted, or it isn't
 abbrev pub resolution_of : Entry → Resolution

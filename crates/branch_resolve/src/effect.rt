@@ -3,7 +3,7 @@ ghost use Rattle.std.specs.Prelude.{◌≡◌, if◌then◌else◌, length};
 ghost use Rattle.window_model.specs.declared.Way.TheVariants as way;
 ghost use Rattle.window_model.specs.inner.Row.{HasRoom, IsLonger, with_events};
 ghost use Rattle.predictor.specs.Tables.{InEach, IsAsked};
-ghost use Rattle.branch_resolve.specs.Effect.{taught, told, resolution_of};
+ghost use Rattle.branch_resolve.specs.Effect.{tables_after_learning, learn_events, resolution_of};
 
 use history_pred::History;
 use predictor::Predictor;
@@ -34,8 +34,8 @@ pub fn resolve(
     requires room { HasRoom 2 row.old }
     requires same_counters { history.now.counters ≡ length predictor.old.counters }
     ensures described { IsAsked (length predictor.old.counters) (length predictor.old.targets) }
-    ensures learnt { InEach predictor.old (λ d. predictor.new ≡ taught d predictor.old entry.now) }
-    ensures row { InEach predictor.old (λ d. row.new ≡ with_events row.old (told d predictor.old entry.now)) }
+    ensures learnt { InEach predictor.old (λ d. predictor.new ≡ tables_after_learning d predictor.old entry.now) }
+    ensures row { InEach predictor.old (λ d. row.new ≡ with_events row.old (learn_events d predictor.old entry.now)) }
     ensures few { IsLonger 2 row.old row.new }
     ensures resolution { result ≡ resolution_of entry.now }
 {
@@ -48,8 +48,8 @@ pub fn resolve(
 fn teach(entry: &Entry, history: &History, predictor: &mut Predictor, row: &mut Row)
     requires room { HasRoom 2 row.old }
     requires same_counters { history.now.counters ≡ length predictor.old.counters }
-    ensures learnt { InEach predictor.old (λ d. predictor.new ≡ taught d predictor.old entry.now) }
-    ensures row { InEach predictor.old (λ d. row.new ≡ with_events row.old (told d predictor.old entry.now)) }
+    ensures learnt { InEach predictor.old (λ d. predictor.new ≡ tables_after_learning d predictor.old entry.now) }
+    ensures row { InEach predictor.old (λ d. row.new ≡ with_events row.old (learn_events d predictor.old entry.now)) }
     ensures few { IsLonger 2 row.old row.new }
 {
     if entry.item.kind == Kind::Branch {

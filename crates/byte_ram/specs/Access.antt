@@ -29,5 +29,5 @@ abbrev pub put_of : Ram → ℕ → Width → ℕ → Ram × Result (Unit {0}) C
 put_of ram addr width value = put_by (store_fault ram addr (bytes_in width)) ram (with_bytes ram addr (to_le (bytes_in width) value))
 
 -- the bytes with others in the place of those from a place on
-abbrev pub pasted : List ℕ → ℕ → List ℕ → List ℕ
-pasted bytes at new = take at bytes ++ new ++ drop (at + length new) bytes
+abbrev pub with_bytes_from : List ℕ → ℕ → List ℕ → List ℕ
+with_bytes_from bytes at new = take at bytes ++ new ++ drop (at + length new) bytes

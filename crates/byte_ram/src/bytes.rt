@@ -1,7 +1,7 @@
 //! Numbers in a slice of bytes, the lowest byte first.
 ghost use Rattle.std.specs.Prelude.{◌≡◌, ◌≤◌, ◌<◌, ◌+◌, ◌%◌, length, slice_index, slice_range};
 ghost use Rattle.rv_types.specs.Word.{from_le, to_le};
-ghost use Rattle.byte_ram.specs.Access.{pasted};
+ghost use Rattle.byte_ram.specs.Access.{with_bytes_from};
 
 use byteorder::{ByteOrder, LittleEndian};
 
@@ -33,7 +33,7 @@ pub fn word_at(bytes: &[u8], at: usize) -> u32
 /// Writes these bytes over those from a place on.
 pub(crate) fn paste(bytes: &mut [u8], at: usize, new: &[u8])
     requires { at + length new.now ≤ length bytes.old }
-    ensures { bytes.new ≡ pasted bytes.old at new.now }
+    ensures { bytes.new ≡ with_bytes_from bytes.old at new.now }
 {
     bytes[at..at + new.len()].copy_from_slice(new);
 }
@@ -41,7 +41,7 @@ pub(crate) fn paste(bytes: &mut [u8], at: usize, new: &[u8])
 /// Writes the lowest byte of a number over the byte at a place.
 pub(crate) fn put_byte(bytes: &mut [u8], at: usize, value: u32)
     requires { at + 1 ≤ length bytes.old }
-    ensures { bytes.new ≡ pasted bytes.old at (to_le 1 value) }
+    ensures { bytes.new ≡ with_bytes_from bytes.old at (to_le 1 value) }
 {
     bytes[at] = (value % 256) as u8;
 }
@@ -49,7 +49,7 @@ pub(crate) fn put_byte(bytes: &mut [u8], at: usize, value: u32)
 /// Writes the lowest two bytes of a number over those from a place on.
 pub(crate) fn put_half(bytes: &mut [u8], at: usize, value: u32)
     requires { at + 2 ≤ length bytes.old }
-    ensures { bytes.new ≡ pasted bytes.old at (to_le 2 value) }
+    ensures { bytes.new ≡ with_bytes_from bytes.old at (to_le 2 value) }
 {
     let mut two = [0u8; 2];
     LittleEndian::write_u16(&mut two, (value % 65536) as u16);
@@ -59,7 +59,7 @@ pub(crate) fn put_half(bytes: &mut [u8], at: usize, value: u32)
 /// Writes a number's four bytes over those from a place on.
 pub(crate) fn put_word(bytes: &mut [u8], at: usize, value: u32)
     requires { at + 4 ≤ length bytes.old }
-    ensures { bytes.new ≡ pasted bytes.old at (to_le 4 value) }
+    ensures { bytes.new ≡ with_bytes_from bytes.old at (to_le 4 value) }
 {
     let mut four = [0u8; 4];
     LittleEndian::write_u32(&mut four, value);

@@ -1,7 +1,7 @@
 //! One level of a cache: all its sets.
 ghost use Rattle.std.specs.Prelude.{◌≡◌, ◌<◌, ◌≤◌, ◌==◌, not, true, [], ◌∷◌, replicate, slice_set, slice_index_or, IfOk, vec_len};
 ghost use Rattle.std.specs.List.{filter, list_any};
-ghost use Rattle.window_model.specs.Sets.{set_in, is_in, moved_up, entered};
+ghost use Rattle.window_model.specs.Sets.{set_in, is_in, moved_up, with_front_line};
 ghost use Rattle.cache_tags.specs.Sets.{set_at};
 
 use crate::line_set::LineSet;
@@ -76,7 +76,7 @@ impl Level {
     /// A line arrives: it goes to the front of its set, whose last line goes where there are more than the ways then.
     pub fn enter(&mut self, line: u32)
         ensures entered { self.new ≡ record self.old {
-          sets = entered self.old.ways self.old.sets (set_at self.old line) line;
+          sets = with_front_line self.old.ways self.old.sets (set_at self.old line) line;
         } }
     {
         let set = set_of(line, self.bytes, self.count);
@@ -109,7 +109,7 @@ fn put_in_front(sets: &mut Vec<LineSet>, set: usize, line: u32, ways: u32)
     requires inside { set < vec_len sets.old }
     requires some { 0 < ways }
     requires few { ways ≤ 8 }
-    ensures { sets.new.items ≡ entered ways sets.old.items set line }
+    ensures { sets.new.items ≡ with_front_line ways sets.old.items set line }
 {
     sets[set].enter(line, ways);
 }

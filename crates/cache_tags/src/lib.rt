@@ -4,7 +4,7 @@
 //! A line is named by its first address. The bytes of lines are memory's, so none are kept.
 //!
 //! Rules: `window_model/specs/Sets.antt`, of any level; `State.antt`, `Fill.antt` (`with_line`), `Retire.antt`
-//! (`has_line`, `touched`), of the machine's; `docs/machine.md`, "State", "Fill", "Retire" and "Loads".
+//! (`has_line`, `with_line_touched`), of the machine's; `docs/machine.md`, "State", "Fill", "Retire" and "Loads".
 //!
 //! Promises: the cache's lines are those of the machine's cache: a line is found, moves to the front of its set, or
 //! enters it as the definitions say.

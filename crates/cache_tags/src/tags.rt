@@ -1,7 +1,7 @@
 //! The cache of a described machine.
 ghost use Rattle.std.specs.Prelude.{◌≡◌, [], replicate, IfOk};
 ghost use Rattle.window_model.specs.Fill.{with_line};
-ghost use Rattle.window_model.specs.Retire.{has_line, touched};
+ghost use Rattle.window_model.specs.Retire.{has_line, with_line_touched};
 
 use crate::level::Level;
 use machine_desc::Desc;
@@ -52,7 +52,7 @@ impl Tags {
     /// the cache has it.
     pub fn touch(&mut self, line: u32) -> bool
         ensures here { result ≡ has_line self.old.desc self.old.sets line }
-        ensures moved { self.new ≡ record self.old { sets = touched self.old.desc self.old.sets line } }
+        ensures moved { self.new ≡ record self.old { sets = with_line_touched self.old.desc self.old.sets line } }
     {
         self.level.touch(line)
     }

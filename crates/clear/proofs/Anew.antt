@@ -13,12 +13,12 @@ use Rattle.window_model.specs.State.{After, Machine}
 use Rattle.window_model.proofs.Booleans.{some_of}
 use Rattle.core_parts.specs.Described.{Described}
 use Rattle.core_parts.specs.Dropped.{StopsBelow}
-use Rattle.clear.specs.Cleared.{anew, anew_events, clearing, violated, with_cleared}
+use Rattle.clear.specs.Cleared.{anew, anew_events, clearing, violated_load, with_cleared}
 use Rattle.clear.proofs.Effects.{anew_is, cleared_is, violated_is}
 use Rattle.clear.proofs.Places.{Load, Store, load_at, load_there, rose, store_at}
 
 -- the parts as they are seen once the store is cleared
-module _ (v : Described) (serial : ℕ) (a : loads_pass v.desc ≡ true) (f : Some serial ≡ clearing v.desc v.machine) (load : ℕ) (m : Some load ≡ violated v.desc v.machine)
+module _ (v : Described) (serial : ℕ) (a : loads_pass v.desc ≡ true) (f : Some serial ≡ clearing v.desc v.machine) (load : ℕ) (m : Some load ≡ violated_load v.desc v.machine)
     (seen last : Described) (s : seen ≡ last) (l : last ≡ record v { machine = with_cleared v.desc v.machine }) (rising : Rise seen.machine.window)
     (i : ℕ) (at : i ≡ length (below load seen.machine.window)) where
   it : Store v.desc v.machine serial

@@ -10,7 +10,7 @@ use Rattle.window_model.specs.Dependence.{bit_index}
 use Rattle.window_model.specs.Order.{Place, first}
 use Rattle.window_model.specs.Serials.{Rise}
 use Rattle.window_model.specs.State.{After, Machine, nothing}
-use Rattle.clear.specs.Cleared.{anew, anew_events, cleared_at, clearing, violated, with_cleared}
+use Rattle.clear.specs.Cleared.{anew, anew_events, cleared_at, clearing, violated_load, with_cleared}
 use Rattle.clear.proofs.Places.{Store, below_load, gone}
 
 -- ---- where nothing happens at all
@@ -29,7 +29,7 @@ none_is d x h = no_place d x (loads_pass d) (first (may_clear d) x.window) h
 pub cleared_is : (d : Desc) (x : Machine) (p : Place) → first (may_clear d) x.window ≡ Some p → with_cleared d x ≡ (clears p x).machine
 cleared_is d x p h = ap (λ o. cleared_at o x) h
 
-pub violated_is : (d : Desc) (x : Machine) (p : Place) → first (may_clear d) x.window ≡ Some p → violated d x ≡ option_map (λ q. q.entry.serial) (violated_by p)
+pub violated_is : (d : Desc) (x : Machine) (p : Place) → first (may_clear d) x.window ≡ Some p → violated_load d x ≡ option_map (λ q. q.entry.serial) (violated_by p)
 violated_is d x p h = ap (λ o. option_map (λ (q : Place). q.entry.serial) (option_and_then violated_by o)) h
 
 module _ (d : Desc) (x : Machine) (serial : ℕ) (a : loads_pass d ≡ true) (k : Store d x serial) where

@@ -19,18 +19,18 @@ use Rattle.refinement.specs.Noted.{cleared_in}
 use Rattle.queue_laws.proofs.Violating.{violates}
 use Rattle.core_parts.specs.Described.{Described}
 use Rattle.core_parts.specs.Dropped.{StopsBelow}
-use Rattle.core_parts.specs.Held.{Held, Whole, described, in_flight, machine_of}
+use Rattle.core_parts.specs.Held.{Held, Whole, described_of, in_flight, machine_of}
 use Rattle.core_parts.proofs.Sizes.{sized_set}
 use Rattle.refinement.proofs.Noting.{refines_cleared}
 use Rattle.refinement.proofs.Queues.{queues_stand, queues_track}
 use Rattle.refinement.proofs.Steps.{stops_at}
 use Rattle.core_parts.proofs.Whole.{shown_by}
-use Rattle.clear.specs.Cleared.{clearing, violated, with_cleared}
+use Rattle.clear.specs.Cleared.{clearing, violated_load, with_cleared}
 use Rattle.clear.proofs.Effects.{cleared_is, violated_is}
 use Rattle.clear.proofs.Places.{Load, Store, load_at, load_younger, set_there, stands_there, store_at}
 
 -- a store that isn't cleared isn't settled
-module _ (h : Held) (v : Described) (serial : ℕ) (w : Whole h) (s : described h ≡ v) (a : loads_pass v.desc ≡ true) (f : Some serial ≡ clearing v.desc v.machine) where
+module _ (h : Held) (v : Described) (serial : ℕ) (w : Whole h) (s : described_of h ≡ v) (a : loads_pass v.desc ≡ true) (f : Some serial ≡ clearing v.desc v.machine) where
   it : Store h.desc (machine_of h) serial
   it = store_at h.desc (machine_of h) serial (subst (λ (v : Described). Some serial ≡ clearing v.desc v.machine) (sym s) f)
 
@@ -79,8 +79,8 @@ module _ (h : Held) (v : Described) (serial : ℕ) (w : Whole h) (s : described 
         ap (λ es. record (machine_of h) { window = es }) (set_there h.desc (machine_of h) serial it rises)
         ∙ sym (cleared_is h.desc (machine_of h) it.place it.is)
 
-    pub in_place_shown : described (record h { rob = rob; queues = q }) ≡ record v { machine = with_cleared v.desc v.machine }
-    in_place_shown = ap described are ∙ shown_by with_cleared h _ v machine_is s
+    pub in_place_shown : described_of (record h { rob = rob; queues = q }) ≡ record v { machine = with_cleared v.desc v.machine }
+    in_place_shown = ap described_of are ∙ shown_by with_cleared h _ v machine_is s
 
     -- ---- the load that it violates
 
@@ -92,13 +92,13 @@ module _ (h : Held) (v : Described) (serial : ℕ) (w : Whole h) (s : described 
         violates h.queues (reverse it.place.before) it.place.younger it.place.entry (subst (StandFor h.queues) here_whole (queues_stand (in_flight h) w.refines))
         (subst (Tracks h.queues) here_whole (queues_track (in_flight h) w.refines (subst (λ (v : Described). loads_pass v.desc ≡ true) (sym s) a))) (subst Rise here_whole rises) it.may.store
 
-    pub in_place_violates : (o : Option ℕ) → o ≡ violated_in serial h.queues.stores h.queues.loads → o ≡ violated v.desc v.machine
+    pub in_place_violates : (o : Option ℕ) → o ≡ violated_in serial h.queues.stores h.queues.loads → o ≡ violated_load v.desc v.machine
     in_place_violates o e =
         e
         ∙ ap (λ n. violated_in n h.queues.stores h.queues.loads) (sym it.named)
         ∙ told
         ∙ sym (violated_is h.desc (machine_of h) it.place it.is)
-        ∙ ap (λ (v : Described). violated v.desc v.machine) s
+        ∙ ap (λ (v : Described). violated_load v.desc v.machine) s
 
     -- the entries from the violated load on may go: the store stays, and the point isn't past it
     stops_by : (load : ℕ) → Load it.place load → StopsBelow load h.point rob.entries

@@ -16,7 +16,7 @@ use Rattle.lsq.specs.declared.clearing.StoreInfo.{StoreInfo}
 use Rattle.lsq.specs.declared.store.Store.{Store}
 use Rattle.visibility.specs.Point.{HasAdvanced}
 use Rattle.core_parts.specs.Described.{Described}
-use Rattle.core_parts.specs.Held.{Held, Sizes, Whole, described, in_flight}
+use Rattle.core_parts.specs.Held.{Held, Sizes, Whole, described_of, in_flight}
 use Rattle.refinement.proofs.Queues.{queues_stand}
 use Rattle.clear.specs.Cleared.{clearing}
 use Rattle.clear.specs.Clearable.{can_clear, may_clear_by}
@@ -71,7 +71,7 @@ few_stores h w =
     omega (arith, a, b, c)
 
 -- the store that the definition takes
-pub finds : (h : Held) (v : Described) (o : Option ℕ) → Whole h → described h ≡ v → loads_pass v.desc ≡ true → HasAdvanced v.point v.machine.window →
+pub finds : (h : Held) (v : Described) (o : Option ℕ) → Whole h → described_of h ≡ v → loads_pass v.desc ≡ true → HasAdvanced v.point v.machine.window →
     o ≡ option_map (λ s. s.serial) (find (can_clear h.point.serial) h.queues.stores) → o ≡ clearing v.desc v.machine
 finds h v o w s a moved e =
     let here : HasAdvanced h.point h.rob.entries = subst (λ (v : Described). HasAdvanced v.point v.machine.window) (sym s) moved in

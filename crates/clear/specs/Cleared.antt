@@ -26,8 +26,8 @@ abbrev pub with_cleared : Desc → Machine → Machine
 with_cleared d x = cleared_at (first (may_clear d) x.window) x
 
 -- the serial of the load that is violated, if one is, as the oldest store that may be cleared is cleared
-abbrev pub violated : Desc → Machine → Option ℕ
-violated d x = option_map (λ q. q.entry.serial) (option_and_then violated_by (first (may_clear d) x.window))
+abbrev pub violated_load : Desc → Machine → Option ℕ
+violated_load d x = option_map (λ q. q.entry.serial) (option_and_then violated_by (first (may_clear d) x.window))
 
 -- the machine without a load and all that is younger, with the load's bit set: fetching goes on at the load, with
 -- history and stack as they were before it

@@ -7,7 +7,7 @@ ghost use Rattle.window_model.specs.Clear.{clear};
 ghost use Rattle.window_model.specs.declared.Entry.{Entry};
 ghost use Rattle.machine_desc.specs.Questions.{loads_pass};
 ghost use Rattle.window_model.specs.inner.Row.{HasRoom, IsLonger, most_cleared, with_events};
-ghost use Rattle.clear.specs.Cleared.{anew, anew_events, clearing, most_anew, violated, with_cleared};
+ghost use Rattle.clear.specs.Cleared.{anew, anew_events, clearing, most_anew, violated_load, with_cleared};
 
 use crate::finding::clearable;
 use core_parts::Parts;
@@ -67,7 +67,7 @@ fn clear_in_place<R: RenameTaint>(serial: u64, parts: &mut Parts<R>) -> Option<u
     requires loads_pass { loads_pass parts.old.desc ≡ true }
     requires found { Some serial ≡ clearing parts.old.desc parts.old.machine }
     ensures machine { parts.new ≡ record parts.old { machine = with_cleared parts.old.desc parts.old.machine } }
-    ensures violated { result ≡ violated parts.old.desc parts.old.machine }
+    ensures violated { result ≡ violated_load parts.old.desc parts.old.machine }
     ensures stops { IfSome result (λ load. StopsBelow load parts.new.point parts.new.machine.window) }
 {
     let position = parts.rob.position_of(serial);

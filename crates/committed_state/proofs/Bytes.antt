@@ -16,9 +16,9 @@ use Rattle.window_model.specs.Along.{Behind}
 use Rattle.window_model.specs.Order.{is_store, has_address, has_data}
 use Rattle.window_model.specs.Retire.{addr_of, stored_of, byte_count}
 use Rattle.window_model.specs.Access.{reaches, covers, byte_of, byte_from}
-use Rattle.committed_state.specs.Replay.{Bank, bank, bank_after, is_clear, replayed, replayed_as, Replayed, ram_after, stored_unless}
+use Rattle.committed_state.specs.Replay.{Bank, bank, bank_after, is_clear, replay_outcome, replayed_as, FollowsReplay, ram_after, stored_unless}
 use Rattle.committed_state.specs.Computed.{ComesTo, as_known, as_known_by, bytes_found, finds, known_of, left_out}
-use Rattle.window_model.specs.Clear.{passed, shares}
+use Rattle.window_model.specs.Clear.{is_passed_by, shares}
 use Rattle.committed_state.specs.Consistent.{FitsParts, EntryInvariant, is_issued, stands_before}
 use Rattle.window_model.proofs.Booleans.{and_not, both}
 use Rattle.window_model.specs.Shape.{SameShape}
@@ -117,7 +117,7 @@ pub record Covering (l e : Entry) (b : ℕ) : Type 0 where
   pub datum : covers b e ≡ true → has_data e ≡ true
 
 -- the byte that a load finds behind an entry is that of the replay after it
-pub one_byte : (l : Entry) (ram : Ram) (m : Bank) (e : Entry) (b : ℕ) (o : Option Entry) → (is_store e.item.kind ≡ true → Covering l e b) → ComesTo e.outcome (as_known e (replayed m e)) → m.ram.base ≤ b → byte_of ram b o ≡ Byte m.ram b →
+pub one_byte : (l : Entry) (ram : Ram) (m : Bank) (e : Entry) (b : ℕ) (o : Option Entry) → (is_store e.item.kind ≡ true → Covering l e b) → ComesTo e.outcome (as_known e (replay_outcome m e)) → m.ram.base ≤ b → byte_of ram b o ≡ Byte m.ram b →
     byte_of ram b (if finds l b e then Some e else o) ≡ Byte (bank_after e m).ram b
 one_byte l ram m e b o st r le h = by_kind e.item.kind refl r
   where
@@ -126,7 +126,7 @@ one_byte l ram m e b o st r le h = by_kind e.item.kind refl r
         let t : is_store e.item.kind ≡ true = ap is_store q in
         let c = st t in
         let R : Bool = reaches b (byte_count e) e.outcome in
-        let found : finds l b e ≡ R = reached (left_out l e) (is_store e.item.kind) (has_address e) R (and_not (passed e l) e.cleared c.cleared) t c.address in
+        let found : finds l b e ≡ R = reached (left_out l e) (is_store e.item.kind) (has_address e) R (and_not (is_passed_by e l) e.cleared c.cleared) t c.address in
         let covered : covers b e ≡ R = reached false (is_store e.item.kind) (has_address e) R refl t c.address in
         byte_pick (finds l b e) ram b e o ∙ ap (λ f. if f then byte_from b e else byte_of ram b o) found
         ∙ store_byte m e b (byte_of ram b o) (subst (λ h. ComesTo e.outcome (known_of h (has_data e) (replayed_as Store m e))) c.address r) c.issued (λ t. c.datum (covered ∙ t)) le h
@@ -163,16 +163,16 @@ module _ (d : Desc) (code : Code) (s : Bank) (now : ℕ) (l : Entry) where
   covering : (before : List Entry) (e : Entry) (b : ℕ) → InLoad l b → EntryInvariant d code s now before e → stands_before l e ≡ true → is_clear e ≡ true → is_store e.item.kind ≡ true → Covering l e b
   covering before e b i st sb cl q =
       let c = is_cleared (is_store e.item.kind) e.cleared q cl in
-      let address = cleared_address (is_store e.item.kind) (has_address e) (passed e l) e.cleared (shares e l) (has_data e) q c sb in
+      let address = cleared_address (is_store e.item.kind) (has_address e) (is_passed_by e l) e.cleared (shares e l) (has_data e) q c sb in
       record {
         address = address;
         issued = store_issued e.item.kind (has_address e) (has_data e) (is_issued e) q st.parts address;
         cleared = c;
-        datum = λ t. found_data (is_store e.item.kind) (has_address e) (passed e l) e.cleared (shares e l) (has_data e) q address (and_not (passed e l) e.cleared c) (shares_byte l e b i t) sb;
+        datum = λ t. found_data (is_store e.item.kind) (has_address e) (is_passed_by e l) e.cleared (shares e l) (has_data e) q address (and_not (is_passed_by e l) e.cleared c) (shares_byte l e b i t) sb;
       }
 
   -- a byte of the load, where each older store is cleared
-  byte_is : (before : List Entry) (b : ℕ) → s.ram.base ≤ b → InLoad l b → Behind (EntryInvariant d code s now) before → list_all (stands_before l) before ≡ true → list_all is_clear before ≡ true → Replayed s before →
+  byte_is : (before : List Entry) (b : ℕ) → s.ram.base ≤ b → InLoad l b → Behind (EntryInvariant d code s now) before → list_all (stands_before l) before ≡ true → list_all is_clear before ≡ true → FollowsReplay s before →
       byte_of s.ram b (find (finds l b) before) ≡ Byte (bank s before).ram b
   byte_is [] b le i st sb cl r = refl
   byte_is (e ∷ before) b le i st sb cl r =
@@ -183,7 +183,7 @@ module _ (d : Desc) (code : Code) (s : Bank) (now : ℕ) (l : Entry) where
 
   -- the bytes of a load are the replay's
   pub load_bytes_are : (before : List Entry) (a n : ℕ) → s.ram.base ≤ a → a + n ≤ s.ram.base + length s.ram.bytes → ((x : ℕ) → a ≤ x → x < a + n → InLoad l x) →
-      Behind (EntryInvariant d code s now) before → list_all (stands_before l) before ≡ true → list_all is_clear before ≡ true → Replayed s before → bytes_found s.ram before l a n ≡ bytes_at (bank s before).ram a n
+      Behind (EntryInvariant d code s now) before → list_all (stands_before l) before ≡ true → list_all is_clear before ≡ true → FollowsReplay s before → bytes_found s.ram before l a n ≡ bytes_at (bank s before).ram a n
   load_bytes_are before a zero le fits i st sb cl r =
       let m = (bank s before).ram in
       let z : a - m.base + 0 - (a - m.base) ≡ 0 = omega arith in

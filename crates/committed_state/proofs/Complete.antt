@@ -8,7 +8,7 @@ use Rattle.window_model.specs.declared.Progress.{Progress}
 use Rattle.window_model.specs.declared.Progress.TheVariants.{Waiting, Busy, Done}
 use Rattle.window_model.specs.State.{Machine}
 use Rattle.window_model.specs.Retire.{hart_of}
-use Rattle.window_model.specs.Fill.{fill, complete, completed, completes_at}
+use Rattle.window_model.specs.Fill.{fill, complete, after_completion, completes_at}
 use Rattle.committed_state.specs.Computed.{Bank}
 use Rattle.window_model.specs.Along.{Behind}
 use Rattle.committed_state.specs.Consistent.{EntryInvariant, Holds, ConsistentIn, FitsClearing, FitsState, bank_in}
@@ -32,7 +32,7 @@ clearing_done : (p : Bool) (e : Entry) → FitsClearing p e → FitsClearing p (
 clearing_done true e c = c
 clearing_done false e c = c
 
-complete_one : (d : Desc) (code : Code) (s : Bank) (now cycle : ℕ) (b : List Entry) (e : Entry) → Behind (EntryInvariant d code s now) b → EntryInvariant d code s now b e → Kept d code s now b e (completed cycle e)
+complete_one : (d : Desc) (code : Code) (s : Bank) (now cycle : ℕ) (b : List Entry) (e : Entry) → Behind (EntryInvariant d code s now) b → EntryInvariant d code s now b e → Kept d code s now b e (after_completion cycle e)
 complete_one d code s now cycle b e h st = by_due (completes_at cycle e.state) refl
   where
     by_due : (c : Bool) → completes_at cycle e.state ≡ c → Kept d code s now b e (if c then done e else e)
@@ -58,8 +58,8 @@ complete_one d code s now cycle b e h st = by_due (completes_at cycle e.state) r
 -- Complete keeps a state consistent
 pub consistent_complete : (now : ℕ) (code : Code) (d : Desc) (x : Machine) → ConsistentIn now d code x → ConsistentIn now d code (complete x).machine
 consistent_complete now code d x h =
-    subst (λ w. Holds d code (hart_of x) now w x.queue x.fetch_pc) (map_is_each (completed x.cycle) [] x.window)
-    (each_holds d code (hart_of x) now now (λ b e. completed x.cycle e) (complete_one d code (bank_in (hart_of x)) now x.cycle) x.window x.queue x.fetch_pc h)
+    subst (λ w. Holds d code (hart_of x) now w x.queue x.fetch_pc) (map_is_each (after_completion x.cycle) [] x.window)
+    (each_holds d code (hart_of x) now now (λ b e. after_completion x.cycle e) (complete_one d code (bank_in (hart_of x)) now x.cycle) x.window x.queue x.fetch_pc h)
 
 -- Fill keeps a state consistent
 pub consistent_fill : (now : ℕ) (code : Code) (d : Desc) (x : Machine) → ConsistentIn now d code x → ConsistentIn now d code (fill d x).machine

@@ -27,7 +27,7 @@ use Rattle.window_model.proofs.Booleans.{both}
 use Rattle.window_model.proofs.KindTests.{jal_kind, op_is}
 use Rattle.window_model.proofs.Memory.{same_fault}
 use Rattle.window_model.proofs.Taints.{AllBelow}
-use Rattle.committed_state.specs.Computed.{Bank, as_known_by, bytes_found, bytes_over, computed, finds, known_of, loaded_or, outcome_as}
+use Rattle.committed_state.specs.Computed.{Bank, as_known_by, bytes_found, bytes_over, outcome_behind, finds, known_of, loaded_or, outcome_as}
 use Rattle.committed_state.specs.Consistent.{HasOperands, IsItem, executed, is_issued}
 use Rattle.committed_state.specs.Replay.{effect_on}
 
@@ -183,7 +183,7 @@ module _ (code : Code) (s s2 : Bank) (b b2 : List Entry) (e : Entry) (item : IsI
   alike_as k q o = whole k q (o issued)
 
   -- what an entry of any kind computes is the same in both, as far as it is known
-  pub alike : HasOperands e.item.kind (has_address e) (has_data e) (is_issued e) b (sources e) → as_known_by e.item.kind (has_address e) (has_data e) (outcome_as e.item.kind s2.ram e.item.instr F2 (bytes2 F2.addr)) ≡ as_known_by e.item.kind (has_address e) (has_data e) (computed s b e)
+  pub alike : HasOperands e.item.kind (has_address e) (has_data e) (is_issued e) b (sources e) → as_known_by e.item.kind (has_address e) (has_data e) (outcome_as e.item.kind s2.ram e.item.instr F2 (bytes2 F2.addr)) ≡ as_known_by e.item.kind (has_address e) (has_data e) (outcome_behind s b e)
   alike o = alike_as e.item.kind refl o
 
 -- ---- the bytes of a load

@@ -6,7 +6,7 @@ use Rattle.machine_desc.specs.declared.Desc.{Desc}
 use Rattle.window_model.specs.declared.Entry.{Entry}
 use Rattle.window_model.specs.State.{Machine, opening}
 use Rattle.window_model.specs.Order.{Place}
-use Rattle.window_model.specs.Fill.{fill, complete, completed}
+use Rattle.window_model.specs.Fill.{fill, complete, after_completion}
 use Rattle.window_model.specs.Clear.{clear, cleared_one}
 use Rattle.window_model.specs.Resolve.{resolve}
 use Rattle.window_model.specs.Retire.{retire}
@@ -39,7 +39,7 @@ module _ (d : Desc) where
 
   -- Complete keeps that what has issued had untainted operands
   pub guarded_complete : (x : Machine) → W x.window → W (complete x).machine.window
-  guarded_complete x h = subst W (map_is_each (completed x.cycle) [] x.window) (each_on G Clears clears_same (guarded_on d.stt_model) (λ b e. completed x.cycle e) (λ b e u k. guarded_completed d.stt_model x.cycle b e k) [] [] x.window tt tt h)
+  guarded_complete x h = subst W (map_is_each (after_completion x.cycle) [] x.window) (each_on G Clears clears_same (guarded_on d.stt_model) (λ b e. after_completion x.cycle e) (λ b e u k. guarded_completed d.stt_model x.cycle b e k) [] [] x.window tt tt h)
 
   -- Issue keeps that what has issued had untainted operands
   pub guarded_issue : (x : Machine) → W x.window → W (issue d x).machine.window

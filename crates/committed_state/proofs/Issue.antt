@@ -22,9 +22,9 @@ use Rattle.machine_desc.specs.Questions.{loads_pass}
 use Rattle.window_model.specs.Around.{Around, around}
 use Rattle.window_model.specs.MayIssue.{effect_of, may_issue_as}
 use Rattle.window_model.specs.Ports.{DivPort, LoadPort, may_at}
-use Rattle.window_model.specs.Issue.{issue, issue_entry, begin_as, begun, divider_after, load_as, outcome, Begun}
+use Rattle.window_model.specs.Issue.{issue, issue_entry, begin_as, executing_until, divider_after, load_as, outcome, Begun}
 use Rattle.window_model.specs.Rename.{at_once}
-use Rattle.committed_state.specs.Computed.{Bank, as_known_by, computed, loaded_or, outcome_as}
+use Rattle.committed_state.specs.Computed.{Bank, as_known_by, outcome_behind, loaded_or, outcome_as}
 use Rattle.window_model.specs.Along.{Along, Behind}
 use Rattle.committed_state.specs.Consistent.{EntryInvariant, Holds, Consistent, ConsistentIn, FitsClearing, FitsParts, FitsState, HasOperands, IsDueBy, all_issued_by, is_issued, stands_before}
 use Rattle.committed_state.proofs.Computed.{address_is, outcome_same}
@@ -43,7 +43,7 @@ use Rattle.window_model.proofs.KindTests.{store_kind}
 -- an entry stays as it is, or begins in this cycle with this outcome
 data Comes (cycle : ℕ) (e : Entry) (o : Outcome) (r : Entry) : Type 0 where
   Remains : r ≡ e → Comes cycle e o r
-  Begins : (due : ℕ) → r ≡ begun cycle e due o → Comes cycle e o r
+  Begins : (due : ℕ) → r ≡ executing_until cycle e due o → Comes cycle e o r
 
 -- ---- what an entry gets is what it computes
 
@@ -118,7 +118,7 @@ consistent_later now code d x h = record { entries = along_later d code (bank_of
 
 -- ---- an entry in one piece that begins
 
-clearing_begun : (p : Bool) (cycle : ℕ) (e : Entry) (due : ℕ) (o : Outcome) → FitsClearing p e → FitsClearing p (begun cycle e due o)
+clearing_begun : (p : Bool) (cycle : ℕ) (e : Entry) (due : ℕ) (o : Outcome) → FitsClearing p e → FitsClearing p (executing_until cycle e due o)
 clearing_begun true cycle e due o c = c
 clearing_begun false cycle e due o c = c
 
@@ -138,15 +138,15 @@ module _ (d : Desc) (code : Code) (x : Machine) (b : List Entry) (e : Entry) (h 
   waits_so (Busy due) w f = absurd (cc)
 
   -- what an entry that begins gets is what it computes
-  computed_so : (due : ℕ) → computed (bank_of x) b (begun x.cycle e due O) ≡ O
+  computed_so : (due : ℕ) → outcome_behind (bank_of x) b (executing_until x.cycle e due O) ≡ O
   computed_so due =
-      let l = begun x.cycle e due O in
+      let l = executing_until x.cycle e due O in
       outcome_same x.ram x.ram e.item.instr (same_shape x.ram) e.item.kind F F _ _ refl (λ z y. bytes_now d code (bank_of x) x.cycle l refl b F.addr (width_in e.item.instr) h)
 
   -- older stores let a load go that begins so
-  stores_so : (due : ℕ) → is_store e.item.kind ≡ false → is_load e.item.kind ≡ true → may_issue_as e.item.kind d (around x) b e ≡ true → list_all (stands_before (begun x.cycle e due O)) b ≡ true
+  stores_so : (due : ℕ) → is_store e.item.kind ≡ false → is_load e.item.kind ≡ true → may_issue_as e.item.kind d (around x) b e ≡ true → list_all (stands_before (executing_until x.cycle e due O)) b ≡ true
   stores_so due n z m =
-      let l = begun x.cycle e due O in
+      let l = executing_until x.cycle e due O in
       let ad = address_is code x.regs b e st.item (ap (λ t. t || is_store e.item.kind) z) in
       let o = load_out e.item.kind x.ram l F (load_bytes x.ram b F.addr (width_in e.item.instr)) (Some O) z (sym (whole_known e.item.kind (has_address e) (has_data e) O n)) refl in
       stands_behind d code (bank_of x) x.cycle l refl (around x) b e refl (o.0 ∙ ad) (o.1 ∙ ap (λ a. load_fault x.ram a (byte_count e)) ad) h (load_behind e.item.kind d (around x) b e m z)
@@ -159,12 +159,12 @@ module _ (d : Desc) (code : Code) (x : Machine) (b : List Entry) (e : Entry) (h 
       let c = has_data e in
       let t = waits_so e.state m.waits st.state in
       let p = whole_parts k a c (is_issued e) true n st.parts in
-      let l = begun x.cycle e due O in
+      let l = executing_until x.cycle e due O in
       let made : EntryInvariant d code (bank_of x) (x.cycle + 1) b l = record {
         item = st.item;
         parts = p.2;
         state = (whole_issued k a c true n, t.0, t.1);
-        computed = sym (whole_known k a c (computed (bank_of x) b l) n ∙ computed_so due);
+        computed = sym (whole_known k a c (outcome_behind (bank_of x) b l) n ∙ computed_so due);
         operands = whole_operands k a c true d b e n m.ready;
         stores = λ i z. stores_so due n z m.kind;
         clearing = clearing_begun (loads_pass d) x.cycle e due O st.clearing;

@@ -21,10 +21,10 @@ use Rattle.window_model.specs.Retire.{hart_of, width_in}
 use Rattle.window_model.proofs.Booleans.{both, or_true}
 use Rattle.window_model.proofs.EntryByEntry.{behind_of}
 use Rattle.window_model.proofs.Memory.{inside}
-use Rattle.committed_state.specs.Computed.{Bank, ComesTo, as_known, as_known_by, computed, outcome_as}
+use Rattle.committed_state.specs.Computed.{Bank, ComesTo, as_known, as_known_by, outcome_behind, outcome_as}
 use Rattle.committed_state.specs.Consistent.{EntryInvariant, FitsClearing, FitsParts, FitsState, all_issued, all_issued_by, bank_in, executed, goes_through, is_issued}
 use Rattle.committed_state.specs.Laws.{AllClearUnlessPassing, IssuedIsReplayed}
-use Rattle.committed_state.specs.Replay.{Replayed, bank, is_clear, replayed}
+use Rattle.committed_state.specs.Replay.{FollowsReplay, bank, is_clear, replay_outcome}
 use Rattle.committed_state.proofs.Bytes.{keeps_bank, load_bytes_are, store_issued}
 use Rattle.committed_state.proofs.Computed.{alike, effect_alone}
 use Rattle.committed_state.proofs.Onward.{comes_to, in_load}
@@ -74,7 +74,7 @@ has_value d code s now (e ∷ b) r h t k =
 module _ (d : Desc) (code : Code) (s : Bank) (now : ℕ) (n : length s.regs ≡ 32) where
   -- what an issued entry computes is what its replay comes to, where older entries have theirs and older stores are
   -- cleared
-  replayed_so : (b : List Entry) (e : Entry) → Replayed s b → list_all is_clear b ≡ true → Behind (EntryInvariant d code s now) b → EntryInvariant d code s now b e → is_issued e ≡ true → as_known e (replayed (bank s b) e) ≡ as_known e (computed s b e)
+  replayed_so : (b : List Entry) (e : Entry) → FollowsReplay s b → list_all is_clear b ≡ true → Behind (EntryInvariant d code s now) b → EntryInvariant d code s now b e → is_issued e ≡ true → as_known e (replay_outcome (bank s b) e) ≡ as_known e (outcome_behind s b e)
   replayed_so b e r cl h st i =
       let w = width_in e.item.instr in
       let m = bank s b in
@@ -84,13 +84,13 @@ module _ (d : Desc) (code : Code) (s : Bank) (now : ℕ) (n : length s.regs ≡ 
       (λ l f. let j = inside _ _ s.ram F.addr w f in sym (load_bytes_are d code s now e b F.addr w j.0 j.1 (λ a le lt. in_load d code s now b e st i l f a le lt) h (st.stores i l) cl r)) i st.operands
 
   -- every entry that one looks back on has the outcome of its replay, as far as it is known
-  pub replayed_behind : (b : List Entry) → Behind (EntryInvariant d code s now) b → Replayed s b
+  pub replayed_behind : (b : List Entry) → Behind (EntryInvariant d code s now) b → FollowsReplay s b
   replayed_behind [] h = tt
   replayed_behind (e ∷ b) h = let r = replayed_behind b h.1 in (λ cl. comes_to e.outcome _ _ (replayed_so b e r cl h.1 h.0) h.0.computed, r)
 
   -- a head of which all has issued has the outcome of its replay on the retired state
-  pub replayed_head : (e : Entry) → EntryInvariant d code s now [] e → all_issued e ≡ true → ComesTo e.outcome (replayed s e)
-  replayed_head e st a = subst (ComesTo e.outcome) (known_all e.item.kind (has_address e) (has_data e) (is_issued e) (replayed s e) a) ((replayed_behind (e ∷ []) (st, tt)).0 refl)
+  pub replayed_head : (e : Entry) → EntryInvariant d code s now [] e → all_issued e ≡ true → ComesTo e.outcome (replay_outcome s e)
+  replayed_head e st a = subst (ComesTo e.outcome) (known_all e.item.kind (has_address e) (has_data e) (is_issued e) (replay_outcome s e) a) ((replayed_behind (e ∷ []) (st, tt)).0 refl)
 
 -- in a consistent state each issued entry has the outcome of its replay
 pub issued_is_replayed : IssuedIsReplayed

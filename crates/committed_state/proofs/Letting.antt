@@ -12,7 +12,7 @@ use Rattle.rv_types.specs.declared.Kind.TheVariants.{Store}
 use Rattle.machine_desc.specs.declared.Desc.{Desc}
 use Rattle.window_model.specs.declared.Entry.{Entry}
 use Rattle.window_model.specs.Access.{byte_of, covers, load_bytes}
-use Rattle.window_model.specs.Clear.{is_before, passed, shares}
+use Rattle.window_model.specs.Clear.{is_before, is_passed_by, shares}
 use Rattle.machine_desc.specs.Questions.{loads_pass}
 use Rattle.window_model.specs.Dependence.{waits_for_stores}
 use Rattle.window_model.specs.Along.{Behind, Fact}
@@ -85,13 +85,13 @@ module _ (d : Desc) (code : Code) (s : Bank) (now : ℕ) (l : Entry) (begins : l
   abbrev S : Fact
   S = EntryInvariant d code s now
 
-  not_passed : (b : List Entry) (e : Entry) → S b e → passed e l ≡ false
+  not_passed : (b : List Entry) (e : Entry) → S b e → is_passed_by e l ≡ false
   not_passed b e st = and_no (is_load l.item.kind) (is_before l.issued e.addr_due) (ap (λ i. is_before i e.addr_due) begins ∙ not_after now e.addr_due st.due)
 
   find_now : (b : List Entry) (a : ℕ) → Behind S b → find (finds l a) b ≡ find (covers a) b
   find_now [] a h = refl
   find_now (e ∷ b) a h =
-      ap (λ c. if c then Some e else find (finds l a) b) (found_so (passed e l) (not e.cleared) (covers a e) (not_passed b e h.0)) ∙ ap (λ o. if covers a e then Some e else o) (find_now b a h.1)
+      ap (λ c. if c then Some e else find (finds l a) b) (found_so (is_passed_by e l) (not e.cleared) (covers a e) (not_passed b e h.0)) ∙ ap (λ o. if covers a e then Some e else o) (find_now b a h.1)
 
   -- the bytes that a load finds as it begins are those that Issue finds
   pub bytes_now : (b : List Entry) (a n : ℕ) → Behind S b → bytes_found s.ram b l a n ≡ load_bytes s.ram b a n
@@ -106,7 +106,7 @@ module _ (d : Desc) (code : Code) (s : Bank) (now : ℕ) (l : Entry) (begins : l
   by_done [] h q = refl
   by_done (e ∷ b) h q =
       let qs = both (not (is_store e.item.kind) || is_done e.state) _ q in
-      ap (λ c. c && list_all (stands_before l) b) (with_both (is_store e.item.kind) (has_address e) (passed e l) e.cleared (shares e l) (has_data e) (not_passed b e h.0) (parts qs.0)) ∙ by_done b h.1 qs.1
+      ap (λ c. c && list_all (stands_before l) b) (with_both (is_store e.item.kind) (has_address e) (is_passed_by e l) e.cleared (shares e l) (has_data e) (not_passed b e h.0) (parts qs.0)) ∙ by_done b h.1 qs.1
     where
       parts : (not (is_store e.item.kind) || is_done e.state) ≡ true → is_store e.item.kind ≡ true → (has_address e ≡ true) × (has_data e ≡ true)
       parts f t =
@@ -120,7 +120,7 @@ module _ (d : Desc) (code : Code) (s : Bank) (now : ℕ) (l : Entry) (begins : l
   by_let bytes m p pd (e ∷ b) h q =
       let qs = both (not (is_store e.item.kind) || lets d.stt_model p bytes b e) _ q in
       ap (λ c. c && list_all (stands_before l) b)
-      (let_so (is_store e.item.kind) (has_address e) (passed e l) e.cleared (shares e l) (has_data e) p (address_tainted d.stt_model b e) (list_any (λ a. covers a e) bytes) (not_passed b e h.0) qs.0 (m e)
+      (let_so (is_store e.item.kind) (has_address e) (is_passed_by e l) e.cleared (shares e l) (has_data e) p (address_tainted d.stt_model b e) (list_any (λ a. covers a e) bytes) (not_passed b e h.0) qs.0 (m e)
       (λ t. not_cleared (loads_pass d) e h.0.clearing (pd t)))
       ∙ by_let bytes m p pd b h.1 qs.1
 

@@ -16,7 +16,7 @@ use Rattle.window_model.specs.Access.{byte_of}
 use Rattle.window_model.specs.Clear.{is_before}
 use Rattle.window_model.specs.MayIssue.{effect_of}
 use Rattle.window_model.specs.Retire.{addr_of, width_in}
-use Rattle.committed_state.specs.Computed.{Bank, ComesTo, as_known, as_known_by, bytes_over, computed, finds, outcome_as}
+use Rattle.committed_state.specs.Computed.{Bank, ComesTo, as_known, as_known_by, bytes_over, outcome_behind, finds, outcome_as}
 use Rattle.committed_state.specs.Consistent.{HasOperands, EntryInvariant, executed, goes_through, is_issued, stands_before}
 use Rattle.committed_state.proofs.Computed.{alike, bytes_same}
 use Rattle.committed_state.proofs.Sees.{InLoad, Moves, Sees, byte_else, byte_pick, sees_moves}
@@ -133,7 +133,7 @@ module _ (now : ℕ) (l : Entry) where
     alone = λ c. empty_seen b b2 h (k.alone c);
   }
     where
-      same : is_issued l ≡ true → as_known l (computed s b2 l) ≡ as_known l (computed s b l)
+      same : is_issued l ≡ true → as_known l (outcome_behind s b2 l) ≡ as_known l (outcome_behind s b l)
       same i =
           alike code s s b b2 l k.item (same_shape s.ram) (λ r lt q. (writer_seen b b2 r (reg s.regs r) h q).1) (bytes_over s b2 l)
           (λ q n. bytes_same s.ram s.ram b b2 l (effect_of s.regs b l).addr (width_in l.item.instr) (λ a le lt. byte_seen q (k.issued i q) s.ram a b b2 (in_load d code s now b l k i q n a le lt) h (k.stores i q)))

@@ -21,7 +21,7 @@ use Rattle.window_model.specs.Rename.{at_once}
 use Rattle.window_model.specs.Retire.{hart_of, stored_of}
 use Rattle.window_model.proofs.Booleans.{and_no, or_true}
 use Rattle.window_model.proofs.Issuing.{MayGo, gone_parts}
-use Rattle.committed_state.specs.Computed.{Bank, ComesTo, as_known_by, bytes_over, computed, known_of, outcome_as}
+use Rattle.committed_state.specs.Computed.{Bank, ComesTo, as_known_by, bytes_over, outcome_behind, known_of, outcome_as}
 use Rattle.committed_state.specs.Consistent.{FitsClearing, FitsParts, FitsState, HasOperands, EntryInvariant, all_executed, all_issued, all_issued_by, bank_in, is_issued}
 use Rattle.committed_state.specs.Links.{Link, true_next}
 use Rattle.committed_state.proofs.Kept.{Kept}
@@ -82,7 +82,7 @@ module _ (d : Desc) (code : Code) (x : Machine) (b : List Entry) (e : Entry) (q 
   once : at_once e.item.kind ≡ false
   once = ap at_once q
 
-  known_as : (a c : Bool) (o : Option Outcome) → ComesTo o (known_of a c O) → ComesTo o (as_known_by e.item.kind a c (computed (bank_of x) b e))
+  known_as : (a c : Bool) (o : Option Outcome) → ComesTo o (known_of a c O) → ComesTo o (as_known_by e.item.kind a c (outcome_behind (bank_of x) b e))
   known_as a c o h = subst (λ k. ComesTo o (as_known_by k a c (outcome_as k x.ram e.item.instr F (bytes_over (bank_of x) b e F.addr)))) (sym q) h
 
   -- the store has an outcome from its first part on

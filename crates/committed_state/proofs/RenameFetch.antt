@@ -17,8 +17,8 @@ use Rattle.machine_desc.specs.Questions.{loads_pass}
 use Rattle.window_model.specs.Order.{is_control, is_store, sources}
 use Rattle.committed_state.proofs.Onward.{of_item}
 use Rattle.window_model.specs.Retire.{hart_of}
-use Rattle.window_model.specs.Rename.{rename, renamed, fits, fits_as, at_once, is_call}
-use Rattle.window_model.specs.Fetch.{fetch, fetch_one, guess, item_at, kind_at, predicted}
+use Rattle.window_model.specs.Rename.{rename, entry_of_item, fits, fits_as, at_once, is_call}
+use Rattle.window_model.specs.Fetch.{fetch, fetch_one, guess, item_at, kind_at, predicted_pc}
 use Rattle.window_model.proofs.Before.{all_reverse}
 use Rattle.window_model.proofs.Walks.{rename_keep, fetch_keep}
 use Rattle.committed_state.specs.Computed.{Bank}
@@ -31,7 +31,7 @@ use Rattle.window_model.proofs.Lists.{each_push}
 
 -- ---- a window with one entry more
 
-same_links : (d : Desc) (w : List Entry) (rest : List Item) (i : Item) (serial : ℕ) → links (w ++ renamed d serial i ∷ []) rest ≡ links w (i ∷ rest)
+same_links : (d : Desc) (w : List Entry) (rest : List Item) (i : Item) (serial : ℕ) → links (w ++ entry_of_item d serial i ∷ []) rest ≡ links w (i ∷ rest)
 same_links d [] rest i serial = refl
 same_links d (e ∷ w) rest i serial = ap (λ ls. entry_link e ∷ ls) (same_links d w rest i serial)
 
@@ -79,7 +79,7 @@ not_issued : (k : Kind) → all_issued_by k false false false ≡ false
 not_issued Store = refl
 not_issued _ = refl
 
-fits_new : (d : Desc) (c : Bool) (serial : ℕ) (i : Item) → at_once i.kind ≡ c → FitsState (if c then Done else Waiting) (renamed d serial i)
+fits_new : (d : Desc) (c : Bool) (serial : ℕ) (i : Item) → at_once i.kind ≡ c → FitsState (if c then Done else Waiting) (entry_of_item d serial i)
 fits_new d true serial i h = (not_issued i.kind ∙ sym (ap not h), λ r. absurd (cc))
 fits_new d false serial i h = (not_issued i.kind, refl, h)
 
@@ -92,17 +92,17 @@ operands_new Store b rs = (λ h. absurd (cc), λ h. absurd (cc))
 operands_new _ b rs = λ h. absurd (cc)
 
 -- a new store isn't cleared where loads pass stores, and all else is
-clearing_new : (p : Bool) (d : Desc) (serial : ℕ) (i : Item) → loads_pass d ≡ p → FitsClearing p (renamed d serial i)
+clearing_new : (p : Bool) (d : Desc) (serial : ℕ) (i : Item) → loads_pass d ≡ p → FitsClearing p (entry_of_item d serial i)
 clearing_new true d serial i h = λ q n. ap (λ p. not (p && is_store i.kind)) h ∙ ap not q
 clearing_new false d serial i h = ap (λ p. not (p && is_store i.kind)) h
 
 module _ (now : ℕ) (code : Code) (d : Desc) where
-  rename_holds : (s : Hart) (w : List Entry) (i : Item) (rest : List Item) (fetch_pc : Option ℕ) (serial : ℕ) → fits d w i ≡ true → Holds d code s now w (i ∷ rest) fetch_pc → Holds d code s now (w ++ renamed d serial i ∷ []) rest fetch_pc
+  rename_holds : (s : Hart) (w : List Entry) (i : Item) (rest : List Item) (fetch_pc : Option ℕ) (serial : ℕ) → fits d w i ≡ true → Holds d code s now w (i ∷ rest) fetch_pc → Holds d code s now (w ++ entry_of_item d serial i ∷ []) rest fetch_pc
   rename_holds s w i rest fetch_pc serial f h =
       let f1 = both (nat_lt (length w) d.core_rob && not (list_any (λ e. is_call e.item.kind) w) && fits_as i.kind d w) _ f in
       let f2 = both (nat_lt (length w) d.core_rob && not (list_any (λ e. is_call e.item.kind) w)) _ f1.0 in
       let f3 = both (nat_lt (length w) d.core_rob) _ f2.0 in
-      let made : EntryInvariant d code (bank_in s) now (reverse w) (renamed d serial i) = record {
+      let made : EntryInvariant d code (bank_in s) now (reverse w) (entry_of_item d serial i) = record {
         item = h.items.0;
         parts = parts_new i.kind;
         state = fits_new d (at_once i.kind) serial i refl;
@@ -116,7 +116,7 @@ module _ (now : ℕ) (code : Code) (d : Desc) where
         alone = alone_as i.kind d w f2.1;
       } in
       record {
-        entries = along_push (EntryInvariant d code (bank_in s) now) [] w (renamed d serial i) h.entries made;
+        entries = along_push (EntryInvariant d code (bank_in s) now) [] w (entry_of_item d serial i) h.entries made;
         items = h.items.1;
         chain = subst (λ ls. Chain (Some s.pc) ls fetch_pc) (sym (same_links d w rest i serial)) h.chain;
         registers = h.registers;
@@ -129,7 +129,7 @@ module _ (now : ℕ) (code : Code) (d : Desc) where
 
 -- ---- Fetch as a whole
 
-predicts : (k : Kind) (d : Desc) (t : List (Option Target)) (m : Checkpoint) (way : Bool) (i : Item) → i.predicted ≡ predicted k d t m way i.pc i.instr → Predicts k i
+predicts : (k : Kind) (d : Desc) (t : List (Option Target)) (m : Checkpoint) (way : Bool) (i : Item) → i.predicted ≡ predicted_pc k d t m way i.pc i.instr → Predicts k i
 predicts (Stop a) d t m way i h = h
 predicts Jal d t m way i h = h
 predicts Branch d t m way i h = ap is_some h

@@ -10,7 +10,7 @@ use Rattle.window_model.specs.declared.Item.{Item}
 use Rattle.window_model.specs.declared.Outcome.{Outcome}
 use Rattle.window_model.specs.Order.{is_done, is_load, is_store, is_faulty, has_address, has_data}
 use Rattle.window_model.specs.Access.{reaches, covers, byte_of, byte_from}
-use Rattle.window_model.specs.Clear.{cleared_one, is_before, is_violated, passed, shares}
+use Rattle.window_model.specs.Clear.{cleared_one, is_before, is_violated, is_passed_by, shares}
 use Rattle.window_model.specs.Retire.{addr_of, stored_of, width_in, byte_count}
 use Rattle.window_model.proofs.Booleans.{or_true}
 use Rattle.window_model.proofs.Taints.{any_agree}
@@ -184,7 +184,7 @@ module _ (now : ℕ) (l e e2 : Entry) (m : Moves now e e2) (load : is_load l.ite
     same_address : has_address e2 ≡ has_address e
     same_address = ap is_some same_due
 
-    same_passed : passed e2 l ≡ passed e l
+    same_passed : is_passed_by e2 l ≡ is_passed_by e l
     same_passed = ap (λ due. is_load l.item.kind && is_before l.issued due) same_due
 
     covers_same : (a : ℕ) → covers a e2 ≡ covers a e
@@ -204,7 +204,7 @@ module _ (now : ℕ) (l e e2 : Entry) (m : Moves now e e2) (load : is_load l.ite
     same_byte a v i false g = refl
     same_byte a v i true g =
         let f = found_parts (left_out l e) (covers a e) g in
-        let d = found_data (is_store e.item.kind) (has_address e) (passed e l) e.cleared (shares e l) (has_data e) q h f.0 (shares_byte l e a i f.1) s in
+        let d = found_data (is_store e.item.kind) (has_address e) (is_passed_by e l) e.cleared (shares e l) (has_data e) q h f.0 (shares_byte l e a i f.1) s in
         same3 (byte_at a) _ _ _ _ _ _ m.item (sym (addr_located e2.outcome) ∙ ap addr_of (m.address h).1 ∙ addr_located e.outcome) (m.stored d).1
       where
         found_parts : (lo co : Bool) → (not lo && co) ≡ true → (lo ≡ false) × (co ≡ true)
@@ -214,7 +214,7 @@ module _ (now : ℕ) (l e e2 : Entry) (m : Moves now e e2) (load : is_load l.ite
     by_known : Seen l e e2
     by_known = (
       same5 (λ st h p c sh. before_of st h p c sh (has_data e2)) _ _ _ _ _ _ _ _ _ _ same_store same_address same_passed m.cleared same_shares
-          ∙ more_data (is_store e.item.kind) (has_address e) (passed e l) e.cleared (shares e l) (has_data e) (has_data e2) (λ d. (m.stored d).0) s,
+          ∙ more_data (is_store e.item.kind) (has_address e) (is_passed_by e l) e.cleared (shares e l) (has_data e) (has_data e2) (λ d. (m.stored d).0) s,
       λ a v i. ap (λ f. if f then byte_from a e2 else v) (same_finds a) ∙ same_byte a v i (finds l a e) refl,
     )
 
@@ -223,15 +223,15 @@ module _ (now : ℕ) (l e e2 : Entry) (m : Moves now e e2) (load : is_load l.ite
   by_unknown q h s = by_new (has_address e2) refl
     where
       uncleared : e2.cleared ≡ false
-      uncleared = m.cleared ∙ unknown_uncleared (is_store e.item.kind) (has_address e) (passed e l) e.cleared (shares e l) (has_data e) q h s
+      uncleared = m.cleared ∙ unknown_uncleared (is_store e.item.kind) (has_address e) (is_passed_by e l) e.cleared (shares e l) (has_data e) q h s
 
       by_new : (h2 : Bool) → has_address e2 ≡ h2 → Seen l e e2
       by_new false k = (
-        same3 (λ st h c. before_of st h (passed e2 l) c (shares e2 l) (has_data e2)) true _ false _ false _ (same_store ∙ q) k uncleared,
+        same3 (λ st h c. before_of st h (is_passed_by e2 l) c (shares e2 l) (has_data e2)) true _ false _ false _ (same_store ∙ q) k uncleared,
         λ a v i. no_address e2 a v (same_store ∙ q) k ∙ sym (no_address e a v q h),
       )
       by_new true k =
-          let p : passed e2 l ≡ true = same2 (λ t due. t && is_before l.issued due) true _ (Some now) _ load (m.fresh h k) ∙ earlier in (
+          let p : is_passed_by e2 l ≡ true = same2 (λ t due. t && is_before l.issued due) true _ (Some now) _ load (m.fresh h k) ∙ earlier in (
             same5 (λ st h p c d. before_of st h p c (shares e2 l) d) true _ true _ true _ false _ (has_data e2) (has_data e2) (same_store ∙ q) k p uncleared refl,
             λ a v i. not_looked (left_out l e2) (covers a e2) (byte_from a e2) v (same2 (λ p c. p && not c) true _ false _ p uncleared) ∙ sym (no_address e a v q h),
           )
@@ -276,7 +276,7 @@ sees_clear now l e h n = record {
   item = refl;
   done = λ d. (d, refl);
   load = λ k i s. (
-    clear_stands (is_store e.item.kind) (has_address e) (passed e l) e.cleared (shares e l) (has_data e) n h s,
-    λ a v i. ap (λ f. if f then byte_from a e else v) (clear_finds (covers a e) (passed e l) e.cleared (shares e l) n (shares_byte l e a i)),
+    clear_stands (is_store e.item.kind) (has_address e) (is_passed_by e l) e.cleared (shares e l) (has_data e) n h s,
+    λ a v i. ap (λ f. if f then byte_from a e else v) (clear_finds (covers a e) (is_passed_by e l) e.cleared (shares e l) n (shares_byte l e a i)),
   );
 }

@@ -18,9 +18,9 @@ use Rattle.window_model.proofs.Memory.{inside}
 use Rattle.window_model.proofs.Registers.{read_same, read_other}
 use Rattle.window_model.specs.MayIssue.{effect_of}
 use Rattle.window_model.specs.Retire.{width_in}
-use Rattle.committed_state.specs.Computed.{Bank, ComesTo, as_known, as_known_by, bytes_over, computed, finds, known_of}
+use Rattle.committed_state.specs.Computed.{Bank, ComesTo, as_known, as_known_by, bytes_over, outcome_behind, finds, known_of}
 use Rattle.committed_state.specs.Consistent.{EntryInvariant, executed, goes_through, is_issued, stands_before}
-use Rattle.committed_state.specs.Replay.{bank_after, replayed}
+use Rattle.committed_state.specs.Replay.{bank_after, replay_outcome}
 use Rattle.committed_state.proofs.Bytes.{keeps_bank, one_byte}
 use Rattle.committed_state.proofs.Computed.{alike, bytes_same}
 use Rattle.committed_state.proofs.Onward.{comes_to, operands_then}
@@ -47,17 +47,17 @@ not_empty (e ∷ b) head h = absurd (cc)
 
 -- ---- what an entry reads of the oldest, it then reads of the retired state
 
-module _ (s : Bank) (head : Entry) (r : ComesTo head.outcome (replayed s head)) (issued : is_some head.outcome ≡ true)
+module _ (s : Bank) (head : Entry) (r : ComesTo head.outcome (replay_outcome s head)) (issued : is_some head.outcome ≡ true)
     (parts : is_store head.item.kind ≡ true → (has_address head ≡ true) × (has_data head ≡ true) × (head.cleared ≡ true)) where
   abbrev S : Bank
   S = bank_after head s
 
   -- what the oldest entry has is as much as is known of its replay
-  known : ComesTo head.outcome (as_known head (replayed s head))
+  known : ComesTo head.outcome (as_known head (replay_outcome s head))
   known = by_kind head.item.kind refl
     where
-      by_kind : (k : Kind) → head.item.kind ≡ k → ComesTo head.outcome (as_known_by k (has_address head) (has_data head) (replayed s head))
-      by_kind Store q = let p = parts (ap is_store q) in subst (λ a. ComesTo head.outcome (known_of a (has_data head) (replayed s head))) (sym p.0) (subst (λ c. ComesTo head.outcome (known_of true c (replayed s head))) (sym p.1) r)
+      by_kind : (k : Kind) → head.item.kind ≡ k → ComesTo head.outcome (as_known_by k (has_address head) (has_data head) (replay_outcome s head))
+      by_kind Store q = let p = parts (ap is_store q) in subst (λ a. ComesTo head.outcome (known_of a (has_data head) (replay_outcome s head))) (sym p.0) (subst (λ c. ComesTo head.outcome (known_of true c (replay_outcome s head))) (sym p.1) r)
       by_kind _ q = r
 
   operand_if : (w : Bool) (e : Entry) (o o2 : Option Entry) (v v2 : ℕ) → from_writer o v ≡ from_writer o2 v2 → from_writer (if w then Some e else o) v ≡ from_writer (if w then Some e else o2) v2
@@ -68,7 +68,7 @@ module _ (s : Bank) (head : Entry) (r : ComesTo head.outcome (replayed s head)) 
   operand_shift [] q lt = by_head (writes q head) refl
     where
       by_head : (w : Bool) → writes q head ≡ w → from_writer (if w then Some head else None) (reg s.regs q) ≡ reg S.regs q
-      by_head true h = value_is head.outcome head (replayed s head) known issued ∙ sym (read_same s.regs (writes_of head.item.instr) q _ lt h)
+      by_head true h = value_is head.outcome head (replay_outcome s head) known issued ∙ sym (read_same s.regs (writes_of head.item.instr) q _ lt h)
       by_head false h = sym (read_other s.regs (writes_of head.item.instr) q _ h)
   operand_shift (e ∷ b) q lt = operand_if (writes q e) e (find (writes q) (b ++ head ∷ [])) (find (writes q) b) (reg s.regs q) (reg S.regs q) (operand_shift b q lt)
 
@@ -92,7 +92,7 @@ module _ (s : Bank) (head : Entry) (r : ComesTo head.outcome (replayed s head)) 
     alone = λ c. absurd (not_empty b head (k.alone c));
   }
     where
-      same : is_issued e ≡ true → as_known e (computed S b e) ≡ as_known e (computed s (b ++ head ∷ []) e)
+      same : is_issued e ≡ true → as_known e (outcome_behind S b e) ≡ as_known e (outcome_behind s (b ++ head ∷ []) e)
       same i =
           let old = b ++ head ∷ [] in
           let F : Effect = effect_of s.regs old e in

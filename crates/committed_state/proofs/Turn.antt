@@ -20,7 +20,7 @@ use Rattle.window_model.specs.Resolve.{next_of}
 use Rattle.window_model.specs.Retire.{may_leave, trap_of, trap_as, addr_of, stored_of, byte_count}
 use Rattle.window_model.specs.Rename.{at_once, is_call}
 use Rattle.window_model.specs.Fetch.{instr_at, kind_at}
-use Rattle.committed_state.specs.Replay.{Bank, replayed, replayed_as, ram_after, effect_on}
+use Rattle.committed_state.specs.Replay.{Bank, replay_outcome, replayed_as, ram_after, effect_on}
 use Rattle.window_model.specs.Along.{Along}
 use Rattle.committed_state.specs.Links.{Chain, links}
 use Rattle.committed_state.specs.Consistent.{EntryInvariant, Holds, Predicts, bank_in, is_issued}
@@ -71,22 +71,22 @@ abbrev pub steps : Option Cause → Hart → Step
 steps None t = Goes t []
 steps (Some cause) t = Traps cause
 
-by_fault : (s : Hart) (p : Item) (i : _) (f : Option Cause) → at_once (item_of s.pc i p).kind ≡ false → (replayed (bank_in s) (of_item (item_of s.pc i p))).fault ≡ f →
-    step_of s i ≡ steps f (hart_item s (item_of s.pc i p) (replayed (bank_in s) (of_item (item_of s.pc i p))))
+by_fault : (s : Hart) (p : Item) (i : _) (f : Option Cause) → at_once (item_of s.pc i p).kind ≡ false → (replay_outcome (bank_in s) (of_item (item_of s.pc i p))).fault ≡ f →
+    step_of s i ≡ steps f (hart_item s (item_of s.pc i p) (replay_outcome (bank_in s) (of_item (item_of s.pc i p))))
 by_fault s p i None a h = head_goes s p i a h
 by_fault s p i (Some c) a h = head_traps s p i c a h
 
 -- the instruction set's step at the oldest entry is what its replay says, with or without fault
 pub step_as : (c : Option ℕ) (s : Hart) (e : Entry) → s.pc ≡ e.item.pc → e.item.instr ≡ instr_at c → e.item.kind ≡ kind_at c → at_once e.item.kind ≡ false →
-    (f : Option Cause) → (replayed (bank_in s) e).fault ≡ f → step_at c s ≡ steps f (hart_after s e (replayed (bank_in s) e))
+    (f : Option Cause) → (replay_outcome (bank_in s) e).fault ≡ f → step_at c s ≡ steps f (hart_after s e (replay_outcome (bank_in s) e))
 step_as None s e q a k n f h = absurd (cc)
 step_as (Some w) s e q a k n f h =
     let i = decode w in
     let it = item_eq e.item s.pc i q a k in
-    let r : replayed (bank_in s) e ≡ replayed (bank_in s) (of_item (item_of s.pc i e.item)) = ap (λ t. replayed (bank_in s) (of_item t)) it in
+    let r : replay_outcome (bank_in s) e ≡ replay_outcome (bank_in s) (of_item (item_of s.pc i e.item)) = ap (λ t. replay_outcome (bank_in s) (of_item t)) it in
     let n2 = ap (λ (t : Item). at_once t.kind) (sym it) ∙ n in
     by_fault s e.item i f n2 (sym (ap (λ (o : Outcome). o.fault) r) ∙ h)
-    ∙ ap (steps f) (ap (hart_item s (item_of s.pc i e.item)) (sym r) ∙ ap (λ t. hart_item s t (replayed (bank_in s) e)) (sym it))
+    ∙ ap (steps f) (ap (hart_item s (item_of s.pc i e.item)) (sym r) ∙ ap (λ t. hart_item s t (replay_outcome (bank_in s) e)) (sym it))
 
 -- ---- where the head goes on
 
@@ -139,7 +139,7 @@ head_leaves_so d code s now e rest queue fetch_pc h may t k c =
     let m = leave_parts (is_done e.state) (is_control e.item.kind) e.resolved may in
     let f = done_has e.state e st.state m.0 in
     let n = no_stop e.item.kind e t k in
-    let r = replayed (bank_in s) e in
+    let r = replay_outcome (bank_in s) e in
     let all = f.0 ∙ ap not n.0 in
     let rep = replayed_head d code (bank_in s) now h.registers e st all in
     let i = issued_of e.item.kind (has_address e) (has_data e) (is_issued e) st.parts all in

@@ -14,10 +14,10 @@ use Rattle.window_model.specs.declared.Progress.TheVariants.{Waiting, Done}
 use Rattle.window_model.specs.Around.{Around}
 use Rattle.window_model.specs.Order.{base_of, has_address, has_data, is_done, is_faulty, is_load, is_store, is_waiting, sources}
 use Rattle.window_model.specs.Taint.{permits, safe_as, settled_as, tainted, any_tainted, address_tainted}
-use Rattle.window_model.specs.Fill.{completed, completes}
+use Rattle.window_model.specs.Fill.{after_completion, completes}
 use Rattle.window_model.specs.MayIssue.{effect_of}
-use Rattle.window_model.specs.Issue.{issue_entry, begun, busy_until_both, is_division, with_address, with_data}
-use Rattle.window_model.specs.Rename.{at_once, renamed}
+use Rattle.window_model.specs.Issue.{issue_entry, executing_until, busy_until_both, is_division, with_address, with_data}
+use Rattle.window_model.specs.Rename.{at_once, entry_of_item}
 use Rattle.window_model.specs.Cycle.{cycle}
 use Rattle.window_model.specs.Along.{Along}
 use Rattle.window_model.proofs.Booleans.{and_no, both, completes_waits, done_waits, waiting_done}
@@ -51,8 +51,8 @@ module _ (model : SttModel) where
   guarded_drops e rest h = along_drops G G e (rest_on e) [] rest h.1
 
   -- the window stays guarded as a new entry comes
-  pub guarded_new : (d : Desc) (b w : List Entry) (serial : ℕ) (i : Item) → Along G b w → Along G b (w ++ renamed d serial i ∷ [])
-  guarded_new d b w serial i k = along_push G b w (renamed d serial i) k (record { load = λ q l. absurd (cc); division = λ q l. absurd (cc); fresh = λ q. refl; whole = λ q t. absurd (store_waits i.kind t q) })
+  pub guarded_new : (d : Desc) (b w : List Entry) (serial : ℕ) (i : Item) → Along G b w → Along G b (w ++ entry_of_item d serial i ∷ [])
+  guarded_new d b w serial i k = along_push G b w (entry_of_item d serial i) k (record { load = λ q l. absurd (cc); division = λ q l. absurd (cc); fresh = λ q. refl; whole = λ q t. absurd (store_waits i.kind t q) })
     where
       store_waits : (k : Kind) → is_store k ≡ true → is_waiting (if at_once k then Done else Waiting) ≡ false → ⊥
       store_waits Store t q = absurd (cc)
@@ -60,7 +60,7 @@ module _ (model : SttModel) where
 
   -- ---- what the phase Complete keeps
 
-  pub guarded_completed : (cycle : ℕ) (b : List Entry) (e : Entry) → G b e → G b (completed cycle e) × Clears e (completed cycle e)
+  pub guarded_completed : (cycle : ℕ) (b : List Entry) (e : Entry) → G b e → G b (after_completion cycle e) × Clears e (after_completion cycle e)
   guarded_completed cycle b e h = by_due (completes cycle e) refl
     where
       by_due : (c : Bool) → completes cycle e ≡ c → let r = (if c then record e { state = Done } else e) in G b r × Clears e r
@@ -73,13 +73,13 @@ module _ (model : SttModel) where
   begins : (d : Desc) (now : Around) (b : List Entry) (e r : Entry) → d.stt_model ≡ model → G b e → is_store e.item.kind ≡ false → MayIssue d now b e → Comes e r → G b r × Clears e r
   begins d now b e r q h n m (Remains s) = subst (λ r. G b r × Clears e r) (sym s) (h, clears_same e)
   begins d now b e r q h n m (Begins cycle due o s) =
-      let g : G b (begun cycle e due o) = record {
+      let g : G b (executing_until cycle e due o) = record {
         load = λ i l. subst (λ t. address_tainted t b e ≡ false) q (load_clean e.item.kind d now b e m.kind l);
         division = λ i l. subst (λ t. any_tainted t b e ≡ false) q (division_clean e.item.kind d now b e m.kind l);
         fresh = λ z. absurd (cc);
         whole = λ w t. absurd (cc);
       } in
-      let c : Clears e (begun cycle e due o) = record { item = refl; still = λ t p. permits_begun t e cycle due o m.waits (h.fresh m.waits) ∙ p } in
+      let c : Clears e (executing_until cycle e due o) = record { item = refl; still = λ t p. permits_begun t e cycle due o m.waits (h.fresh m.waits) ∙ p } in
       subst (λ r. G b r × Clears e r) (sym s) (g, c)
 
   -- a store has both its parts once it executes, and waits until then

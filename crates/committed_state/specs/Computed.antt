@@ -15,7 +15,7 @@ use Rattle.window_model.specs.declared.Outcome.{Outcome}
 use Rattle.window_model.specs.Order.{has_address, has_data}
 use Rattle.window_model.specs.Retire.{op_of, width_in}
 use Rattle.window_model.specs.Access.{covers, byte_of}
-use Rattle.window_model.specs.Clear.{passed}
+use Rattle.window_model.specs.Clear.{is_passed_by}
 use Rattle.window_model.specs.MayIssue.{effect_of}
 use Rattle.window_model.specs.Issue.{outcome, fault_if}
 
@@ -66,7 +66,7 @@ as_known e o = as_known_by e.item.kind (has_address e) (has_data e) o
 
 -- a load's value leaves a store out that it passed, until the store is cleared
 abbrev pub left_out : Entry → Entry → Bool
-left_out load store = passed store load && not store.cleared
+left_out load store = is_passed_by store load && not store.cleared
 
 -- a store that a load finds at an address
 abbrev pub finds : Entry → ℕ → Entry → Bool
@@ -81,5 +81,5 @@ abbrev pub bytes_over : Bank → List Entry → Entry → ℕ → List ℕ
 bytes_over s before e a = bytes_found s.ram before e a (width_in e.item.instr)
 
 -- the outcome that an entry computes behind older entries, over these registers and memory
-abbrev pub computed : Bank → List Entry → Entry → Outcome
-computed s before e = let f = effect_of s.regs before e in outcome_as e.item.kind s.ram e.item.instr f (bytes_over s before e f.addr)
+abbrev pub outcome_behind : Bank → List Entry → Entry → Outcome
+outcome_behind s before e = let f = effect_of s.regs before e in outcome_as e.item.kind s.ram e.item.instr f (bytes_over s before e f.addr)

@@ -16,10 +16,10 @@ use Rattle.window_model.specs.State.{Machine}
 use Rattle.window_model.specs.Order.{is_done, is_load, is_store, is_control, is_faulty, has_address, has_data, sources, writes, base_of, others_of}
 use Rattle.window_model.specs.Retire.{hart_of}
 use Rattle.machine_desc.specs.Questions.{loads_pass}
-use Rattle.window_model.specs.Clear.{is_before, passed, shares}
+use Rattle.window_model.specs.Clear.{is_before, is_passed_by, shares}
 use Rattle.window_model.specs.Rename.{at_once, is_call, is_stop}
 use Rattle.window_model.specs.Fetch.{instr_at, kind_at, target_of}
-use Rattle.committed_state.specs.Computed.{Bank, ComesTo, as_known, computed, left_out}
+use Rattle.committed_state.specs.Computed.{Bank, ComesTo, as_known, outcome_behind, left_out}
 use Rattle.window_model.specs.Along.{Along}
 use Rattle.committed_state.specs.Links.{Chain, links}
 
@@ -84,7 +84,7 @@ HasOperands _ address datum issued before rs = issued ≡ true → all_executed 
 -- how an older store of known address has to stand before a load that has issued: the load leaves it out, or they share
 -- no byte, or the store's data is known and the load hasn't passed it
 abbrev pub stands_apart : Entry → Entry → Bool
-stands_apart load store = left_out load store || not (shares store load) || (has_data store && not (passed store load))
+stands_apart load store = left_out load store || not (shares store load) || (has_data store && not (is_passed_by store load))
 
 -- how any older store has to stand before a load that has issued: while its address isn't known it isn't cleared, and
 -- then they stand apart
@@ -109,7 +109,7 @@ pub record EntryInvariant (d : Desc) (code : Code) (s : Bank) (now : ℕ) (befor
   pub parts : FitsParts e.item.kind (has_address e) (has_data e) (is_issued e)
   pub state : FitsState e.state e
   -- the outcome is what Issue makes of the operands, as far as it is known
-  pub computed : ComesTo e.outcome (as_known e (computed s before e))
+  pub computed : ComesTo e.outcome (as_known e (outcome_behind s before e))
   -- the entry issued with its operands there, and a load behind stores that let it go
   pub operands : HasOperands e.item.kind (has_address e) (has_data e) (is_issued e) before (sources e)
   pub stores : is_issued e ≡ true → is_load e.item.kind ≡ true → list_all (stands_before e) before ≡ true

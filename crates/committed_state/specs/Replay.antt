@@ -26,8 +26,8 @@ abbrev pub replayed_as : Kind → Bank → Entry → Outcome
 replayed_as k s e = let f = effect_on s e in outcome_as k s.ram e.item.instr f (bytes_at s.ram f.addr (width_in e.item.instr))
 
 -- the outcome of an entry in these registers and memory
-abbrev pub replayed : Bank → Entry → Outcome
-replayed s e = replayed_as e.item.kind s e
+abbrev pub replay_outcome : Bank → Entry → Outcome
+replay_outcome s e = replayed_as e.item.kind s e
 
 -- memory with a store's bytes, unless it faults
 abbrev pub stored_unless : Option Cause → Ram → ℕ → List ℕ → Ram
@@ -42,7 +42,7 @@ ram_after _ ram i o = ram
 -- the registers and memory after an entry, which is passed over where it faults
 abbrev pub bank_after : Entry → Bank → Bank
 bank_after e s =
-    let o = replayed s e in
+    let o = replay_outcome s e in
     record { regs = with_reg s.regs (writes_of e.item.instr) o.value; ram = ram_after e.item.kind s.ram e.item.instr o }
 
 -- the registers and memory after the replay of these entries, of which the first is the youngest
@@ -56,7 +56,7 @@ is_clear e = not (is_store e.item.kind) || e.cleared
 
 -- every issued entry all of whose older stores are cleared has the outcome of the replay at its place, as far as it is
 -- known
-abbrev pub Replayed : Bank → List Entry → Type 0
-Replayed s [] = Unit {0}
-Replayed s (e ∷ before) =
-    (list_all is_clear before ≡ true → ComesTo e.outcome (as_known e (replayed (bank s before) e))) × Replayed s before
+abbrev pub FollowsReplay : Bank → List Entry → Type 0
+FollowsReplay s [] = Unit {0}
+FollowsReplay s (e ∷ before) =
+    (list_all is_clear before ≡ true → ComesTo e.outcome (as_known e (replay_outcome (bank s before) e))) × FollowsReplay s before

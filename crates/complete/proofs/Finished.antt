@@ -15,7 +15,7 @@ use Rattle.stations.specs.Stations.{Stations}
 use Rattle.refinement.specs.Stations.{struck_if_given}
 use Rattle.refinement.specs.Telling.{hold_of}
 use Rattle.core_parts.specs.Described.{Described}
-use Rattle.core_parts.specs.Held.{Held, Whole, described, in_flight, machine_of}
+use Rattle.core_parts.specs.Held.{Held, Whole, described_of, in_flight, machine_of}
 use Rattle.core_parts.proofs.Sizes.{sized_set}
 use Rattle.refinement.proofs.Steps.{refines_done}
 use Rattle.complete.proofs.Turns.{done}
@@ -24,7 +24,7 @@ some_here : (o : Option Entry) → option_map (λ (e : Entry). is_waiting e.stat
 some_here None h = absurd (cc)
 some_here (Some e) h = (e, refl, let k : Some (is_waiting e.state) ≡ Some false = h in cc)
 
-pub is_inside : (h : Held) (v : Described) (i : ℕ) → Whole h → described h ≡ v → option_map (λ (e : Entry). is_waiting e.state) (slice_get v.machine.window i) ≡ Some false → i < length h.rob.entries
+pub is_inside : (h : Held) (v : Described) (i : ℕ) → Whole h → described_of h ≡ v → option_map (λ (e : Entry). is_waiting e.state) (slice_get v.machine.window i) ≡ Some false → i < length h.rob.entries
 is_inside h v i w s a =
     let k = some_here (slice_get h.rob.entries i) (ap (λ (v : Described). option_map (λ (e : Entry). is_waiting e.state) (slice_get v.machine.window i)) s ∙ a) in
     slice_get_within h.rob.entries i k.0 k.1
@@ -40,7 +40,7 @@ still_inside h i e rob w here sets = slice_get_within rob.entries i _ (set_there
 
 -- ---- the parts once an entry is Done
 
-module _ (h : Held) (v : Described) (i : ℕ) (e then : Entry) (rob : Ring) (stations : Stations) (w : Whole h) (s : described h ≡ v) (a : option_map (λ (e : Entry). is_waiting e.state) (slice_get v.machine.window i) ≡ Some false)
+module _ (h : Held) (v : Described) (i : ℕ) (e then : Entry) (rob : Ring) (stations : Stations) (w : Whole h) (s : described_of h ≡ v) (a : option_map (λ (e : Entry). is_waiting e.state) (slice_get v.machine.window i) ≡ Some false)
     (here : slice_get h.rob.entries i ≡ Some e) (sets : rob ≡ record (h.rob) { entries = slice_set h.rob.entries i (done e) }) (there : slice_get rob.entries i ≡ Some then)
     (wakes : stations ≡ record (h.stations) { held = struck_if_given (hold_of h.desc h.point) then h.stations.held }) where
   waits_not : is_waiting e.state ≡ false
@@ -75,8 +75,8 @@ module _ (h : Held) (v : Described) (i : ℕ) (e then : Entry) (rob : Ring) (sta
     made = w.made;
   })
 
-  one_shown : described (record h { rob = rob; stations = stations }) ≡ record v { machine = record (v.machine) { window = slice_set v.machine.window i (done e) } }
-  one_shown = ap described are ∙ ap (λ (v : Described). record v { machine = record (v.machine) { window = slice_set v.machine.window i (done e) } }) s
+  one_shown : described_of (record h { rob = rob; stations = stations }) ≡ record v { machine = record (v.machine) { window = slice_set v.machine.window i (done e) } }
+  one_shown = ap described_of are ∙ ap (λ (v : Described). record v { machine = record (v.machine) { window = slice_set v.machine.window i (done e) } }) s
 
   was_here : slice_get v.machine.window i ≡ Some e
   was_here = subst (λ (v : Described). slice_get v.machine.window i ≡ Some e) s here
@@ -86,17 +86,17 @@ module _ (h : Held) (v : Described) (i : ℕ) (e then : Entry) (rob : Ring) (sta
 
   -- whichever entry is there in the machine's window is this one
   pub finish_shown : (one : Entry) → slice_get v.machine.window i ≡ Some one →
-      described (record h { rob = rob; stations = stations }) ≡ record v { machine = record (v.machine) { window = slice_set v.machine.window i (done one) } }
+      described_of (record h { rob = rob; stations = stations }) ≡ record v { machine = record (v.machine) { window = slice_set v.machine.window i (done one) } }
   finish_shown one at = one_shown ∙ ap (λ (e : Entry). record v { machine = record (v.machine) { window = slice_set v.machine.window i (done e) } }) (some_of e one (sym was_here ∙ at))
 
 -- what is told of the entry in the buffer is told of the machine's
-pub told_here : (h : Held) (v : Described) (i : ℕ) (b : Bool) → Whole h → described h ≡ v → option_map (completes h.cycle) (slice_get h.rob.entries i) ≡ Some b →
+pub told_here : (h : Held) (v : Described) (i : ℕ) (b : Bool) → Whole h → described_of h ≡ v → option_map (completes h.cycle) (slice_get h.rob.entries i) ≡ Some b →
     option_map (completes v.machine.cycle) (slice_get v.machine.window i) ≡ Some b
 told_here h v i b w s t = subst (λ (v : Described). option_map (completes v.machine.cycle) (slice_get v.machine.window i) ≡ Some b) s t
 
 -- the next entry that executes in the parts is the next one in the machine's window
-pub next_here : (h : Held) (v : Described) (from i : ℕ) → Whole h → described h ≡ v → IsNext in_execution h.rob.entries from i → IsNext in_execution v.machine.window from i
+pub next_here : (h : Held) (v : Described) (from i : ℕ) → Whole h → described_of h ≡ v → IsNext in_execution h.rob.entries from i → IsNext in_execution v.machine.window from i
 next_here h v from i w s t = subst (λ (v : Described). IsNext in_execution v.machine.window from i) s t
 
-pub none_here : (h : Held) (v : Described) (from : ℕ) → Whole h → described h ≡ v → HoldsNowhere (holds_at in_execution h.rob.entries) from (length h.rob.entries) → HoldsNowhere (holds_at in_execution v.machine.window) from (length v.machine.window)
+pub none_here : (h : Held) (v : Described) (from : ℕ) → Whole h → described_of h ≡ v → HoldsNowhere (holds_at in_execution h.rob.entries) from (length h.rob.entries) → HoldsNowhere (holds_at in_execution v.machine.window) from (length v.machine.window)
 none_here h v from w s t = subst (λ (v : Described). HoldsNowhere (holds_at in_execution v.machine.window) from (length v.machine.window)) s t

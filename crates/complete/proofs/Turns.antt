@@ -10,7 +10,7 @@ use Rattle.window_model.specs.declared.Event.{Event}
 use Rattle.window_model.specs.declared.Event.TheVariants as event
 use Rattle.window_model.specs.declared.Progress.{Progress}
 use Rattle.window_model.specs.declared.Progress.TheVariants.{Waiting, Busy, Done}
-use Rattle.window_model.specs.Fill.{complete, completes, completes_at, completed}
+use Rattle.window_model.specs.Fill.{complete, completes, completes_at, after_completion}
 use Rattle.window_model.specs.Order.{is_busy}
 use Rattle.window_model.specs.Row.{Row}
 use Rattle.rob_ring.specs.Ring.{IsNext, in_execution}
@@ -75,7 +75,7 @@ events_all events (e ∷ es) =
 
 -- the entries below a position are through
 abbrev through : ℕ → List Entry → ℕ → List Entry
-through cycle es i = map (completed cycle) (take i es) ++ drop i es
+through cycle es i = map (after_completion cycle) (take i es) ++ drop i es
 
 -- with the entries from a position on, this machine and this row come to what the first ones come to with all
 pub record CompletesOn (s : Described) (row : Row) (i : ℕ) (now : Described) (row_now : Row) : Type 0 where
@@ -85,11 +85,11 @@ pub record CompletesOn (s : Described) (row : Row) (i : ℕ) (now : Described) (
   pub few : length row_now.events ≤ length row.events + i
 
 -- the window once one entry more is completed
-entries_more : (cycle : ℕ) (es now : List Entry) (i : ℕ) (e : Entry) (b : Bool) → now ≡ map (completed cycle) (take i es) ++ drop i es → slice_get es i ≡ Some e → completes cycle e ≡ b →
-    (if b then slice_set now i (done e) else now) ≡ map (completed cycle) (take (suc i) es) ++ drop (suc i) es
+entries_more : (cycle : ℕ) (es now : List Entry) (i : ℕ) (e : Entry) (b : Bool) → now ≡ map (after_completion cycle) (take i es) ++ drop i es → slice_get es i ≡ Some e → completes cycle e ≡ b →
+    (if b then slice_set now i (done e) else now) ≡ map (after_completion cycle) (take (suc i) es) ++ drop (suc i) es
 entries_more cycle es now i e true n h c =
-    ap₂ (λ ys y. slice_set ys i y) n (sym (ap (λ b. if b then done e else e) c)) ∙ map_set (completed cycle) es i e h
-entries_more cycle es now i e false n h c = n ∙ map_stays (completed cycle) es i e h (ap (λ b. if b then done e else e) c)
+    ap₂ (λ ys y. slice_set ys i y) n (sym (ap (λ b. if b then done e else e) c)) ∙ map_set (after_completion cycle) es i e h
+entries_more cycle es now i e false n h c = n ∙ map_stays (after_completion cycle) es i e h (ap (λ b. if b then done e else e) c)
 
 -- a test that is told of the entry at a position is told of that entry
 told_of : (p : Entry → Bool) (o : Option Entry) (e : Entry) (b : Bool) → option_map p o ≡ Some b → o ≡ Some e → b ≡ p e
@@ -106,7 +106,7 @@ module _ (s : Described) (row : Row) (i : ℕ) (now : Described) (row_now : Row)
   entries_are = ap (λ (s : Described). s.machine.window) c.machine
 
   as_it_was : (e : Entry) → slice_get now.machine.window i ≡ Some e → slice_get s.machine.window i ≡ Some e
-  as_it_was e g = sym (get_mapped (completed s.machine.cycle) s.machine.window i) ∙ ap (λ ws. slice_get ws i) (sym entries_are) ∙ g
+  as_it_was e g = sym (get_mapped (after_completion s.machine.cycle) s.machine.window i) ∙ ap (λ ws. slice_get ws i) (sym entries_are) ∙ g
 
   -- the entry at the position is due, and becomes Done
   completes_more : (e : Entry) (next : Described) (row_next : Row) → option_map (completes now.machine.cycle) (slice_get now.machine.window i) ≡ Some true → slice_get now.machine.window i ≡ Some e →
@@ -176,8 +176,8 @@ module _ (s : Described) (row : Row) (i : ℕ) (now : Described) (row_now : Row)
   pub as_many : length now.machine.window ≡ length s.machine.window
   as_many =
       let a = ap length entries_are in
-      let b = length-append (map (completed s.machine.cycle) (take i s.machine.window)) (drop i s.machine.window) in
-      let k = length-map (take i s.machine.window) (completed s.machine.cycle) in
+      let b = length-append (map (after_completion s.machine.cycle) (take i s.machine.window)) (drop i s.machine.window) in
+      let k = length-map (take i s.machine.window) (after_completion s.machine.cycle) in
       let d = length-append (take i s.machine.window) (drop i s.machine.window) in
       let f = ap length (halves i s.machine.window) in
       omega (arith, a, b, k, d, f)
@@ -187,8 +187,8 @@ module _ (s : Described) (row : Row) (i : ℕ) (now : Described) (row_now : Row)
   pub machine_over : length s.machine.window ≤ i → now ≡ record s { machine = (complete s.machine).machine }
   machine_over le =
       c.machine
-      ∙ ap₂ (λ a b. record s { machine = record (s.machine) { window = map (completed s.machine.cycle) a ++ b } }) (take_all i s.machine.window le) (drop_all i s.machine.window le)
-      ∙ ap (λ w. record s { machine = record (s.machine) { window = w } }) (append-nil (map (completed s.machine.cycle) s.machine.window))
+      ∙ ap₂ (λ a b. record s { machine = record (s.machine) { window = map (after_completion s.machine.cycle) a ++ b } }) (take_all i s.machine.window le) (drop_all i s.machine.window le)
+      ∙ ap (λ w. record s { machine = record (s.machine) { window = w } }) (append-nil (map (after_completion s.machine.cycle) s.machine.window))
 
   pub row_over : length s.machine.window ≤ i → row_now ≡ record row { events = row.events ++ (complete s.machine).events }
   row_over le =

@@ -14,7 +14,7 @@ use Rattle.window_model.specs.Resolve.{next_of}
 use Rattle.window_model.specs.Retire.{stored_of}
 use Rattle.secret_marks.specs.declared.EntryMarks.{EntryMarks}
 use Rattle.secret_marks.specs.declared.WordMarks.{WordMarks}
-use Rattle.secret_marks.specs.Words.{SameWord, any_byte, blanked, every_byte, unmarked}
+use Rattle.secret_marks.specs.Words.{SameWord, any_byte, zero_where_marked, every_byte, unmarked}
 use Rattle.secret_marks.specs.Marks.{Marks, register_marks}
 use Rattle.secret_marks.specs.Alike.{AlikeBut, Beside, SameEntry, but_marked, hidden, is_unresolved}
 use Rattle.secret_marks.proofs.Kept.{same_more}
@@ -25,16 +25,16 @@ use Rattle.secret_marks.proofs.Kept.{same_more}
 abbrev pub differs : ℕ → ℕ → WordMarks
 differs v v2 = every_byte (not (v == v2))
 
-nothing_left : (v v2 : ℕ) → blanked (every_byte true) v ≡ blanked (every_byte true) v2
-unfolding blanked
+nothing_left : (v v2 : ℕ) → zero_where_marked (every_byte true) v ≡ zero_where_marked (every_byte true) v2
+unfolding zero_where_marked
 nothing_left v v2 = refl
 
 -- two words are equal but for all bytes marked where they differ
 pub same_but : (v v2 : ℕ) → SameWord (differs v v2) v v2
 same_but v v2 = by_test (v == v2) refl
   where
-    by_test : (b : Bool) → (v == v2) ≡ b → blanked (every_byte (not b)) v ≡ blanked (every_byte (not b)) v2
-    by_test true q = let e : v ≡ v2 = grind (arith, nat_tests) in ap (blanked unmarked) e
+    by_test : (b : Bool) → (v == v2) ≡ b → zero_where_marked (every_byte (not b)) v ≡ zero_where_marked (every_byte (not b)) v2
+    by_test true q = let e : v ≡ v2 = grind (arith, nat_tests) in ap (zero_where_marked unmarked) e
     by_test false q = nothing_left v v2
 
 is_itself : (v : ℕ) → (v == v) ≡ true
@@ -85,13 +85,13 @@ with_all v s n f t = record t { outcome = option_map (λ (o : Outcome). record o
 
 loose_is : (r w : WordMarks) (u : Bool) (o : Option Outcome) →
     option_map (but_marked (record { result = r; goes = true; stored = w }) u) o
-    ≡ option_map (λ (p : Outcome). record p { value = blanked r (value_of o); stored = blanked w (stored_of o) }) (option_map (but_marked everything u) o)
+    ≡ option_map (λ (p : Outcome). record p { value = zero_where_marked r (value_of o); stored = zero_where_marked w (stored_of o) }) (option_map (but_marked everything u) o)
 loose_is r w u None = refl
 loose_is r w u (Some o) = refl
 
 firm_is : (r w : WordMarks) (u : Bool) (o : Option Outcome) →
     option_map (but_marked (record { result = r; goes = false; stored = w }) u) o
-    ≡ option_map (λ (p : Outcome). record p { value = blanked r (value_of o); stored = blanked w (stored_of o); next = next_of o; fault = fault_of o }) (option_map (but_marked everything u) o)
+    ≡ option_map (λ (p : Outcome). record p { value = zero_where_marked r (value_of o); stored = zero_where_marked w (stored_of o); next = next_of o; fault = fault_of o }) (option_map (but_marked everything u) o)
 firm_is r w u None = refl
 firm_is r w u (Some o) = refl
 
@@ -113,8 +113,8 @@ module _ (m : EntryMarks) (e e2 : Entry) (h : SameEntry m e e2) where
       let r = (loose e e2).result in
       let w = (loose e e2).stored in
       ap (of_outcome e) (loose_is r w (is_unresolved e) e.outcome)
-      ∙ ap₂ (λ v t. with_data v (blanked w (stored_of e.outcome)) t) (same_but (value_of e.outcome) (value_of e2.outcome)) all_hidden
-      ∙ ap (λ s. with_data (blanked r (value_of e2.outcome)) s (hidden everything e2)) (same_but (stored_of e.outcome) (stored_of e2.outcome))
+      ∙ ap₂ (λ v t. with_data v (zero_where_marked w (stored_of e.outcome)) t) (same_but (value_of e.outcome) (value_of e2.outcome)) all_hidden
+      ∙ ap (λ s. with_data (zero_where_marked r (value_of e2.outcome)) s (hidden everything e2)) (same_but (stored_of e.outcome) (stored_of e2.outcome))
       ∙ sym (ap (of_outcome e2) (loose_is r w (is_unresolved e2) e2.outcome))
 
   -- entries that are equal but for some marks, and go on alike, are so but for marks of values that differ
@@ -124,9 +124,9 @@ module _ (m : EntryMarks) (e e2 : Entry) (h : SameEntry m e e2) where
       let r = (firm e e2).result in
       let w = (firm e e2).stored in
       ap (of_outcome e) (firm_is r w (is_unresolved e) e.outcome)
-      ∙ ap₂ (λ v t. with_all v (blanked w (stored_of e.outcome)) (next_of e.outcome) (fault_of e.outcome) t) (same_but (value_of e.outcome) (value_of e2.outcome)) all_hidden
-      ∙ ap (λ s. with_all (blanked r (value_of e2.outcome)) s (next_of e.outcome) (fault_of e.outcome) (hidden everything e2)) (same_but (stored_of e.outcome) (stored_of e2.outcome))
-      ∙ ap₂ (λ n f. with_all (blanked r (value_of e2.outcome)) (blanked w (stored_of e2.outcome)) n f (hidden everything e2)) n f
+      ∙ ap₂ (λ v t. with_all v (zero_where_marked w (stored_of e.outcome)) (next_of e.outcome) (fault_of e.outcome) t) (same_but (value_of e.outcome) (value_of e2.outcome)) all_hidden
+      ∙ ap (λ s. with_all (zero_where_marked r (value_of e2.outcome)) s (next_of e.outcome) (fault_of e.outcome) (hidden everything e2)) (same_but (stored_of e.outcome) (stored_of e2.outcome))
+      ∙ ap₂ (λ n f. with_all (zero_where_marked r (value_of e2.outcome)) (zero_where_marked w (stored_of e2.outcome)) n f (hidden everything e2)) n f
       ∙ sym (ap (of_outcome e2) (firm_is r w (is_unresolved e2) e2.outcome))
 
 -- the marks of a window: of each entry what of its outcomes differs

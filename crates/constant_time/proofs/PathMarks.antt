@@ -10,7 +10,7 @@ use Rattle.window_model.specs.Path.{path}
 use Rattle.window_model.proofs.Booleans.{neither}
 use Rattle.secret_marks.specs.Alike.{AgreeBut}
 use Rattle.secret_marks.specs.Marks.{Secret}
-use Rattle.secret_marks.specs.Published.{Public, no_stream, published, published_in, then_published}
+use Rattle.secret_marks.specs.Published.{Public, no_stream, public_piece, published_in, then_published}
 use Rattle.secret_marks.proofs.Outputs.{split}
 use Rattle.secret_marks.proofs.Trace.{opening_alike}
 use Rattle.constant_time.specs.Certified.{EndedPathLeaksAlike, FirstStepShows, OnePathTellsAll, PathPublishesItsSteps, PublishSame}
@@ -26,9 +26,9 @@ use Rattle.constant_time.proofs.StepMarks.{leaks_same, path_go}
 -- what a step publishes from two states, and what follows it, is equal where both together are
 behind_published : (public : Public) (step : Code → Hart → Step) (code : Code) (n : ℕ) (s s2 t t2 : Hart) (p p2 : List ℕ) → PiecesAlike s s2 (Goes t p) (Goes t2 p2) →
     then_published public s2 (Goes t2 p2) (path_published public step code n) ≡ then_published public s (Goes t p) (path_published public step code n) →
-    (published public s p ≡ published public s2 p2) × (path_published public step code n t2 ≡ path_published public step code n t)
+    (public_piece public s p ≡ public_piece public s2 p2) × (path_published public step code n t2 ≡ path_published public step code n t)
 behind_published public step code n s s2 t t2 p p2 a e =
-    let q = split (published public s p) (published public s2 p2) (path_published public step code n t) (path_published public step code n t2) (published_length public s s2 t t2 p p2 a) (sym e) in (q.0, sym q.1)
+    let q = split (public_piece public s p) (public_piece public s2 p2) (path_published public step code n t) (path_published public step code n t2) (published_length public s s2 t t2 p p2 a) (sym e) in (q.0, sym q.1)
 
 path_leaks : (public : Public) (model : SttModel) (code : Code) (n : ℕ) (m : PathMarks) (s s2 : Hart) → StatesAlike m s s2 → path_shows public (path model) code n s m ≡ false →
     path_published public (path model) code n s2 ≡ path_published public (path model) code n s → LeakAlike (path model) code n s s2
@@ -96,7 +96,7 @@ path_publishes public code (suc n) s = more (isa_step code s) (λ t. path_publis
   where
     more : (t : Step) → ((t : Hart) → path_published public isa_step code n t ≡ published_in public code n t) →
         then_published public s t (path_published public isa_step code n) ≡ then_published public s t (published_in public code n)
-    more (Goes t p) f = ap (λ q. published public s p ++ q) (f t)
+    more (Goes t p) f = ap (λ q. public_piece public s p ++ q) (f t)
     more (Exits v t) f = refl
     more (Traps c) f = refl
 

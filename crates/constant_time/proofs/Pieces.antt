@@ -3,11 +3,11 @@ use Rattle.std.proofs.Common.{◌≡◌, ℕ, ◌-◌, Bool, true, false, List, 
 use Rattle.std.specs.Prelude.{if◌then◌else◌, nat_le}
 use Rattle.rv_types.specs.Causes.{jump_misaligned}
 use Rattle.rv_types.specs.Isa.{Effect, Hart, Step, Goes, Exits, Traps, goes_to, or_trap, other_step, reg}
-use Rattle.rv_types.specs.Path.{pass_fault, passed}
+use Rattle.rv_types.specs.Path.{pass_fault, state_past_access}
 use Rattle.rv_types.specs.declared.Cause.{Cause}
 use Rattle.rv_types.specs.declared.Instr.{Instr}
 use Rattle.secret_marks.specs.Alike.{Beside, SameByte}
-use Rattle.secret_marks.specs.Published.{Public, published, unmarked_at}
+use Rattle.secret_marks.specs.Published.{Public, public_piece, unmarked_at}
 use Rattle.secret_marks.proofs.Outputs.{of_nothing}
 use Rattle.secret_marks.proofs.Publish.{unmarks}
 use Rattle.constant_time.specs.PathMarks.{PathMarks, after_instr, after_step}
@@ -40,7 +40,7 @@ silent_passed true s i (Goes t p) h = h
 silent_passed true s i (Exits v t) h = tt
 silent_passed true s i (Traps c) h = by_cause (nat_le 4 c.number)
   where
-    by_cause : (x : Bool) → Silent (if x then Goes (passed s i) [] else Traps c)
+    by_cause : (x : Bool) → Silent (if x then Goes (state_past_access s i) [] else Traps c)
     by_cause true = refl
     by_cause false = tt
 
@@ -90,7 +90,7 @@ both_silent s s2 (Traps c) t2 h h2 = tt
 
 module _ (public : Public) (s s2 t t2 : Hart) (p p2 : List ℕ) where
   -- what both steps publish has one length
-  pub published_length : PiecesAlike s s2 (Goes t p) (Goes t2 p2) → length (published public s p) ≡ length (published public s2 p2)
+  pub published_length : PiecesAlike s s2 (Goes t p) (Goes t2 p2) → length (public_piece public s p) ≡ length (public_piece public s2 p2)
   published_length (inl e) = ap length (of_nothing public s p e.0 ∙ sym (of_nothing public s2 p2 e.1))
   published_length (inr w) = by_stream (public (reg s.regs 10)) (public (reg s2.regs 10)) (ap public w.stream)
     where
@@ -114,8 +114,8 @@ module _ (public : Public) (s s2 t t2 : Hart) (p p2 : List ℕ) where
     none : (q : List ℕ) → q ≡ [] → Out q
     none q z = subst Out (sym z) h.bytes
 
-    by_pieces : PiecesAlike s s2 (Goes t p) (Goes t2 p2) → published public s p ≡ published public s2 p2 → Out (published public s p)
-    by_pieces (inl z) e = none (published public s p) (of_nothing public s p z.0)
+    by_pieces : PiecesAlike s s2 (Goes t p) (Goes t2 p2) → public_piece public s p ≡ public_piece public s2 p2 → Out (public_piece public s p)
+    by_pieces (inl z) e = none (public_piece public s p) (of_nothing public s p z.0)
     by_pieces (inr w) e = by_stream (public (reg s.regs 10)) (public (reg s2.regs 10)) (ap public w.stream) e
       where
         by_stream : (b b2 : Bool) → b ≡ b2 → (if b then p else []) ≡ (if b2 then p2 else []) → Out (if b then p else [])
@@ -124,5 +124,5 @@ module _ (public : Public) (s s2 t t2 : Hart) (p p2 : List ℕ) where
         by_stream true false q e = absurd (cc)
 
     -- what both steps publish loses its marks where it is equal
-    pub published_alike : PiecesAlike s s2 (Goes t p) (Goes t2 p2) → published public s p ≡ published public s2 p2 → StatesAlike (after_step public s i p m) t t2
+    pub published_alike : PiecesAlike s s2 (Goes t p) (Goes t2 p2) → public_piece public s p ≡ public_piece public s2 p2 → StatesAlike (after_step public s i p m) t t2
     published_alike a e = record { pc = h.pc; regs = h.regs; place = h.place; bytes = by_pieces a e }

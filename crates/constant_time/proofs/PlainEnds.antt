@@ -4,13 +4,13 @@ use Rattle.std.specs.Prelude.{if◌then◌else◌, nat_le}
 use Rattle.rv_types.specs.Decode.{decode}
 use Rattle.rv_types.specs.Memory.{Code}
 use Rattle.rv_types.specs.Isa.{Hart, Step, Goes, Exits, Traps, after, isa, isa_step, run, start, step_at}
-use Rattle.rv_types.specs.Path.{pass_at, pass_fault, pass_step, passed}
+use Rattle.rv_types.specs.Path.{pass_at, pass_fault, pass_step, state_past_access}
 use Rattle.rv_types.specs.declared.Cause.{Cause}
 use Rattle.machine_desc.specs.declared.SttModel.TheVariants.{Spectre, Futuristic}
 use Rattle.window_model.specs.Fetch.{instr_at, kind_at}
 use Rattle.window_model.proofs.Booleans.{neither, not_true}
 use Rattle.noninterference.proofs.Paths.{path_goes}
-use Rattle.secret_marks.specs.Published.{Public, published, published_in, then_published}
+use Rattle.secret_marks.specs.Published.{Public, public_piece, published_in, then_published}
 use Rattle.secret_marks.proofs.Outputs.{split}
 use Rattle.constant_time.specs.Certified.{OneRunForEveryCore, ends_plainly}
 use Rattle.constant_time.specs.Leaks.{BothGo, LeakAlike, leak, leak_as}
@@ -31,7 +31,7 @@ exits_at (Some w) s t v h = ap (pass_fault s (decode w)) h
 
 traps_at : (o : Option ℕ) (s : Hart) (c : Cause) → nat_le 4 c.number ≡ false → step_at o s ≡ Traps c → pass_at o s ≡ Traps c
 traps_at None s c n h = h
-traps_at (Some w) s c n h = ap (pass_fault s (decode w)) h ∙ ap (λ b. if b then Goes (passed s (decode w)) [] else Traps c) n
+traps_at (Some w) s c n h = ap (pass_fault s (decode w)) h ∙ ap (λ b. if b then Goes (state_past_access s (decode w)) [] else Traps c) n
 
 -- an exit is one on both paths
 exits_too : (code : Code) (s t : Hart) (v : ℕ) → isa_step code s ≡ Exits v t → pass_step code s ≡ Exits v t
@@ -79,7 +79,7 @@ plain_leaks public code (suc k) m s s2 h e q b =
     more (Goes t p) (Goes t2 p2) g g2 a o w e q b f =
         let R : Hart → Hart → Type 0 = λ t t2. LeakAlike pass_step code k t t2 in
         let i = instr_at (code s.pc) in
-        let c = split (published public s p) (published public s2 p2) (published_in public code k t) (published_in public code k t2) (published_length public s s2 t t2 p p2 o) (sym b) in
+        let c = split (public_piece public s p) (public_piece public s2 p2) (published_in public code k t) (published_in public code k t2) (published_length public s s2 t t2 p p2 o) (sym b) in
         let r = f t t2 (after_step public s i p m) (published_alike public s s2 t t2 p p2 i m a o c.0) e q (sym c.1) in
         subst (λ u. BothGo u (pass_step code s2) R) (sym (path_goes Spectre code s t p g)) (subst (λ u. BothGo (Goes t p) u R) (sym (path_goes Spectre code s2 t2 p2 g2)) r)
     more (Goes t p) (Exits v t2) g g2 a o w e q b f = absurd w

@@ -25,13 +25,13 @@ use Rattle.window_model.proofs.Resolving.{MayResolve, resolve_parts}
 use Rattle.committed_state.specs.Computed.{ComesTo, as_known_by}
 use Rattle.committed_state.specs.Consistent.{EntryInvariant, bank_in}
 use Rattle.committed_state.specs.Links.{Chain, links}
-use Rattle.committed_state.specs.Replay.{Bank, bank, effect_on, replayed, replayed_as}
+use Rattle.committed_state.specs.Replay.{Bank, bank, effect_on, replay_outcome, replayed_as}
 use Rattle.committed_state.proofs.Bytes.{some_is}
 use Rattle.committed_state.proofs.Known.{done_issued, replayed_behind}
 use Rattle.noninterference.proofs.Faults.{hart}
 use Rattle.noninterference.proofs.OneRun.{Linked, reaches}
 use Rattle.noninterference.proofs.PathLink.{visible_clear}
-use Rattle.two_runs.specs.Masks.{LeftAlike, ResolvedAlike, SamePlace, but_data}
+use Rattle.two_runs.specs.Masks.{LeftAlike, ResolvedAlike, SamePlace, without_contents}
 use Rattle.two_runs.specs.Seen.{SeenEntries, without_outcome}
 use Rattle.two_runs.proofs.Choices.{Both, if_both}
 use Rattle.two_runs.proofs.Looking.{same_visible}
@@ -99,7 +99,7 @@ module _ (now : ℕ) (d : Desc) (protected : protects d.stt_model ≡ true) (cod
       e.outcome ≡ Some (going (effect_on (bank (bank_in (hart_of y)) before) e))
   outcome_is y m before e w v c f =
       let b = bank_in (hart_of y) in
-      let O = replayed (bank b before) e in
+      let O = replay_outcome (bank b before) e in
       let r = (replayed_behind d code b now m (e ∷ before) (w.here, w.behind)).0 (visible_clear d.stt_model before protected v) in
       let r2 = subst (ComesTo e.outcome) (known_whole e.item.kind (has_address e) (has_data e) O c) r in
       some_is e.outcome O r2 (done_issued d code b now before e w.here (goes_on e.item.kind c) f) ∙ ap Some (control_replayed e.item.kind (bank b before) e c)
@@ -148,7 +148,7 @@ module _ (now : ℕ) (d : Desc) (protected : protects d.stt_model ≡ true) (cod
     walk before before2 ms _ _ _ t u b b2 a a2 l l2 c c2 wait lt = absurd u
 
 -- an entry that goes on alike at one place is unmarked under the marks where both differ
-at_places : (d : Desc) (S : List Entry → List Entry → Type 0) (ms : List EntryMarks) (x x2 : Machine) → but_data x ≡ but_data x2 → Beside SameEntry ms x.window x2.window → (o o2 : Option Place) → Both (SamePlace unmarked_of S ms) o o2 →
+at_places : (d : Desc) (S : List Entry → List Entry → Type 0) (ms : List EntryMarks) (x x2 : Machine) → without_contents x ≡ without_contents x2 → Beside SameEntry ms x.window x2.window → (o o2 : Option Place) → Both (SamePlace unmarked_of S ms) o o2 →
     (GoTwo : Option Place → Option Place → Type 0) → ((p p2 : Place) → GoTwo (Some p) (Some p2) → ResolvedAlike p.entry p2.entry) → GoTwo o o2 →
     (ns : List EntryMarks) × LeftAlike unmarked_of ns (resolve_at d o x) (resolve_at d o2 x2)
 at_places d S ms x x2 h w None None s G told g = (ms, record { events = refl; others = h; window = under ms x.window x2.window w })

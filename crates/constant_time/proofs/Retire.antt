@@ -23,7 +23,7 @@ use Rattle.secret_marks.specs.Marks.{Marks}
 use Rattle.secret_marks.specs.Words.{any_byte, unmarked}
 use Rattle.secret_marks.specs.Shows.{call_shows, head_shows}
 use Rattle.secret_marks.proofs.Retire.{retire_keeps}
-use Rattle.constant_time.specs.Leaks.{LeakAlike, asked, leak, leak_as}
+use Rattle.constant_time.specs.Leaks.{LeakAlike, call_arguments, leak, leak_as}
 use Rattle.constant_time.specs.Laws.{RetireLeaksAlike}
 use Rattle.constant_time.proofs.Differ.{again, loosened, reg_unmarked, regs_differ}
 use Rattle.constant_time.proofs.Onward.{goes_on}
@@ -50,7 +50,7 @@ module _ (g g2 : List ℕ) where
       ap₂ (λ a b. a || b) (ap₂ (λ a b. a || b) (reg_unmarked g g2 10 e) (reg_unmarked g g2 11 f)) (reg_unmarked g g2 12 h)
   asked_quiet false false q = refl
 
-call_quiet : (m : Marks) (x x2 : Machine) → asked x.regs ≡ asked x2.regs → call_shows x (loosened m x x2) ≡ false
+call_quiet : (m : Marks) (x x2 : Machine) → call_arguments x.regs ≡ call_arguments x2.regs → call_shows x (loosened m x x2) ≡ false
 unfolding Marked
 call_quiet m x x2 h =
     let e : reg x.regs 17 ≡ reg x2.regs 17 = cc in
@@ -58,7 +58,7 @@ call_quiet m x x2 h =
     let r2 : asked_by (reg x.regs 17) x.regs ≡ asked_by (reg x.regs 17) x2.regs = r ∙ ap (λ a. asked_by a x2.regs) (sym e) in
     ap₂ (λ a b. a || b) (reg_unmarked x.regs x2.regs 17 e) (asked_quiet x.regs x2.regs (reg x.regs 17 == 93 || reg x.regs 17 == 94) (reg x.regs 17 == 64) r2)
 
-call_asks : (code : Code) (s : Hart) → kind_at (code s.pc) ≡ Call → leak code s ≡ asked s.regs
+call_asks : (code : Code) (s : Hart) → kind_at (code s.pc) ≡ Call → leak code s ≡ call_arguments s.regs
 call_asks code s k = ap (λ k. leak_as k s (instr_at (code s.pc))) k
 
 head_quiet : (now : ℕ) (d : Desc) (code : Code) (m : Marks) (x x2 : Machine) (w : List Entry) → Along (EntryInvariant d code (bank_in (hart_of x)) now) [] w → Chain (Some x.pc) (links w x.queue) x.fetch_pc → x.pc ≡ x2.pc →

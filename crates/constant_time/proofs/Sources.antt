@@ -14,7 +14,7 @@ use Rattle.secret_marks.specs.Words.{SameWord, any_byte, unmarked}
 use Rattle.secret_marks.specs.Alike.{Beside, SameByte, SameRegisters}
 use Rattle.secret_marks.proofs.Lists.{beside_at}
 use Rattle.secret_marks.proofs.Words.{same_whole}
-use Rattle.constant_time.specs.Leaks.{asked}
+use Rattle.constant_time.specs.Leaks.{call_arguments}
 use Rattle.constant_time.specs.PathMarks.{PathMarks, asks_marked, first_mark, has_mark, second_mark}
 
 -- two states are equal but where marks stand
@@ -53,7 +53,7 @@ module _ (ms : List WordMarks) (g g2 : List ℕ) (h : Beside SameWord ms g g2) w
   reg_equal r n = same_whole (get_or ms r unmarked) (reg g r) (reg g2 r) n (reg_same r)
 
   -- what a call is asked for is equal where it is unmarked
-  pub asked_same : asks_marked g ms ≡ false → asked g ≡ asked g2
+  pub asked_same : asks_marked g ms ≡ false → call_arguments g ≡ call_arguments g2
   asked_same n =
       let p = neither (has_mark ms 17) _ n in
       let e = reg_equal 17 p.0 in

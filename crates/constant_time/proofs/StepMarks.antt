@@ -6,10 +6,10 @@ use Rattle.rv_types.specs.Decode.{decode}
 use Rattle.rv_types.specs.Causes.{breakpoint, illegal, jump_misaligned, load_misaligned, load_outside, store_misaligned, store_outside, outside_code}
 use Rattle.rv_types.specs.Kind.{kind_of}
 use Rattle.rv_types.specs.Memory.{Code, Ram, load_fault, range, store_fault, with_bytes}
-use Rattle.rv_types.specs.Path.{pass_at, pass_fault, pass_step, passed}
+use Rattle.rv_types.specs.Path.{pass_at, pass_fault, pass_step, state_past_access}
 use Rattle.rv_types.specs.Regs.{reads_of, unless_zero, writes_of}
 use Rattle.rv_types.specs.Value.{extend, size_of}
-use Rattle.rv_types.specs.Isa.{Effect, Hart, Step, Goes, Exits, Traps, call, effect, effect_in, first_of, isa_step, loaded, or_trap, reg, second_of, step_at, step_of, with_reg}
+use Rattle.rv_types.specs.Isa.{Effect, Hart, Step, Goes, Exits, Traps, call, effect, effect_in, first_of, isa_step, load_value, or_trap, reg, second_of, step_at, step_of, with_reg}
 use Rattle.rv_types.specs.declared.Cause.{Cause}
 use Rattle.rv_types.specs.declared.Instr.{Instr}
 use Rattle.rv_types.specs.declared.Instr.TheVariants as instr
@@ -136,14 +136,14 @@ module _ (m : PathMarks) (s s2 : Hart) (h : StatesAlike m s s2) where
       (beside_at SameByte m.bytes s.ram.bytes s2.ram.bytes (a - s.ram.base) false 0 0 h.bytes no_byte)
 
   -- what is loaded from one address, where both loads are without fault
-  loaded_same : (o : Op) (a : ℕ) → load_fault s.ram a (size_of o) ≡ None → load_fault s2.ram a (size_of o) ≡ None → SameWord (loaded_marks o (λ b. get_or m.bytes (b - s.ram.base) false) a) (loaded s o a) (loaded s2 o a)
+  loaded_same : (o : Op) (a : ℕ) → load_fault s.ram a (size_of o) ≡ None → load_fault s2.ram a (size_of o) ≡ None → SameWord (loaded_marks o (λ b. get_or m.bytes (b - s.ram.base) false) a) (load_value s o a) (load_value s2 o a)
   loaded_same o a f f2 =
       let r = inside _ _ s.ram a (size_of o) f in
       let r2 = inside _ _ s2.ram a (size_of o) f2 in
       let w = loaded_marks o (λ b. get_or m.bytes (b - s.ram.base) false) a in
       let e = bytes_map s.ram a (size_of o) r.0 r.1 in
       let e2 = bytes_map s2.ram a (size_of o) r2.0 r2.1 in
-      subst (λ bs. SameWord w (extend o (from_le bs)) (loaded s2 o a)) (sym e)
+      subst (λ bs. SameWord w (extend o (from_le bs)) (load_value s2 o a)) (sym e)
       (subst (λ bs. SameWord w (extend o (from_le (map (λ b. slice_index s.ram.bytes (b - s.ram.base)) (range a (size_of o))))) (extend o (from_le bs))) (sym e2)
       (same_loaded o (λ b. get_or m.bytes (b - s.ram.base) false) (λ b. slice_index s.ram.bytes (b - s.ram.base)) (λ b. slice_index s2.ram.bytes (b - s2.ram.base)) a byte_same))
 
@@ -172,20 +172,20 @@ module _ (m : PathMarks) (s s2 : Hart) (h : StatesAlike m s s2) where
     loads f = record m { regs = with_marks m.regs rd (load_marks f o (λ b. get_or m.bytes (b - s.ram.base) false) a) }
 
     abbrev to : Hart
-    to = record s { pc = n; regs = with_reg s.regs rd (loaded s o a) }
+    to = record s { pc = n; regs = with_reg s.regs rd (load_value s o a) }
 
     abbrev to2 : Hart
-    to2 = record s2 { pc = n2; regs = with_reg s2.regs rd (loaded s2 o a2) }
+    to2 = record s2 { pc = n2; regs = with_reg s2.regs rd (load_value s2 o a2) }
 
     load_by : (b : Bool) (f f2 : Option Cause) → load_fault s.ram a (size_of o) ≡ f → load_fault s2.ram a2 (size_of o) ≡ f2 → f ≡ f2 →
-        ((c : Cause) → f ≡ Some c → StatesAlike (loads (Some c)) (passed s i) (passed s2 i)) →
+        ((c : Cause) → f ≡ Some c → StatesAlike (loads (Some c)) (state_past_access s i) (state_past_access s2 i)) →
         BothGo (Way b s i (or_trap f (Goes to []))) (Way b s2 i (or_trap f2 (Goes to2 []))) (λ t t2. StatesAlike (loads f) t t2)
     load_by b None None q q2 e p = subst (λ t. t) (sym (both_ways b)) there
       where
         there : StatesAlike (loads None) to to2
         there = record {
           pc = qn;
-          regs = regs_out i rd _ _ _ w (subst (λ x. SameWord (loaded_marks o (λ b. get_or m.bytes (b - s.ram.base) false) a) (loaded s o a) (loaded s2 o x)) qa (loaded_same o a q (ap (λ x. load_fault s2.ram x (size_of o)) qa ∙ q2)));
+          regs = regs_out i rd _ _ _ w (subst (λ x. SameWord (loaded_marks o (λ b. get_or m.bytes (b - s.ram.base) false) a) (load_value s o a) (load_value s2 o x)) qa (loaded_same o a q (ap (λ x. load_fault s2.ram x (size_of o)) qa ∙ q2)));
           place = h.place;
           bytes = h.bytes;
         }
@@ -196,7 +196,7 @@ module _ (m : PathMarks) (s s2 : Hart) (h : StatesAlike m s s2) where
     load_by false (Some c) (Some c2) q q2 e p = tt
     load_by true (Some c) (Some c2) q q2 e p = by_cause (nat_le 4 c.number) (nat_le 4 c2.number)
       where
-        by_cause : (x y : Bool) → BothGo (if x then Goes (passed s i) [] else Traps c) (if y then Goes (passed s2 i) [] else Traps c2) (λ t t2. StatesAlike (loads (Some c)) t t2)
+        by_cause : (x y : Bool) → BothGo (if x then Goes (state_past_access s i) [] else Traps c) (if y then Goes (state_past_access s2 i) [] else Traps c2) (λ t t2. StatesAlike (loads (Some c)) t t2)
         by_cause true true = p c refl
         by_cause true false = tt
         by_cause false y = tt
@@ -236,7 +236,7 @@ module _ (m : PathMarks) (s s2 : Hart) (h : StatesAlike m s s2) where
         subst (λ vs. Beside SameByte (with_byte_marks m.bytes k z wm) vs (with_bytes s2.ram a2 (to_le z v2)).bytes) (sym q1) (subst (Beside SameByte (with_byte_marks m.bytes k z wm) (put k s.ram.bytes v)) q2 b)
 
     store_by : (b : Bool) (f f2 : Option Cause) → f ≡ f2 →
-        ((c : Cause) → f ≡ Some c → StatesAlike (stores (Some c)) (passed s i) (passed s2 i)) →
+        ((c : Cause) → f ≡ Some c → StatesAlike (stores (Some c)) (state_past_access s i) (state_past_access s2 i)) →
         BothGo (Way b s i (or_trap f (Goes put_to []))) (Way b s2 i (or_trap f2 (Goes put_to2 []))) (λ t t2. StatesAlike (stores f) t t2)
     store_by b None None e p = subst (λ t. t) (sym (both_ways b)) there
       where
@@ -254,7 +254,7 @@ module _ (m : PathMarks) (s s2 : Hart) (h : StatesAlike m s s2) where
     store_by false (Some c) (Some c2) e p = tt
     store_by true (Some c) (Some c2) e p = by_cause (nat_le 4 c.number) (nat_le 4 c2.number)
       where
-        by_cause : (x y : Bool) → BothGo (if x then Goes (passed s i) [] else Traps c) (if y then Goes (passed s2 i) [] else Traps c2) (λ t t2. StatesAlike (stores (Some c)) t t2)
+        by_cause : (x y : Bool) → BothGo (if x then Goes (state_past_access s i) [] else Traps c) (if y then Goes (state_past_access s2 i) [] else Traps c2) (λ t t2. StatesAlike (stores (Some c)) t t2)
         by_cause true true = p c refl
         by_cause true false = tt
         by_cause false y = tt
@@ -343,7 +343,7 @@ module _ (m : PathMarks) (s s2 : Hart) (h : StatesAlike m s s2) where
   traps false i c q R = tt
   traps true i c q R = by_cause (nat_le 4 c.number) q
     where
-      by_cause : (x : Bool) → x ≡ false → BothGo (if x then Goes (passed s i) [] else Traps c) (if x then Goes (passed s2 i) [] else Traps c) R
+      by_cause : (x : Bool) → x ≡ false → BothGo (if x then Goes (state_past_access s i) [] else Traps c) (if x then Goes (state_past_access s2 i) [] else Traps c) R
       by_cause false q = tt
       by_cause true q = absurd (cc)
 

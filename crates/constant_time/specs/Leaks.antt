@@ -20,8 +20,8 @@ abbrev pub goes_so : Effect → List ℕ
 goes_so f = f.value ∷ f.next ∷ one_if f.misaligned ∷ []
 
 -- what a call is asked for: its number, an exit's value, a write's stream, address and length
-abbrev pub asked : List ℕ → List ℕ
-asked regs =
+abbrev pub call_arguments : List ℕ → List ℕ
+call_arguments regs =
     reg regs 17
     ∷ (if reg regs 17 == 93 || reg regs 17 == 94 then reg regs 10 ∷ []
     else if reg regs 17 == 64 then reg regs 10 ∷ reg regs 11 ∷ reg regs 12 ∷ [] else [])
@@ -34,7 +34,7 @@ leak_as Store s i = first_of (reads_of i) s.regs ∷ []
 leak_as Div s i = first_of (reads_of i) s.regs ∷ []
 leak_as Branch s i = goes_so (effect_in s i)
 leak_as Jalr s i = goes_so (effect_in s i)
-leak_as Call s i = asked s.regs
+leak_as Call s i = call_arguments s.regs
 leak_as _ s i = []
 
 -- what the next step leaks besides its address

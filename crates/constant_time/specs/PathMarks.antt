@@ -17,7 +17,7 @@ use Rattle.secret_marks.specs.declared.WordMarks.{WordMarks}
 use Rattle.secret_marks.specs.Words.{any_byte, either, unmarked}
 use Rattle.secret_marks.specs.Results.{loaded_marks, result_marks}
 use Rattle.secret_marks.specs.Marks.{Secret, opening_marks, with_byte_marks, with_marks}
-use Rattle.secret_marks.specs.Published.{Public, published, then_published, unmarked_at}
+use Rattle.secret_marks.specs.Published.{Public, public_piece, then_published, unmarked_at}
 
 -- the marks beside a state
 pub record PathMarks : Type 0 where
@@ -95,7 +95,7 @@ after_instr s i m = record m { regs = with_marks m.regs (writes_of i) (result_ma
 -- the marks behind a step that put out a piece: bytes of memory that it published are unmarked
 abbrev pub after_step : Public → Hart → Instr → List ℕ → PathMarks → PathMarks
 after_step public s i piece m =
-    let n = after_instr s i m in record n { bytes = unmarked_at (reg s.regs 11 - s.ram.base) (published public s piece) n.bytes }
+    let n = after_instr s i m in record n { bytes = unmarked_at (reg s.regs 11 - s.ram.base) (public_piece public s piece) n.bytes }
 
 -- ---- runs
 

@@ -12,7 +12,7 @@ use Rattle.window_model.specs.Cycle.{trace}
 use Rattle.window_model.specs.Delay.{delays}
 use Rattle.window_model.specs.Path.{path}
 use Rattle.window_model.specs.Taint.{protects}
-use Rattle.secret_marks.specs.Cipher.{cipher, keyed, no_key, table, the_key}
+use Rattle.secret_marks.specs.Cipher.{cipher, memory_with_key, no_key, table, the_key}
 use Rattle.secret_marks.specs.Programs as program
 use Rattle.secret_marks.specs.Published.{Public, no_stream}
 use Rattle.secret_marks.specs.Worked.{stream_two, the_secret}
@@ -101,17 +101,17 @@ pub record PathsThatPublish : Type 0 where
 
 -- the run of the cipher with the key 0 ends within 60 steps
 abbrev pub CipherEnds : Type 0
-CipherEnds = path_ends pass_step (code_of cipher) 60 (start 0x10000 (keyed no_key)) ≡ true
+CipherEnds = path_ends pass_step (code_of cipher) 60 (start 0x10000 (memory_with_key no_key)) ≡ true
 
 -- two rounds of XTEA have one trace for all keys, of any number of cycles, on every core with a model that protects and
 -- the defence `delay`
 abbrev pub CipherOnEveryCore : Type 0
 CipherOnEveryCore = (d : Desc) (n : ℕ) → protects d.stt_model ≡ true → delays d.stt_defence ≡ true →
     (key : List ℕ) → length key ≡ 8 → All (λ b. b < 2 ^ 8) key →
-    trace d (code_of cipher) 0x10000 (keyed key) n ≡ trace d (code_of cipher) 0x10000 (keyed no_key) n
+    trace d (code_of cipher) 0x10000 (memory_with_key key) n ≡ trace d (code_of cipher) 0x10000 (memory_with_key no_key) n
 
 -- a look-up by a byte of the key shows in the step that loads from the table, the fourth
 abbrev pub TableShows : Type 0
 TableShows =
-    first_shown no_stream isa_step (code_of table) 10 1 (start 0x10000 (keyed no_key)) (first_marks the_key (keyed no_key))
+    first_shown no_stream isa_step (code_of table) 10 1 (start 0x10000 (memory_with_key no_key)) (first_marks the_key (memory_with_key no_key))
     ≡ Some (record { step = 4; kind = Load; pc = 0x1000c })

@@ -12,7 +12,7 @@ use Rattle.rename_taint.specs.Writes.{without_retired}
 use Rattle.lsq.specs.Queues.{Queues, without}
 use Rattle.visibility.specs.Point.{HasAdvanced, Point}
 use Rattle.refinement.specs.Waiters.{Hold, gives_at}
-use Rattle.retire.specs.Gone.{MayRetire, popped, without_each}
+use Rattle.retire.specs.Gone.{MayRetire, queues_without, without_each}
 use Rattle.retire.proofs.Leaving.{alone_rest}
 use Rattle.refinement.specs.InFlight.{InFlight, hold_in}
 use Rattle.refinement.proofs.Steps.{refines_retired}
@@ -57,11 +57,11 @@ drop_more n (x ∷ xs) = refl
 
 -- the oldest entries go, one after the other
 pub all_gone : (p : InFlight) (gone rest : List Entry) (sources : List Sources) (writes : List Write) (q : Queues) → Each MayRetire gone → CallAlone (gone ++ rest) →
-    HasAdvanced p.point (gone ++ rest) → Tied p (gone ++ rest) sources writes q → Tied p rest (drop (length gone) sources) (without_each gone writes) (popped gone q)
+    HasAdvanced p.point (gone ++ rest) → Tied p (gone ++ rest) sources writes q → Tied p rest (drop (length gone) sources) (without_each gone writes) (queues_without gone q)
 all_gone p [] rest sources writes q m alone a t = t
 all_gone p (e ∷ gone) rest sources writes q m alone a t =
     let one = one_gone p e (gone ++ rest) sources writes q (leaves_done e m.0.0) a t in
     let all =
     all_gone p gone rest (drop 1 sources) (without_retired e.serial writes) (without e.serial q) m.1 (alone_rest e (gone ++ rest) alone)
     (head_gone p.point e (gone ++ rest) m.0 alone a) one in
-    subst (λ sources. Tied p rest sources (without_each (e ∷ gone) writes) (popped (e ∷ gone) q)) (drop_more (length gone) sources) all
+    subst (λ sources. Tied p rest sources (without_each (e ∷ gone) writes) (queues_without (e ∷ gone) q)) (drop_more (length gone) sources) all

@@ -16,9 +16,9 @@ use Rattle.quiet_cycles.proofs.Early.{clear_nothing, complete_nothing, none_done
 use Rattle.quiet_cycles.proofs.RenameFetch.{rename_nothing}
 use Rattle.visibility.specs.Point.{HasAdvanced, Point}
 use Rattle.rob_ring.specs.Ring.{Ring}
-use Rattle.retire.specs.Gone.{gone, MayRetire}
+use Rattle.retire.specs.Gone.{leaving_entries, MayRetire}
 use Rattle.core_parts.specs.Described.{Described}
-use Rattle.core_parts.specs.Held.{Held, Whole, described}
+use Rattle.core_parts.specs.Held.{Held, Whole, described_of}
 use Rattle.core_cycle.proofs.Advanced.{complete_advanced, retire_advanced}
 
 -- ---- a phase without events leaves the window as it was
@@ -58,13 +58,13 @@ module _ (p : Point) (x : Machine) (old new : Row) (same : length new.events ≡
 -- ---- what a phase leaves of the parts
 
 -- the point said which entries are visible
-pub advanced_here : (h : Held) (v : Described) → described h ≡ v → HasAdvanced v.point v.machine.window → HasAdvanced h.point h.rob.entries
+pub advanced_here : (h : Held) (v : Described) → described_of h ≡ v → HasAdvanced v.point v.machine.window → HasAdvanced h.point h.rob.entries
 advanced_here h v s a = subst (λ (v : Described). HasAdvanced v.point v.machine.window) (sym s) a
 
-pub retire_goes_on : (h : Held) (rob : Ring) (v : Described) → Whole h → h.rob.entries ≡ gone h.rob rob ++ rob.entries → Each MayRetire (gone h.rob rob) → described h ≡ v →
+pub retire_goes_on : (h : Held) (rob : Ring) (v : Described) → Whole h → h.rob.entries ≡ leaving_entries h.rob rob ++ rob.entries → Each MayRetire (leaving_entries h.rob rob) → described_of h ≡ v →
     HasAdvanced v.point v.machine.window → HasAdvanced h.point rob.entries
 retire_goes_on h rob v w left m s a =
-    retire_advanced h.point (gone h.rob rob) rob.entries m (subst CallAlone left w.sized.call_alone) (subst (HasAdvanced h.point) left (advanced_here h v s a))
+    retire_advanced h.point (leaving_entries h.rob rob) rob.entries m (subst CallAlone left w.sized.call_alone) (subst (HasAdvanced h.point) left (advanced_here h v s a))
 
 -- ---- the core's point, once the machine is another
 

@@ -8,12 +8,12 @@ use Rattle.machine_facts.proofs.FewEvents.{counts_opening}
 use Rattle.machine_facts.proofs.SizedPhases.{sized_opening}
 use Rattle.machine_facts.proofs.TimelyPhases.{timely_opening}
 use Rattle.committed_state.proofs.Run.{consistent_opening}
-use Rattle.core_parts.specs.Described.{opened}
+use Rattle.core_parts.specs.Described.{described_opening}
 use Rattle.core_cycle.specs.Kept.{Kept, KeptUntil}
 
 module _ (d : Desc) (code : CodeText) (entry : ℕ) (ram : Ram) where
   -- nothing is in flight in it, and its point is the first
-  pub opening_kept : Kept (word_at code) (opened d code entry ram)
+  pub opening_kept : Kept (word_at code) (described_opening d code entry ram)
   opening_kept = record {
     counted = counts_opening d entry ram;
     consistent = consistent_opening (word_at code) d entry ram;
@@ -23,5 +23,5 @@ module _ (d : Desc) (code : CodeText) (entry : ℕ) (ram : Ram) where
   }
 
   -- no cycle is known in which nothing happens
-  pub opening_kept_until : KeptUntil 0 (word_at code) (opened d code entry ram)
+  pub opening_kept_until : KeptUntil 0 (word_at code) (described_opening d code entry ram)
   opening_kept_until = record { kept = opening_kept; still = λ c le lt. absurd (omega (arith, lt)) }

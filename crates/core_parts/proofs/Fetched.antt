@@ -13,7 +13,7 @@ use Rattle.fetch_unit.specs.Unit as fetching
 use Rattle.fetch_unit.specs.Unit.{FetchUnit, HasSizes}
 use Rattle.history_pred.specs.Past.{Past}
 use Rattle.core_parts.specs.Described.{Described}
-use Rattle.core_parts.specs.Held.{Held, Sizes, Whole, described, machine_of, sizes}
+use Rattle.core_parts.specs.Held.{Held, Sizes, Whole, described_of, machine_of, sizes}
 use Rattle.core_parts.proofs.Whole.{shown_by}
 
 -- the description asks for parts of their sizes
@@ -48,15 +48,15 @@ fetch_whole code h fetch_unit past w f t p = record {
   made = ap₂ (λ t p. sizes (record h { fetch_unit = t; past = p })) t p ∙ w.made;
 }
 
-pub fetch_shown : (h : Held) (fetch_unit : FetchUnit) (past : Past) (v : Described) → Whole h → Leaves (word_at h.code) h fetch_unit past → described h ≡ v →
-    described (record h { fetch_unit = fetch_unit; past = past }) ≡ record v { machine = (fetch v.desc (word_at v.code) v.machine).machine }
+pub fetch_shown : (h : Held) (fetch_unit : FetchUnit) (past : Past) (v : Described) → Whole h → Leaves (word_at h.code) h fetch_unit past → described_of h ≡ v →
+    described_of (record h { fetch_unit = fetch_unit; past = past }) ≡ record v { machine = (fetch v.desc (word_at v.code) v.machine).machine }
 fetch_shown h fetch_unit past v w f s =
     shown_by (λ d x. (fetch d (word_at h.code) x).machine) h (machine_of (record h { fetch_unit = fetch_unit; past = past })) v (f h.desc (sizes_here h w) (machine_of h)) s
     ∙ ap (λ (t : Described). record v { machine = (fetch v.desc (word_at t.code) v.machine).machine }) s
 
 pub fetch_row : (h : Held) (v : Described) (old new : Row) → Whole h →
     fetching.InEach h.fetch_unit h.tables h.past
-    (λ d. (x : Machine) → new ≡ record old { events = old.events ++ (fetching.fetches d (word_at h.code) h.fetch_unit h.tables h.past x).events }) → described h ≡ v →
+    (λ d. (x : Machine) → new ≡ record old { events = old.events ++ (fetching.fetches d (word_at h.code) h.fetch_unit h.tables h.past x).events }) → described_of h ≡ v →
     new ≡ record old { events = old.events ++ (fetch v.desc (word_at v.code) v.machine).events }
 fetch_row h v old new w f s =
     let by_state : Described → Row = λ v. record old { events = old.events ++ (fetch v.desc (word_at v.code) v.machine).events } in

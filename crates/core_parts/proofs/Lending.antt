@@ -24,17 +24,17 @@ use Rattle.refinement.specs.Waiters.{oldest_of}
 use Rattle.std.specs.List.{cons_option}
 use Rattle.rob_ring.specs.declared.beside.Sources.{Sources}
 use Rattle.core_parts.specs.Described.{Described}
-use Rattle.core_parts.specs.Held.{Held, Sizes, Whole, described, in_flight}
+use Rattle.core_parts.specs.Held.{Held, Sizes, Whole, described_of, in_flight}
 use Rattle.core_parts.specs.Lent.{HasAddressRoots, HasRoots, HoldsWaiting, NamesRoots, NamesWriters, ShowsOlder, TellsPart, TellsReady, TellsVisible, address_roots}
 
-pub lent_names : (h : Held) (v : Described) → Whole h → described h ≡ v → NamesWriters h.writes v.machine.window
+pub lent_names : (h : Held) (v : Described) → Whole h → described_of h ≡ v → NamesWriters h.writes v.machine.window
 lent_names h v w s = subst (λ (v : Described). NamesWriters h.writes v.machine.window) s (λ r. names_writer (in_flight h) r w.refines)
 
-pub lent_name_roots : (h : Held) (v : Described) → Whole h → described h ≡ v → NamesRoots v.machine.next_serial h.writes v.machine.window
+pub lent_name_roots : (h : Held) (v : Described) → Whole h → described_of h ≡ v → NamesRoots v.machine.next_serial h.writes v.machine.window
 lent_name_roots h v w s = subst (λ (v : Described). NamesRoots v.machine.next_serial h.writes v.machine.window) s (λ r. names_root (in_flight h) r w.refines)
 
 -- the stations that are lent hold the entries that wait, with what their sources await
-pub lent_waiting : (h : Held) (v : Described) → Whole h → described h ≡ v → HoldsWaiting v.desc.version (hold_of v.desc v.point) h.stations v.machine.window
+pub lent_waiting : (h : Held) (v : Described) → Whole h → described_of h ≡ v → HoldsWaiting v.desc.version (hold_of v.desc v.point) h.stations v.machine.window
 lent_waiting h v w s = subst (λ (v : Described). HoldsWaiting v.desc.version (hold_of v.desc v.point) h.stations v.machine.window) s (holds_waiting (in_flight h) w.refines)
 
 -- results are held back by the point that has advanced
@@ -50,17 +50,17 @@ part_by : (h : Held) → Whole h → HasAdvanced h.point h.rob.entries → Tells
 part_by h w a part i e b c = tells_part part h.desc (in_flight h) i e w.refines (held_by h w a) b c
 
 -- the stations that are lent tell who is ready, once the point has moved
-pub lent_ready : (h : Held) (v : Described) → Whole h → described h ≡ v → HasAdvanced v.point v.machine.window → TellsReady v.desc h.stations v.machine.window
+pub lent_ready : (h : Held) (v : Described) → Whole h → described_of h ≡ v → HasAdvanced v.point v.machine.window → TellsReady v.desc h.stations v.machine.window
 lent_ready h v w s = subst (λ (v : Described). HasAdvanced v.point v.machine.window → TellsReady v.desc h.stations v.machine.window) s (ready_by h w)
 
 -- the stations that are lent tell which part of a store is ready, once the point has moved
-pub lent_parts : (h : Held) (v : Described) → Whole h → described h ≡ v → HasAdvanced v.point v.machine.window → TellsPart v.desc h.stations v.machine.window
+pub lent_parts : (h : Held) (v : Described) → Whole h → described_of h ≡ v → HasAdvanced v.point v.machine.window → TellsPart v.desc h.stations v.machine.window
 lent_parts h v w s = subst (λ (v : Described). HasAdvanced v.point v.machine.window → TellsPart v.desc h.stations v.machine.window) s (part_by h w)
 
-pub lent_queues : (h : Held) (v : Described) → Whole h → described h ≡ v → StandFor h.queues v.machine.window
+pub lent_queues : (h : Held) (v : Described) → Whole h → described_of h ≡ v → StandFor h.queues v.machine.window
 lent_queues h v w s = subst (λ (v : Described). StandFor h.queues v.machine.window) s (queues_stand (in_flight h) w.refines)
 
-pub lent_tracks : (h : Held) (v : Described) → Whole h → described h ≡ v → loads_pass v.desc ≡ true → Tracks h.queues v.machine.window
+pub lent_tracks : (h : Held) (v : Described) → Whole h → described_of h ≡ v → loads_pass v.desc ≡ true → Tracks h.queues v.machine.window
 lent_tracks h v w s = subst (λ (v : Described). loads_pass v.desc ≡ true → Tracks h.queues v.machine.window) s (queues_track (in_flight h) w.refines)
 
 -- ---- the roots of the stores' addresses
@@ -75,7 +75,7 @@ address_are t b (e ∷ es) = by_store (is_store e.item.kind) (address_are t (e �
     by_store true k = ap (λ os. base_root (source_roots b e) ∷ os) k
     by_store false k = k
 
-pub lent_addresses : (h : Held) (v : Described) → Whole h → described h ≡ v → HasAddressRoots v.machine.next_serial h.queues.stores v.machine.window
+pub lent_addresses : (h : Held) (v : Described) → Whole h → described_of h ≡ v → HasAddressRoots v.machine.next_serial h.queues.stores v.machine.window
 lent_addresses h v w s =
     let p = in_flight h in
     subst (λ (v : Described). HasAddressRoots v.machine.next_serial h.queues.stores v.machine.window) s
@@ -107,13 +107,13 @@ point_older q p window e a = older_by q window (subst (λ p. HasAdvanced p windo
 pub each_has_sources : (h : Held) → Whole h → length h.sources.items ≡ length h.rob.entries
 each_has_sources h w = counts_sources (in_flight h) w.refines
 
-pub lent_counts : (h : Held) (v : Described) (i : ℕ) → Whole h → described h ≡ v → i < length v.machine.window → i < length h.sources.items
+pub lent_counts : (h : Held) (v : Described) (i : ℕ) → Whole h → described_of h ≡ v → i < length v.machine.window → i < length h.sources.items
 lent_counts h v i w s l =
     let n = each_has_sources h w in
     let m = ap (λ (v : Described). length v.machine.window) s in
     omega (arith, n, m, l)
 
-pub lent_roots : (h : Held) (v : Described) (i : ℕ) (k : Sources) → Whole h → described h ≡ v → slice_get h.sources.items i ≡ Some k →
+pub lent_roots : (h : Held) (v : Described) (i : ℕ) (k : Sources) → Whole h → described_of h ≡ v → slice_get h.sources.items i ≡ Some k →
     HasRoots v.machine.next_serial v.machine.window i k.roots
 lent_roots h v i k w s g =
     subst (λ (v : Described). HasRoots v.machine.next_serial v.machine.window i k.roots) s

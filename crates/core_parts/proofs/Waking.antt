@@ -11,7 +11,7 @@ use Rattle.window_model.proofs.Positions.{above_of, below_of}
 use Rattle.window_model.proofs.Serials.{rise_head, rise_tail}
 use Rattle.stations.specs.Stations.{Stations, struck}
 use Rattle.refinement.specs.Waiters.{Hold, gives_at}
-use Rattle.refinement.specs.Stations.{released, struck_by_move, struck_each}
+use Rattle.refinement.specs.Stations.{serials_let_go, struck_by_move, struck_each}
 use Rattle.core_parts.specs.Given.{given_from, is_given}
 
 -- ---- which entries are visible
@@ -169,7 +169,7 @@ halves (suc n) [] = refl
 halves (suc n) (e ∷ es) = ap (λ fs. e ∷ fs) (halves n es)
 
 -- the point moves on: those that then give their values are those from the first that wasn't visible on
-pub released_from : (p p2 i : ℕ) (es : List Entry) → p ≤ p2 → Visible p (take i es) → Hidden p (drop i es) → given_from i p2 es ≡ released (at_point p) (at_point p2) es
+pub released_from : (p p2 i : ℕ) (es : List Entry) → p ≤ p2 → Visible p (take i es) → Hidden p (drop i es) → given_from i p2 es ≡ serials_let_go (at_point p) (at_point p2) es
 released_from p p2 i es k a b =
     ap (map (λ e. e.serial))
     (sym (each_newly p p2 (drop i es) b)
@@ -186,7 +186,7 @@ woken_as p p2 i es s k a b = ap (λ serials. record s { held = struck_each seria
 -- ---- where nothing is held back
 
 -- where no result is held back, a move of the point releases none
-pub none_released : (p p2 : ℕ) (es : List Entry) → released (record { holds = false; point = p }) (record { holds = false; point = p2 }) es ≡ []
+pub none_released : (p p2 : ℕ) (es : List Entry) → serials_let_go (record { holds = false; point = p }) (record { holds = false; point = p2 }) es ≡ []
 none_released p p2 es = ap (map (λ e. e.serial)) (all_gave es)
   where
     both : (d : Bool) → (not d && d) ≡ false

@@ -11,7 +11,7 @@ use Rattle.window_model.specs.Ready.{holds}
 use Rattle.window_model.specs.Row.{Row}
 use Rattle.window_model.specs.State.{Machine, After}
 use Rattle.core_parts.specs.Described.{Described}
-use Rattle.core_parts.specs.Held.{Held, Whole, described, in_flight, machine_of}
+use Rattle.core_parts.specs.Held.{Held, Whole, described_of, in_flight, machine_of}
 use Rattle.refinement.specs.Steps.{with_moved}
 use Rattle.refinement.proofs.Steps.{refines_moved}
 use Rattle.core_parts.proofs.Waking.{at_point, none_released}
@@ -19,7 +19,7 @@ use Rattle.core_parts.proofs.Waking.{at_point, none_released}
 -- ---- what is shown of the parts
 
 -- a phase of the machine that the parts hold is a phase of the machine that is seen
-pub shown_by : (phase : Desc → Machine → Machine) (h : Held) (y : Machine) (v : Described) → y ≡ phase h.desc (machine_of h) → described h ≡ v →
+pub shown_by : (phase : Desc → Machine → Machine) (h : Held) (y : Machine) (v : Described) → y ≡ phase h.desc (machine_of h) → described_of h ≡ v →
     record { desc = h.desc; code = h.code; machine = y; point = h.point } ≡ record v { machine = phase v.desc v.machine }
 shown_by phase h y v e s =
     let shown : Machine → Described = λ y. record { desc = h.desc; code = h.code; machine = y; point = h.point } in
@@ -27,7 +27,7 @@ shown_by phase h y v e s =
     ap shown e ∙ ap after s
 
 -- the events of a phase of the machine that the parts hold are those of the machine that is seen
-pub told_by : (phase : Desc → Machine → After) (h : Held) (v : Described) (old new : Row) → new ≡ record old { events = old.events ++ (phase h.desc (machine_of h)).events } → described h ≡ v →
+pub told_by : (phase : Desc → Machine → After) (h : Held) (v : Described) (old new : Row) → new ≡ record old { events = old.events ++ (phase h.desc (machine_of h)).events } → described_of h ≡ v →
     new ≡ record old { events = old.events ++ (phase v.desc v.machine).events }
 told_by phase h v old new e s = e ∙ ap (λ (v : Described). record old { events = old.events ++ (phase v.desc v.machine).events }) s
 

@@ -24,7 +24,7 @@ use Rattle.unit_ports.specs.Ports.{Ports}
 use Rattle.fetch_unit.specs.Unit.{FetchUnit}
 use Rattle.window_model.proofs.Serials.{splits}
 use Rattle.core_parts.specs.Described.{Described}
-use Rattle.core_parts.specs.Held.{Held, Whole, described, in_flight, machine_of}
+use Rattle.core_parts.specs.Held.{Held, Whole, described_of, in_flight, machine_of}
 use Rattle.core_parts.specs.Dropped.{StopsBelow}
 use Rattle.refinement.proofs.Steps.{refines_dropped}
 
@@ -98,5 +98,5 @@ module _ (h : Held) (first : ℕ) (next : Option ℕ) (rob : Ring) (sources : Bu
 
 -- ---- what a caller is asked
 
-pub stops_here : (h : Held) (v : Described) (first : ℕ) → Whole h → described h ≡ v → StopsBelow first v.point v.machine.window → StopsBelow first h.point h.rob.entries
+pub stops_here : (h : Held) (v : Described) (first : ℕ) → Whole h → described_of h ≡ v → StopsBelow first v.point v.machine.window → StopsBelow first h.point h.rob.entries
 stops_here h v first w s t = subst (λ (v : Described). StopsBelow first v.point v.machine.window) (sym s) t

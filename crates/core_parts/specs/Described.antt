@@ -34,8 +34,8 @@ pub record Described : Type 0 where
   pub point : Point
 
 -- a described machine before the first cycle
-abbrev pub opened : Desc → CodeText → ℕ → Ram → Described
-opened d code entry ram = record { desc = d; code = code; machine = opening d entry ram; point = first_point d.stt_model }
+abbrev pub described_opening : Desc → CodeText → ℕ → Ram → Described
+described_opening d code entry ram = record { desc = d; code = code; machine = opening d entry ram; point = first_point d.stt_model }
 
 -- a described machine with another window in the place of its own
 abbrev pub with_window : List Entry → Described → Described
@@ -54,17 +54,17 @@ ram_code =
     (λ p. record { base = p.0; bytes = p.1.0; misaligned = p.1.1 }) (λ _. refl)
 
 -- what has retired: the cycle, registers, pc, memory, the count and the end
-abbrev pub Committed : Type 0
-Committed = ℕ × (List ℕ × (ℕ × (Ram × (ℕ × Option End))))
+abbrev pub RetiredState : Type 0
+RetiredState = ℕ × (List ℕ × (ℕ × (Ram × (ℕ × Option End))))
 
-abbrev pub committed_code : Coded Committed
+abbrev pub committed_code : Coded RetiredState
 committed_code = coded× coded_ℕ (coded× (coded_list coded_ℕ) (coded× coded_ℕ (coded× ram_code (coded× coded_ℕ (coded_option end.the_row.coded)))))
 
 -- what is in flight: the window, the next serial, the queue, the fetch pc, and history and stack
-abbrev pub Unretired : Type 0
-Unretired = List Entry × (ℕ × (List Item × (Option ℕ × Checkpoint)))
+abbrev pub InFlightState : Type 0
+InFlightState = List Entry × (ℕ × (List Item × (Option ℕ × Checkpoint)))
 
-abbrev pub unretired_code : Coded Unretired
+abbrev pub unretired_code : Coded InFlightState
 unretired_code = coded× (coded_list entry.the_row.coded) (coded× coded_ℕ (coded× (coded_list item.the_row.coded) (coded× (coded_option coded_ℕ) checkpoint.the_row.coded)))
 
 -- the sets of lines of both levels of a cache
@@ -82,16 +82,16 @@ abbrev pub predicts_code : Coded Predicts
 predicts_code = coded× (coded_list coded_ℕ) (coded× (coded_list (coded_option target.the_row.coded)) (coded_list coded_bool))
 
 -- what has been learnt, what is cached, and the divider
-abbrev pub Learnt : Type 0
-Learnt = Predicts × (Levels × (List Miss × Divider))
+abbrev pub LearntState : Type 0
+LearntState = Predicts × (Levels × (List Miss × Divider))
 
-abbrev pub learnt_code : Coded Learnt
+abbrev pub learnt_code : Coded LearntState
 learnt_code = coded× predicts_code (coded× levels_code (coded× (coded_list miss.the_row.coded) divider.the_row.coded))
 
 -- a machine is stored as these three parts
 abbrev pub machine_code : Coded Machine
 machine_code =
-    code_by (Committed × (Unretired × Learnt)) (coded× committed_code (coded× unretired_code learnt_code))
+    code_by (RetiredState × (InFlightState × LearntState)) (coded× committed_code (coded× unretired_code learnt_code))
     (λ x. (
       (x.cycle, (x.regs, (x.pc, (x.ram, (x.retired, x.end))))),
       ((x.window, (x.next_serial, (x.queue, (x.fetch_pc, x.checkpoint)))), ((x.counters, (x.targets, x.dependence)), ((x.cache, x.second), (x.misses, x.divider)))),

@@ -80,8 +80,8 @@ machine_of h = record {
 }
 
 -- the machine that the parts hold, with its description, its code and its point
-abbrev pub described : Held → Described
-described h = record { desc = h.desc; code = h.code; machine = machine_of h; point = h.point }
+abbrev pub described_of : Held → Described
+described_of h = record { desc = h.desc; code = h.code; machine = machine_of h; point = h.point }
 
 -- what the parts hold of the entries in flight
 abbrev pub in_flight : Held → InFlight

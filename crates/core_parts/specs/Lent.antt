@@ -13,7 +13,7 @@ use Rattle.stations.specs.Stations.{Stations, awaits_none, ready_part}
 use Rattle.stations.specs.declared.wants.Part.{Part}
 use Rattle.lsq.specs.declared.store.Store.{Store}
 use Rattle.visibility.specs.Point.{Point}
-use Rattle.refinement.specs.Roots.{base_root, source_roots, unretired, youngest_root}
+use Rattle.refinement.specs.Roots.{base_root, source_roots, root_in_flight, youngest_root}
 use Rattle.refinement.specs.Stations.{station_of}
 use Rattle.refinement.specs.Telling.{own_of, source_by}
 use Rattle.refinement.specs.Waiters.{Hold, oldest_of, waiter_in, waiters_from}
@@ -25,7 +25,7 @@ NamesWriters writes window = (r : ℕ) → source_of writes r ≡ source_by (wri
 -- the table has for each register the youngest root of its value for an entry behind the window; for one without maybe
 -- a root that has retired
 abbrev pub NamesRoots : ℕ → List Write → List Entry → Type 0
-NamesRoots next writes window = (r : ℕ) → unretired (oldest_of next window) (root_of writes r) ≡ youngest_root (reverse window) r
+NamesRoots next writes window = (r : ℕ) → root_in_flight (oldest_of next window) (root_of writes r) ≡ youngest_root (reverse window) r
 
 -- the youngest roots of the addresses of a window's stores, where the older entries are `before`
 abbrev pub address_roots : List Entry → List Entry → List (Option ℕ)
@@ -35,7 +35,7 @@ address_roots before (e ∷ es) =
 
 -- the queue's stores have these roots; one without maybe one that has retired
 abbrev pub HasAddressRoots : ℕ → List Store → List Entry → Type 0
-HasAddressRoots next stores window = map (λ s. unretired (oldest_of next window) s.root) stores ≡ address_roots [] window
+HasAddressRoots next stores window = map (λ s. root_in_flight (oldest_of next window) s.root) stores ≡ address_roots [] window
 
 -- the stations hold the entries that wait, what they want in this version of the machine, and what their sources await
 -- where results are held back so
@@ -62,4 +62,4 @@ ShowsOlder p window = (s : ℕ) (e : Entry) → slice_get window 0 ≡ Some e �
 
 -- the pair has for each source of the entry at a position its youngest root; for one without maybe one that has retired
 abbrev pub HasRoots : ℕ → List Entry → ℕ → List (Option ℕ) → Type 0
-HasRoots next window i pair = (e : Entry) → slice_get window i ≡ Some e → map (unretired (oldest_of next window)) pair ≡ source_roots (before_at window i) e
+HasRoots next window i pair = (e : Entry) → slice_get window i ≡ Some e → map (root_in_flight (oldest_of next window)) pair ≡ source_roots (before_at window i) e

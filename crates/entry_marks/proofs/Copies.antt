@@ -5,7 +5,7 @@ use Rattle.std.proofs.lemmas.List.{length-drop}
 use Rattle.window_model.specs.declared.Entry.{Entry}
 use Rattle.window_model.specs.Order.{is_done}
 use Rattle.secret_marks.specs.declared.EntryMarks.{EntryMarks}
-use Rattle.secret_marks.specs.Marks.{Marks, leaves_as, left}
+use Rattle.secret_marks.specs.Marks.{Marks, leaves_as, marks_after_leaving}
 use Rattle.secret_marks.proofs.Retire.{left_none}
 use Rattle.entry_marks.specs.declared.oldest.LeavingEntry.{LeavingEntry}
 use Rattle.entry_marks.specs.Oldest.{IsCopied, done_heads}
@@ -81,13 +81,13 @@ module _ (window : List Entry) (i : ℕ) where
 
 pub leaves_next : (base count : ℕ) (window : List Entry) (marks : List EntryMarks) (m : Marks) (k : ℕ) (e : Entry) (mark : EntryMarks) → k < count →
     slice_get window k ≡ Some e → slice_get marks k ≡ Some mark →
-    left base (count - k) (drop k window) m (drop k marks)
-    ≡ left base (count - (k + 1)) (drop (k + 1) window) (leaves_as e.item.kind base e mark (drop (k + 1) marks) m) (drop (k + 1) marks)
+    marks_after_leaving base (count - k) (drop k window) m (drop k marks)
+    ≡ marks_after_leaving base (count - (k + 1)) (drop (k + 1) window) (leaves_as e.item.kind base e mark (drop (k + 1) marks) m) (drop (k + 1) marks)
 leaves_next base count window marks m k e mark lt here here2 =
     let more : count - k ≡ suc (count - (k + 1)) = omega (arith, lt) in
-    ap (λ n. left base n (drop k window) m (drop k marks)) more
-    ∙ ap₂ (λ w o. left base (suc (count - (k + 1))) w m o) (drop_step window k (k + 1) e refl here) (drop_step marks k (k + 1) mark refl here2)
+    ap (λ n. marks_after_leaving base n (drop k window) m (drop k marks)) more
+    ∙ ap₂ (λ w o. marks_after_leaving base (suc (count - (k + 1))) w m o) (drop_step window k (k + 1) e refl here) (drop_step marks k (k + 1) mark refl here2)
 
 -- where no entry leaves, the marks are as they were
-pub none_leaves : (base n : ℕ) (window : List Entry) (m : Marks) (marks : List EntryMarks) → n ≡ 0 → left base n window m marks ≡ m
-none_leaves base n window m marks none = ap (λ n. left base n window m marks) none ∙ left_none base window m marks
+pub none_leaves : (base n : ℕ) (window : List Entry) (m : Marks) (marks : List EntryMarks) → n ≡ 0 → marks_after_leaving base n window m marks ≡ m
+none_leaves base n window m marks none = ap (λ n. marks_after_leaving base n window m marks) none ∙ left_none base window m marks

@@ -3,12 +3,12 @@ use Rattle.std.proofs.Common.{◌≡◌, ℕ, List, length, Some, slice_get, ap,
 use Rattle.window_model.specs.declared.Entry.{Entry}
 use Rattle.window_model.specs.Order.{before_at}
 use Rattle.core_parts.specs.Described.{Described}
-use Rattle.core_parts.specs.Held.{Held, Whole, described, in_flight}
+use Rattle.core_parts.specs.Held.{Held, Whole, described_of, in_flight}
 use Rattle.secret_marks.specs.declared.EntryMarks.{EntryMarks}
 use Rattle.secret_marks.specs.Marks.{Marks, issued_marks}
 use Rattle.entry_marks.specs.Walk.{RefinesBeside}
 
-module _ (h : Held) (v : Described) (w : Whole h) (s : described h ≡ v) where
+module _ (h : Held) (v : Described) (w : Whole h) (s : described_of h ≡ v) where
   -- the parts that are lent refine the window, and each entry has its marks
   pub lent_beside : (marks : List EntryMarks) → length marks ≡ length v.machine.window → RefinesBeside h.rob.entries h.sources.items h.queues marks
   lent_beside marks e = record { rest = in_flight h; refines = w.refines; step = e ∙ sym (ap (λ (v : Described). length v.machine.window) s) }

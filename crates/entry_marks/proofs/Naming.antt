@@ -8,7 +8,7 @@ use Rattle.window_model.specs.Order.{before_at}
 use Rattle.secret_marks.specs.declared.EntryMarks.{EntryMarks}
 use Rattle.secret_marks.specs.Marks.{Marks, issued_from}
 use Rattle.entry_marks.specs.Beside.{marks_before}
-use Rattle.entry_marks.specs.Named.{NamesEachIssued, has_issued}
+use Rattle.entry_marks.specs.IssuedNow.{NamesEachIssued, has_issued}
 use Rattle.entry_marks.proofs.Before.{found_at}
 use Rattle.entry_marks.proofs.YoungestFirst.{left_from, stays}
 

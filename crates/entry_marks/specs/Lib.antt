@@ -1,4 +1,4 @@
 pub mod Beside
 pub mod Walk
 pub mod Oldest
-pub mod Named
+pub mod IssuedNow

@@ -6,7 +6,7 @@ ghost use Rattle.window_model.specs.declared.Entry.{Entry};
 ghost use Rattle.secret_marks.specs.declared.EntryMarks.{EntryMarks};
 ghost use Rattle.secret_marks.specs.Marks.{after_issue_marks, issued_marks};
 ghost use Rattle.entry_marks.specs.Beside.{marks_before};
-ghost use Rattle.entry_marks.specs.Named.{NamesEachIssued};
+ghost use Rattle.entry_marks.specs.IssuedNow.{NamesEachIssued};
 ghost use Rattle.entry_marks.specs.Walk.{marks_of, marks_with};
 
 use crate::beside::{marks_at, put_marks};

@@ -6,8 +6,8 @@
 //! Which store gives a byte to a load the queue of stores tells. `marked_core` walks them beside a core.
 //!
 //! Rules: `secret_marks/specs/Marks.antt`, `Results.antt`, `Shows.antt`, `Shown.antt`; `specs/Walk.antt`, what is
-//! looked at; `Oldest.antt`, what Retire's entries leave; `Named.antt`, which entries are named as those that issued;
-//! `docs/theorems.md`, "Secrets that are loaded".
+//! looked at; `Oldest.antt`, what Retire's entries leave; `IssuedNow.antt`, which entries are named as those that
+//! issued; `docs/theorems.md`, "Secrets that are loaded".
 //!
 //! Promises: the marks that `secret_marks` defines as Issue leaves them, as Retire moves them to registers and memory,
 //! of what a squash leaves and Rename brings, and what shows as a branch or JALR is resolved, computed over a reorder

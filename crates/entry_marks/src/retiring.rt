@@ -4,7 +4,7 @@ ghost use Rattle.std.specs.Prelude.{◌≡◌, ◌≤◌, List, drop, length};
 ghost use Rattle.circular_buffer.specs.Buffer.{buffer};
 ghost use Rattle.window_model.specs.declared.Entry.{Entry};
 ghost use Rattle.secret_marks.specs.declared.EntryMarks.{EntryMarks};
-ghost use Rattle.secret_marks.specs.Marks.{leaves_as, left};
+ghost use Rattle.secret_marks.specs.Marks.{leaves_as, marks_after_leaving};
 ghost use Rattle.entry_marks.specs.Oldest.{Inside, InsideEach, IsCopied, IsCopiedFrom};
 ghost use Rattle.entry_marks.specs.Walk.{marks_of, marks_with};
 
@@ -55,7 +55,7 @@ pub fn leave(marks: &mut Marks, leaving: &Leaving, base: u32, count: u32)
     requires copied { count ≤ length leaving.now.entries.items }
     requires inside { InsideEach base (length marks.old.bytes.items) count leaving.now.entries.items }
     ensures marks { (window : List Entry) → IsCopiedFrom window marks.old.window.items leaving.now.entries.items
-        → marks_of marks.new ≡ left base count window (marks_of marks.old) marks.old.window.items }
+        → marks_of marks.new ≡ marks_after_leaving base count window (marks_of marks.old) marks.old.window.items }
     ensures window { marks.new.window ≡ buffer (drop count marks.old.window.items) marks.old.window.capacity }
     ensures memory { length marks.new.bytes.items ≡ length marks.old.bytes.items }
 {

@@ -8,7 +8,7 @@ use Rattle.machine_desc.specs.declared.keys.Key.{Key}
 use Rattle.machine_desc.specs.declared.keys.Key.TheVariants.{PredictorBtb, PredictorCounters, PredictorHistory, PredictorReturns}
 use Rattle.machine_desc.specs.Version.{newest}
 use Rattle.machine_desc.specs.Allowed.{MayBe}
-use Rattle.machine_desc.specs.Ranges.{key_number, Meets, described, all_may_be}
+use Rattle.machine_desc.specs.Ranges.{key_number, Meets, desc_of_numbers, all_may_be}
 use Rattle.machine_desc.proofs.Newest.{in_newest, meets_in_newest}
 use Rattle.window_model.specs.declared.Item.{Item}
 use Rattle.predictor.specs.Tables as tables
@@ -50,7 +50,7 @@ meets_joined unit jumps history =
 -- history and stack
 abbrev pub joined : Desc → Desc → Desc → Desc
 joined unit jumps history =
-    described newest (joined_number unit jumps history) unit.stt_model unit.stt_defence
+    desc_of_numbers newest (joined_number unit jumps history) unit.stt_model unit.stt_defence
     (all_may_be (meets_joined unit jumps history))
 
 -- where some description asks for each of the three parts, one description asks for all of them

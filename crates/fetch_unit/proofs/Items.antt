@@ -9,14 +9,14 @@ use Rattle.rv_types.specs.declared.Kind.{Kind}
 use Rattle.machine_desc.specs.declared.Desc.{Desc}
 use Rattle.window_model.specs.declared.Item.{Item}
 use Rattle.window_model.specs.State.{Machine}
-use Rattle.window_model.specs.Fetch.{guess, item_at, predicted, instr_at, kind_at}
+use Rattle.window_model.specs.Fetch.{guess, item_at, predicted_pc, instr_at, kind_at}
 
 -- the item of an instruction of this kind
 abbrev item_of : Desc → Machine → ℕ → Instr → Kind → Item
-item_of d x pc i k = record { pc = pc; instr = i; kind = k; predicted = predicted k d x.targets x.checkpoint (guess k d x.counters x.checkpoint pc) pc i; checkpoint = x.checkpoint }
+item_of d x pc i k = record { pc = pc; instr = i; kind = k; predicted = predicted_pc k d x.targets x.checkpoint (guess k d x.counters x.checkpoint pc) pc i; checkpoint = x.checkpoint }
 
 abbrev item_by : Desc → Machine → ℕ → Option ℕ → Item
-item_by d x pc w = record { pc = pc; instr = instr_at w; kind = kind_at w; predicted = predicted (kind_at w) d x.targets x.checkpoint (guess (kind_at w) d x.counters x.checkpoint pc) pc (instr_at w); checkpoint = x.checkpoint }
+item_by d x pc w = record { pc = pc; instr = instr_at w; kind = kind_at w; predicted = predicted_pc (kind_at w) d x.targets x.checkpoint (guess (kind_at w) d x.counters x.checkpoint pc) pc (instr_at w); checkpoint = x.checkpoint }
 
 some_is : (w : ℕ) (i : Instr) → Some i ≡ option_map decode (Some w) → i ≡ decode w
 some_is w i e = cc

@@ -5,7 +5,7 @@ ghost use Rattle.elf_loader.specs.inner.Code.{word_at};
 ghost use Rattle.predictor.specs.Tables.{target_place};
 ghost use Rattle.machine_desc.specs.declared.Desc.{Desc};
 ghost use Rattle.window_model.specs.State.{Machine};
-ghost use Rattle.window_model.specs.Fetch.{guess, item_at, predicted, stored_target, target_of, unless_returns};
+ghost use Rattle.window_model.specs.Fetch.{guess, item_at, predicted_pc, stored_target, target_of, unless_returns};
 ghost use Rattle.window_model.specs.History.{returns_to};
 
 use elf_loader::Code;
@@ -68,7 +68,7 @@ fn predicted(
     kind: Kind,
 ) -> Option<u32>
     ensures { (d : Desc) → length predictor.now.targets ≡ d.predictor_btb
-        → result ≡ predicted kind d predictor.now.targets history.now.checkpoint taken pc instr.now }
+        → result ≡ predicted_pc kind d predictor.now.targets history.now.checkpoint taken pc instr.now }
 {
     match kind {
         Kind::Stop(_) => None,

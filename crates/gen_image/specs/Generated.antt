@@ -13,15 +13,15 @@ use Rattle.rv_decode.specs.Forms.{word_of}
 -- ---- draws of random numbers
 
 -- the state of the draws at first, and the next one: a linear congruence modulo 2 ^ 31
-abbrev pub seeded : ℕ → ℕ
-seeded seed = seed % 2 ^ 31
+abbrev pub seed_state : ℕ → ℕ
+seed_state seed = seed % 2 ^ 31
 
 abbrev pub next : ℕ → ℕ
 next s = (1103515245 * s + 12345) % 2 ^ 31
 
 -- what a draw answers once the state is this: all but the lowest 16 bits
-abbrev pub drawn : ℕ → ℕ
-drawn s = s / 2 ^ 16
+abbrev pub draw_answer : ℕ → ℕ
+draw_answer s = s / 2 ^ 16
 
 -- ---- blocks of two instructions
 
@@ -46,7 +46,7 @@ block_of s =
     let a = next s in
     let b = next a in
     let c = next b in
-    slice_index_or (forms (register (5 + drawn c % 3)) (register (5 + drawn (next c) % 3)) (4 * (drawn b % 256))) (drawn a % 6) []
+    slice_index_or (forms (register (5 + draw_answer c % 3)) (register (5 + draw_answer (next c) % 3)) (4 * (draw_answer b % 256))) (draw_answer a % 6) []
 
 -- the state after a block
 abbrev pub after_block : ℕ → ℕ
@@ -75,7 +75,7 @@ ending blocks =
 
 -- four rounds of the blocks
 abbrev pub program : ℕ → ℕ → List Instr
-program seed blocks = beginning ++ blocks_from blocks (seeded seed) ++ ending blocks
+program seed blocks = beginning ++ blocks_from blocks (seed_state seed) ++ ending blocks
 
 -- ---- the file of a program
 

@@ -1,6 +1,6 @@
 //! The numbers that a seed draws.
 ghost use Rattle.std.specs.Prelude.{◌≡◌};
-ghost use Rattle.gen_image.specs.Generated.{seeded, next, drawn};
+ghost use Rattle.gen_image.specs.Generated.{seed_state, next, draw_answer};
 
 /// The modulus of the sequence.
 const MODULUS: u64 = 0x8000_0000;
@@ -19,7 +19,7 @@ pub(crate) struct Draws {
 impl Draws {
     /// The draws of a seed.
     pub(crate) fn new(seed: u64) -> Draws
-        ensures { result.state ≡ seeded seed }
+        ensures { result.state ≡ seed_state seed }
     {
         Draws {
             state: (seed % MODULUS) as u32,
@@ -29,7 +29,7 @@ impl Draws {
     /// The next number of the draws.
     pub(crate) fn draw(&mut self) -> u32
         ensures state { self.new.state ≡ next self.old.state }
-        ensures drawn { result ≡ drawn (next self.old.state) }
+        ensures drawn { result ≡ draw_answer (next self.old.state) }
     {
         self.state = ((FACTOR * u64::from(self.state) + ADDEND) % MODULUS) as u32;
         self.state / 65536

@@ -6,7 +6,7 @@ use Rattle.machine_desc.specs.declared.Desc.{Desc}
 use Rattle.window_model.specs.declared.Entry.{Entry}
 use Rattle.window_model.specs.declared.Item.{Item}
 use Rattle.window_model.specs.declared.Checkpoint.{Checkpoint}
-use Rattle.window_model.specs.Rename.{renamed}
+use Rattle.window_model.specs.Rename.{entry_of_item}
 use Rattle.window_model.specs.Resolve.{squashes}
 use Rattle.history_laws.specs.Left.{Goes, Leads, LeadsOver, after_item, direction}
 
@@ -28,7 +28,7 @@ leads_push d from to (e ∷ w) q (b ∷ ways) i way h m g = (h.0, h.1, leads_pus
 -- ---- the oldest item is renamed
 
 pub leads_rename : (d : Desc) (from to : Checkpoint) (w : List Entry) (i : Item) (rest : List Item) (ways : List Bool) (serial : _) → Leads d from w (i ∷ rest) ways to →
-    Leads d from (w ++ renamed d serial i ∷ []) rest ways to
+    Leads d from (w ++ entry_of_item d serial i ∷ []) rest ways to
 leads_rename d from to [] i rest [] serial h = absurd h
 leads_rename d from to [] i rest (b ∷ ways) serial h = h
 leads_rename d from to (e ∷ w) i rest [] serial h = absurd h

@@ -13,13 +13,13 @@ use Rattle.window_model.specs.declared.Item.{Item}
 use Rattle.window_model.specs.declared.Progress.TheVariants.{Done}
 use Rattle.window_model.specs.Order.{Place, each_from, first, is_control, is_store, is_waiting, value_of}
 use Rattle.window_model.specs.Around.{Around, around}
-use Rattle.window_model.specs.Fill.{fill, complete, completed, completes}
+use Rattle.window_model.specs.Fill.{fill, complete, after_completion, completes}
 use Rattle.window_model.specs.Resolve.{resolve, squash, keep, squashes}
 use Rattle.window_model.specs.Clear.{clear, cleared_one, clears, violates}
 use Rattle.window_model.specs.Ports.{LoadPort, may_at}
-use Rattle.window_model.specs.Issue.{Begun, begun, issue, issue_entry}
-use Rattle.window_model.specs.Rename.{rename, rename_one, renamed, fits}
-use Rattle.window_model.specs.Fetch.{fetch, fetch_one, guess, item_at, kind_at, predicted}
+use Rattle.window_model.specs.Issue.{Begun, executing_until, issue, issue_entry}
+use Rattle.window_model.specs.Rename.{rename, rename_one, entry_of_item, fits}
+use Rattle.window_model.specs.Fetch.{fetch, fetch_one, guess, item_at, kind_at, predicted_pc}
 use Rattle.window_model.specs.History.{no_checkpoint}
 use Rattle.window_model.specs.State.{Machine}
 use Rattle.window_model.proofs.Booleans.{done_waits}
@@ -61,21 +61,21 @@ left_then d gone gone2 ways x y h more =
 
 -- ---- Complete
 
-completed_goes : (cycle : ℕ) (e : Entry) → GoesOn e (completed cycle e)
+completed_goes : (cycle : ℕ) (e : Entry) → GoesOn e (after_completion cycle e)
 completed_goes cycle e = by_due (completes cycle e)
   where
     by_due : (b : Bool) → GoesOn e (if b then record e { state = Done } else e)
     by_due true = record { item = refl; counts = λ way. refl }
     by_due false = goes_same e
 
-completed_fresh : (cycle : ℕ) (e : Entry) → Fresh e → Fresh (completed cycle e)
+completed_fresh : (cycle : ℕ) (e : Entry) → Fresh e → Fresh (after_completion cycle e)
 completed_fresh cycle e f = by_due (completes cycle e)
   where
     by_due : (b : Bool) → Fresh (if b then record e { state = Done } else e)
     by_due true = record { waits = λ h. absurd (cc); store = f.store }
     by_due false = f
 
-all_completed : (cycle : ℕ) (w : List Entry) → Each Fresh w → AllZip GoesOn w (map (completed cycle) w) × Each Fresh (map (completed cycle) w)
+all_completed : (cycle : ℕ) (w : List Entry) → Each Fresh w → AllZip GoesOn w (map (after_completion cycle) w) × Each Fresh (map (after_completion cycle) w)
 all_completed cycle [] f = (tt, tt)
 all_completed cycle (e ∷ w) f =
     let rest = all_completed cycle w f.1 in
@@ -91,7 +91,7 @@ module _ (d : Desc) (gone : List Entry) (ways : List Bool) where
   pub left_complete : (x : Machine) → Left d gone ways x → Left d gone ways (complete x).machine
   left_complete x h =
       let all = all_completed x.cycle x.window h.fresh in
-      record { leads = leads_behind d no_checkpoint x.checkpoint gone x.window (map (completed x.cycle) x.window) x.queue ways all.0 h.leads; fresh = all.1 }
+      record { leads = leads_behind d no_checkpoint x.checkpoint gone x.window (map (after_completion x.cycle) x.window) x.queue ways all.0 h.leads; fresh = all.1 }
 
 -- ---- Resolve keeps what is left
 
@@ -220,7 +220,7 @@ pub record Issues (e e2 : Entry) : Type 0 where
 
 begins_on : (e r : Entry) → Comes e r → Fresh e → e.resolved ≡ false → Issues e r
 begins_on e r (Remains q) f n = subst (Issues e) (sym q) (record { on = goes_same e; fresh = f })
-begins_on e r (Begins cycle due o q) f n = subst (Issues e) (sym q) (record { on = fresh_goes e (begun cycle e due o) refl n n; fresh = record { waits = λ h. n; store = λ h. n } })
+begins_on e r (Begins cycle due o q) f n = subst (Issues e) (sym q) (record { on = fresh_goes e (executing_until cycle e due o) refl n n; fresh = record { waits = λ h. n; store = λ h. n } })
 
 parts_on : (now : Around) (b : List Entry) (e : Entry) (a c : Bool) → e.resolved ≡ false → Issues e (gone_parts now b a c e)
 parts_on now b e true true n = record { on = fresh_goes e _ refl n n; fresh = record { waits = λ h. n; store = λ h. n } }
@@ -255,16 +255,16 @@ left_rename d gone ways = rename_keep d (Left d gone ways) one
     one : (x : Machine) (i : Item) (rest : List Item) → x.queue ≡ i ∷ rest → fits d x.window i ≡ true → Left d gone ways x → Left d gone ways (rename_one d i rest x).machine
     one x i rest q f h = record {
       leads =
-          subst (λ w. Leads d no_checkpoint w rest ways x.checkpoint) (append_assoc gone x.window (renamed d x.next_serial i ∷ []))
+          subst (λ w. Leads d no_checkpoint w rest ways x.checkpoint) (append_assoc gone x.window (entry_of_item d x.next_serial i ∷ []))
           (leads_rename d no_checkpoint x.checkpoint (gone ++ x.window) i rest ways x.next_serial (subst (λ q. Leads d no_checkpoint (gone ++ x.window) q ways x.checkpoint) q h.leads));
-      fresh = each_push Fresh x.window (renamed d x.next_serial i) h.fresh (record { waits = λ w. refl; store = λ s. refl });
+      fresh = each_push Fresh x.window (entry_of_item d x.next_serial i) h.fresh (record { waits = λ w. refl; store = λ s. refl });
     }
 
 -- fetching goes on where an item is predicted to lead
-goes : (k : Kind) (d : Desc) (t : _) (i : Item) (way : Bool) → i.predicted ≡ predicted k d t i.checkpoint way i.pc i.instr → GoesBy k i way
+goes : (k : Kind) (d : Desc) (t : _) (i : Item) (way : Bool) → i.predicted ≡ predicted_pc k d t i.checkpoint way i.pc i.instr → GoesBy k i way
 goes Branch d t i way h = by_way way h
   where
-    by_way : (way : Bool) → i.predicted ≡ predicted Branch d t i.checkpoint way i.pc i.instr → GoesBy Branch i way
+    by_way : (way : Bool) → i.predicted ≡ predicted_pc Branch d t i.checkpoint way i.pc i.instr → GoesBy Branch i way
     by_way true h = h
     by_way false h = h
 goes _ d t i way h = tt

@@ -1,8 +1,8 @@
 //! The present history and stack.
 ghost use Rattle.std.specs.Prelude.{◌≡◌, ◌<◌, ◌≤◌, ◌+◌, ◌*◌, ◌^◌, ◌%◌};
 ghost use Rattle.rv_types.specs.Value.{one_if};
-ghost use Rattle.window_model.specs.History.{counter_index, jumped, checkpoint_after, no_checkpoint};
-ghost use Rattle.window_model.specs.History.{popped, pushed, returns_to, shifted, stack, youngest};
+ghost use Rattle.window_model.specs.History.{counter_index, after_jump, checkpoint_after, no_checkpoint};
+ghost use Rattle.window_model.specs.History.{after_pop, after_push, returns_to, after_direction, stack, youngest};
 ghost use Rattle.history_pred.specs.Past.{InEach, IsAsked, counter_place, with_address, with_direction};
 
 use crate::jump::{links, returns};
@@ -83,7 +83,7 @@ impl History {
     pub fn shift(&mut self, taken: bool)
         ensures direction { self.new ≡ with_direction self.old taken }
         ensures machine { InEach self.old
-            (λ d. self.new ≡ record self.old { checkpoint = shifted d taken self.old.checkpoint }) }
+            (λ d. self.new ≡ record self.old { checkpoint = after_direction d taken self.old.checkpoint }) }
     {
         self.checkpoint.history = shifted(self.checkpoint.history, self.directions, taken);
     }
@@ -92,7 +92,7 @@ impl History {
     pub fn push(&mut self, addr: u32)
         ensures address { self.new ≡ with_address self.old addr }
         ensures machine { InEach self.old
-            (λ d. self.new ≡ record self.old { checkpoint = pushed d addr self.old.checkpoint }) }
+            (λ d. self.new ≡ record self.old { checkpoint = after_push d addr self.old.checkpoint }) }
     {
         self.checkpoint = pushed(&self.checkpoint, addr, self.returns);
     }
@@ -100,7 +100,7 @@ impl History {
     /// Takes the youngest address off the stack and answers it. None exactly where the stack is empty.
     pub fn pop(&mut self) -> Option<u32>
         ensures address { result ≡ youngest (stack self.old.checkpoint) }
-        ensures left { self.new ≡ record self.old { checkpoint = popped self.old.checkpoint } }
+        ensures left { self.new ≡ record self.old { checkpoint = after_pop self.old.checkpoint } }
     {
         let address = youngest(&self.checkpoint);
         self.checkpoint = popped(&self.checkpoint);
@@ -156,7 +156,7 @@ impl History {
     fn jump(&mut self, pc: u32, instr: &Instr)
         ensures sizes { self.new ≡ record self.old { checkpoint = self.new.checkpoint } }
         ensures machine { InEach self.old (λ d. self.new ≡ record self.old {
-          checkpoint = jumped d pc instr.now self.old.checkpoint;
+          checkpoint = after_jump d pc instr.now self.old.checkpoint;
         }) }
     {
         if links(instr) {

@@ -1,6 +1,6 @@
 //! The addresses of a checkpoint, as a stack.
 ghost use Rattle.std.specs.Prelude.{◌≡◌, ◌≤◌, ◌+◌, ◌∷◌, drop, length, take};
-ghost use Rattle.window_model.specs.History.{popped, pushed, stack, with_stack, youngest};
+ghost use Rattle.window_model.specs.History.{after_pop, after_push, stack, with_stack, youngest};
 
 use window_model::{Checkpoint, RETURNS_MAX};
 
@@ -35,7 +35,7 @@ pub(crate) fn youngest(checkpoint: &Checkpoint) -> Option<u32>
 
 // The checkpoint without its youngest address.
 pub(crate) fn popped(checkpoint: &Checkpoint) -> Checkpoint
-    ensures { result ≡ popped checkpoint.now }
+    ensures { result ≡ after_pop checkpoint.now }
 {
     with_stack(checkpoint, all_but_first(stack(checkpoint)))
 }

@@ -2,7 +2,7 @@
 -- the rest of the whole run is the run from the state that it is in (`Rest`); what it has put out it adds by `goes_at`.
 use Rattle.std.proofs.Common.{◌≡◌, ◌<◌, ◌≤◌, ℕ, suc, ◌+◌, ◌-◌, List, [], Option, Some, None, refl, ap, sym, ◌∙◌, subst, arith}
 use Rattle.rv_types.specs.Memory.{Code}
-use Rattle.rv_types.specs.Isa.{Hart, Step, Goes, Exits, Traps, Run, isa_step, isa, run, after, stopped, with_piece}
+use Rattle.rv_types.specs.Isa.{Hart, Step, Goes, Exits, Traps, Run, isa_step, isa, run, after, run_at_end, with_piece}
 use Rattle.rv_types.specs.declared.Cause.{Cause}
 use Rattle.rv_types.specs.declared.End.{End}
 use Rattle.rv_types.specs.declared.End.TheVariants.{Exit as EndExit, Trap as EndTrap}
@@ -38,15 +38,15 @@ run_goes code s s' p n e = ap (λ x. after s x (run (isa_step code) n)) (goes s 
 
 -- an exit counts, and ends the run
 pub run_exits : (code : Code) (s s' : Hart) (p : List ℕ) (v n : ℕ) → record { hart = s'; piece = p; stepped = Exit v } ≡ outcome s (isa_step code s)
-    → isa code s (suc n) ≡ stopped s' 1 (Some (EndExit v))
+    → isa code s (suc n) ≡ run_at_end s' 1 (Some (EndExit v))
 run_exits code s s' p v n e = ap (λ x. after s x (run (isa_step code) n)) ((exits s s' p v (isa_step code s) e).0)
 
 -- a trap doesn't count, and ends the run where it is
 pub run_traps : (code : Code) (s s' : Hart) (p : List ℕ) (c : Cause) (n : ℕ) → record { hart = s'; piece = p; stepped = Trap c } ≡ outcome s (isa_step code s)
-    → isa code s (suc n) ≡ stopped s' 0 (Some (EndTrap c s'.pc))
+    → isa code s (suc n) ≡ run_at_end s' 0 (Some (EndTrap c s'.pc))
 run_traps code s s' p c n e =
     let t = traps s s' p c (isa_step code s) e in
-    let P : Hart → Type 0 = λ h. isa code s (suc n) ≡ stopped h 0 (Some (EndTrap c h.pc)) in
+    let P : Hart → Type 0 = λ h. isa code s (suc n) ≡ run_at_end h 0 (Some (EndTrap c h.pc)) in
     subst P (sym t.1) (ap (λ x. after s x (run (isa_step code) n)) t.0)
 
 -- ---- What a step leads to in a loop of n steps, behind i of them
@@ -59,15 +59,15 @@ pub goes_at : (code : Code) (s s' : Hart) (p : List ℕ) (n i : ℕ) → i < n �
 goes_at code s s' p n i h e = ap (isa code s) (left n i h) ∙ run_goes code s s' p (n - (i + 1)) e
 
 pub exits_at : (code : Code) (s s' : Hart) (p : List ℕ) (v n i : ℕ) → i < n → record { hart = s'; piece = p; stepped = Exit v } ≡ outcome s (isa_step code s)
-    → isa code s (n - i) ≡ stopped s' 1 (Some (EndExit v))
+    → isa code s (n - i) ≡ run_at_end s' 1 (Some (EndExit v))
 exits_at code s s' p v n i h e = ap (isa code s) (left n i h) ∙ run_exits code s s' p v (n - (i + 1)) e
 
 pub traps_at : (code : Code) (s s' : Hart) (p : List ℕ) (c : Cause) (n i : ℕ) → i < n → record { hart = s'; piece = p; stepped = Trap c } ≡ outcome s (isa_step code s)
-    → isa code s (n - i) ≡ stopped s' 0 (Some (EndTrap c s'.pc))
+    → isa code s (n - i) ≡ run_at_end s' 0 (Some (EndTrap c s'.pc))
 traps_at code s s' p c n i h e = ap (isa code s) (left n i h) ∙ run_traps code s s' p c (n - (i + 1)) e
 
 -- a run of which all steps are taken stops where it is, without an end
-pub ends_at : (code : Code) (s : Hart) (n i : ℕ) → n ≤ i → isa code s (n - i) ≡ stopped s 0 None
+pub ends_at : (code : Code) (s : Hart) (n i : ℕ) → n ≤ i → isa code s (n - i) ≡ run_at_end s 0 None
 ends_at code s n i h = let e : n - i ≡ 0 = omega arith in ap (isa code s) e
 
 -- ---- What is left of a run, behind so many steps of the whole

@@ -7,7 +7,7 @@ use Rattle.rv_types.specs.Word.{to_le}
 use Rattle.rv_types.specs.Value.{size_of}
 use Rattle.rv_types.specs.Decode.{decode}
 use Rattle.rv_types.specs.Memory.{Ram, Code, bytes_at, in_ram, store_fault, load_fault, with_bytes}
-use Rattle.rv_types.specs.Isa.{Hart, Step, Goes, Exits, Traps, Run, isa_step, isa, run, after, step_of, step_at, or_trap, effect_in, call, write_of, goes_to, reg, answers, minus, loaded}
+use Rattle.rv_types.specs.Isa.{Hart, Step, Goes, Exits, Traps, Run, isa_step, isa, run, after, step_of, step_at, or_trap, effect_in, call, write_of, goes_to, reg, answers, minus, load_value}
 use Rattle.rv_types.specs.Regs.{writes_of, unless_zero}
 use Rattle.rv_types.specs.Causes.{jump_misaligned}
 use Rattle.rv_types.specs.declared.Cause.{Cause}
@@ -100,7 +100,7 @@ step_keeps s (Store op rs1 rs2 imm) =
     store_by s e.addr (size_of op) e.stored e.next (store_fault s.ram e.addr (size_of op)) refl
 step_keeps s (Load op rd rs1 imm) =
     let e = effect_in s (Load op rd rs1 imm) in
-    trapped s.ram (load_fault s.ram e.addr (size_of op)) (Goes (goes_to s (unless_zero rd.number) (record e { value = loaded s op e.addr })) []) (same s.ram)
+    trapped s.ram (load_fault s.ram e.addr (size_of op)) (Goes (goes_to s (unless_zero rd.number) (record e { value = load_value s op e.addr })) []) (same s.ram)
 step_keeps s Ecall = call_keeps s
 step_keeps s Ebreak = tt
 step_keeps s (Illegal w) = tt

@@ -4,7 +4,7 @@ use Rattle.rv_types.specs.Word.{word_add, from_le, to_le}
 use Rattle.rv_types.specs.Value.{size_of}
 use Rattle.rv_types.specs.Memory.{Ram, load_fault, store_fault, bytes_at, with_bytes}
 use Rattle.rv_types.specs.Causes.{jump_misaligned}
-use Rattle.rv_types.specs.Isa.{Hart, Step, Goes, Traps, only, jump, goes_to, or_trap, loaded}
+use Rattle.rv_types.specs.Isa.{Hart, Step, Goes, Traps, only, jump, goes_to, or_trap, load_value}
 use Rattle.rv_types.specs.declared.Op.{Op}
 use Rattle.rv_types.specs.declared.Cause.{Cause}
 use Rattle.byte_ram.specs.Access.{unless_fault}
@@ -29,7 +29,7 @@ read_of ram op a = unless_fault (load_fault ram a (size_of op)) (from_le (bytes_
 
 -- a load from this address, for the register named
 abbrev pub loads : Hart → Op → Option ℕ → ℕ → Step
-loads s op rd a = or_trap (load_fault s.ram a (size_of op)) (computes s rd (loaded s op a))
+loads s op rd a = or_trap (load_fault s.ram a (size_of op)) (computes s rd (load_value s op a))
 
 -- a store of this value to this address
 abbrev pub stores : Hart → Op → ℕ → ℕ → Step

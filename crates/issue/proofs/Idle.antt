@@ -25,7 +25,7 @@ use Rattle.refinement.specs.Telling.{MovedBy, has_sources}
 use Rattle.refinement.specs.Waiters.{wants_of}
 use Rattle.visibility.specs.Point.{HasAdvanced}
 use Rattle.core_parts.specs.Described.{Described}
-use Rattle.core_parts.specs.Held.{Held, Sizes, Whole, described, in_flight, machine_of}
+use Rattle.core_parts.specs.Held.{Held, Sizes, Whole, described_of, in_flight, machine_of}
 use Rattle.core_parts.proofs.Whole.{shown_by, told_by}
 use Rattle.issue.specs.Shared.{divider_left}
 use Rattle.issue.proofs.Leaving.{leaves}
@@ -99,10 +99,10 @@ none_may h w a none =
     all_stay h.desc (around (machine_of h)) (in_flight h) refl w.refines moved w.sized.parts w.sized.together none
 
 -- where no station is able, the phase leaves what is described of the parts, and has no event
-pub idle_shown : (h : Held) (v : Described) → Whole h → HasAdvanced h.point h.rob.entries → list_any is_able h.stations.held ≡ false → described h ≡ v → described h ≡ record v { machine = (issue v.desc v.machine).machine }
+pub idle_shown : (h : Held) (v : Described) → Whole h → HasAdvanced h.point h.rob.entries → list_any is_able h.stations.held ≡ false → described_of h ≡ v → described_of h ≡ record v { machine = (issue v.desc v.machine).machine }
 idle_shown h v w a none s = shown_by (λ d x. (issue d x).machine) h (machine_of h) v (idle_machine h.desc (machine_of h) (none_may h w a none)) s
 
-pub idle_row : (h : Held) (v : Described) (row : Row) → Whole h → HasAdvanced h.point h.rob.entries → list_any is_able h.stations.held ≡ false → described h ≡ v → row ≡ with_events row (issue v.desc v.machine).events
+pub idle_row : (h : Held) (v : Described) (row : Row) → Whole h → HasAdvanced h.point h.rob.entries → list_any is_able h.stations.held ≡ false → described_of h ≡ v → row ≡ with_events row (issue v.desc v.machine).events
 idle_row h v row w a none s =
     told_by (λ d x. issue d x) h v row row
     (ap (λ es. record row { events = es }) (sym (ap (λ es. row.events ++ es) (idle_events h.desc (machine_of h) (none_may h w a none)) ∙ append-nil row.events))) s

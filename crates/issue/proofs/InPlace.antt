@@ -14,7 +14,7 @@ use Rattle.window_model.specs.Order.{is_waiting}
 use Rattle.window_model.specs.Retire.{byte_count}
 use Rattle.lsq.specs.Queues.{Queues, issued_at}
 use Rattle.lsq.specs.declared.load.Load.{Load}
-use Rattle.refinement.specs.Noted.{access_in, has_read, noted}
+use Rattle.refinement.specs.Noted.{access_in, has_read, queues_with_parts}
 use Rattle.machine_desc.specs.declared.SttModel.TheVariants.{Futuristic}
 use Rattle.rob_ring.specs.Issued.{with_issued}
 use Rattle.rob_ring.specs.Ring.{Ring, is_unsafe}
@@ -28,7 +28,7 @@ use Rattle.refinement.specs.Stations.{left_held}
 use Rattle.window_model.proofs.Serials.{all_at, all_left, all_right}
 use Rattle.window_model.proofs.Lists.{set_here}
 use Rattle.core_parts.specs.declared.decided.Put.{Put}
-use Rattle.issue.specs.Puts.{ArePuts, IsPut, known_in, placed, width_for}
+use Rattle.issue.specs.Puts.{ArePuts, IsPut, known_in, window_with_puts, width_for}
 use Rattle.issue.proofs.Turning.{issues_here, placed_push}
 
 -- ---- what the parts stand for, before and behind
@@ -108,13 +108,13 @@ room_by true loads q = (refl, refl)
 room_by false loads q = (refl, refl)
 
 same_room_known : (passes : Bool) (q : Queues) (e : Entry) → ((known_in passes q e).max_loads ≡ q.max_loads) × ((known_in passes q e).max_stores ≡ q.max_stores)
-same_room_known passes q e = room_by (passes && has_read e) (map (issued_at e.serial (access_in (width_for (byte_count e)) e)) q.loads) (noted (width_for (byte_count e)) e q)
+same_room_known passes q e = room_by (passes && has_read e) (map (issued_at e.serial (access_in (width_for (byte_count e)) e)) q.loads) (queues_with_parts (width_for (byte_count e)) e q)
 
 -- ---- the loop over the puts
 
 -- the entries of the puts that are left, put into these parts, come to what all puts come to in the first parts
 pub record PlacesOn (d : Desc) (puts : List Put) (rob : Ring) (stations : Stations) (queues : Queues) (left : List Put) (r : Ring) (s : Stations) (q : Queues) : Type 0 where
-  pub whole : placed left r.entries ≡ placed puts rob.entries
+  pub whole : window_with_puts left r.entries ≡ window_with_puts puts rob.entries
   pub rest : ArePuts r.entries left
   pub same_room : r.room ≡ rob.room
   pub same_places : s.room ≡ stations.room
@@ -198,7 +198,7 @@ module _ (d : Desc) (puts : List Put) (rob : Ring) (stations : Stations) (queues
         (subst (λ s2. PlacesOn d puts rob stations queues rest (record r { entries = with_new }) s2 q2) (sym (k ∙ ap (λ e. record s { held = left_held d.version put.station e s.held }) is))
         (subst (λ q2. PlacesOn d puts rob stations queues rest (record r { entries = with_new }) (record s { held = left_held d.version put.station new s.held }) q2) (sym (n ∙ ap (known_in (loads_pass d) q) is))
         (record {
-          whole = ap (placed rest) (sym (issues_here put r.entries here.old here.here)) ∙ sym (placed_push rest put r.entries) ∙ ap (λ ps. placed ps r.entries) (sym split) ∙ t.whole;
+          whole = ap (window_with_puts rest) (sym (issues_here put r.entries here.old here.here)) ∙ sym (placed_push rest put r.entries) ∙ ap (λ ps. window_with_puts ps r.entries) (sym split) ∙ t.whole;
           rest = still_left r.entries rest put new are;
           same_room = t.same_room;
           same_places = t.same_places;

@@ -22,7 +22,7 @@ use Rattle.unit_ports.specs.Laws.{LeftAfter}
 use Rattle.unit_ports.proofs.Granting.{left_first}
 use Rattle.visibility.specs.Point.{HasAdvanced}
 use Rattle.core_parts.specs.Described.{Described}
-use Rattle.core_parts.specs.Held.{Held, Sizes, Whole, described, in_flight, machine_of, sizes}
+use Rattle.core_parts.specs.Held.{Held, Sizes, Whole, described_of, in_flight, machine_of, sizes}
 use Rattle.refinement.specs.InFlight.{InFlight}
 use Rattle.refinement.specs.Refines.{Refines}
 use Rattle.core_parts.proofs.Whole.{shown_by, told_by}
@@ -30,19 +30,19 @@ use Rattle.core_parts.specs.declared.decided.Decided.{Decided}
 use Rattle.issue.specs.Decisions.{Decides, most_begun}
 use Rattle.issue.specs.Parts.{holding}
 use Rattle.issue.specs.Ports.{events_left, left_in_all}
-use Rattle.issue.specs.Puts.{placed}
-use Rattle.issue.specs.Shared.{cache_left, misses_left, requested, second_left}
+use Rattle.issue.specs.Puts.{window_with_puts}
+use Rattle.issue.specs.Shared.{cache_left, misses_left, requests_of_load, second_left}
 use Rattle.issue.proofs.Advanced.{issue_advanced}
 use Rattle.issue.proofs.Leaving.{has_room, leaves}
 
 -- ---- what holds before the phase
 
 -- the point said which entries are visible
-pub advanced : (h : Held) (v : Described) → Whole h → described h ≡ v → HasAdvanced v.point v.machine.window → HasAdvanced h.point h.rob.entries
+pub advanced : (h : Held) (v : Described) → Whole h → described_of h ≡ v → HasAdvanced v.point v.machine.window → HasAdvanced h.point h.rob.entries
 advanced h v w s a = subst (λ (v : Described). HasAdvanced v.point v.machine.window) (sym s) a
 
 -- no store executed before the phase: each store waits or is done
-pub settled : (h : Held) (v : Described) → Whole h → described h ≡ v → Each WaitsOrDone v.machine.window → Each WaitsOrDone h.rob.entries
+pub settled : (h : Held) (v : Described) → Whole h → described_of h ≡ v → Each WaitsOrDone v.machine.window → Each WaitsOrDone h.rob.entries
 settled h v w s a = subst (λ (v : Described). Each WaitsOrDone v.machine.window) (sym s) a
 
 -- at most so many ports are left, as their cycle begins, as entries may begin in a cycle
@@ -86,14 +86,14 @@ registers_fit h w = subst (λ n. length h.mshrs.misses ≤ n) (sym (ap (λ (s : 
 
 -- lines take registers where as many are left
 pub registers_left : (h : Held) (decided : Decided) (new : Divider) → Whole h → Decides h.desc (around (machine_of h)) h.rob.entries decided h.ports.divider new →
-    length h.mshrs.misses + length (requested decided.load) ≤ h.mshrs.room
+    length h.mshrs.misses + length (requests_of_load decided.load) ≤ h.mshrs.room
 registers_left h decided new w k =
-    subst (λ n. length h.mshrs.misses + length (requested decided.load) ≤ n) (sym (ap (λ (s : Sizes). s.registers) w.made))
+    subst (λ n. length h.mshrs.misses + length (requests_of_load decided.load) ≤ n) (sym (ap (λ (s : Sizes). s.registers) w.made))
     (has_room h.desc (machine_of h) w.sized.misses decided.load k.load)
 
 -- the events of the entries' turns are those of the definition of the phase
 pub issued_row : (h : Held) (divider : Divider) (v : Described) (old new : Row) → Whole h → divider ≡ h.ports.divider →
-    new ≡ with_events old (flat_map (λ b. b.events) (each (issue_entry h.desc (now_with h divider)) h.rob.entries)) → described h ≡ v → new ≡ with_events old (issue v.desc v.machine).events
+    new ≡ with_events old (flat_map (λ b. b.events) (each (issue_entry h.desc (now_with h divider)) h.rob.entries)) → described_of h ≡ v → new ≡ with_events old (issue v.desc v.machine).events
 issued_row h divider v old new w q e s =
     told_by (λ d x. issue d x) h v old new
     (subst (λ (v : Divider). new ≡ with_events old (issue h.desc (record (machine_of h) { divider = v })).events) q e) s
@@ -103,7 +103,7 @@ issued_row h divider v old new w q e s =
 -- the parts that are written, by what is decided
 module _ (h : Held) (decided : Decided) (rob : Ring) (stations : Stations) (queues : Queues) (tags : Cache) (second : Cache) (mshrs : Registers) (ports : Ports) (w : Whole h)
     (k : Decides h.desc (around (machine_of h)) h.rob.entries decided h.ports.divider ports.divider)
-    (r : rob ≡ record (h.rob) { entries = placed decided.puts.items h.rob.entries })
+    (r : rob ≡ record (h.rob) { entries = window_with_puts decided.puts.items h.rob.entries })
     (t : tags ≡ record (h.tags) { sets = cache_left h.tags.desc decided.load h.tags.sets })
     (t2 : second ≡ record (h.second) { sets = second_left h.second.desc decided.load h.second.sets })
     (m : mshrs ≡ record (h.mshrs) { misses = misses_left h.desc h.cycle decided.load h.mshrs.misses }) where
@@ -135,11 +135,11 @@ module _ (h : Held) (decided : Decided) (rob : Ring) (stations : Stations) (queu
     made = issued_sizes s a b p ∙ w.made;
   }
 
-  pub issued_shown : (v : Described) → described h ≡ v → described new ≡ record v { machine = (issue v.desc v.machine).machine }
+  pub issued_shown : (v : Described) → described_of h ≡ v → described_of new ≡ record v { machine = (issue v.desc v.machine).machine }
   issued_shown v s = shown_by (λ d x. (issue d x).machine) h (machine_of new) v issued_machine s
 
   -- the visibility point still says which entries are visible, once they have issued
-  pub issued_advanced : (v : Described) → described h ≡ v → HasAdvanced v.point v.machine.window → HasAdvanced h.point rob.entries
+  pub issued_advanced : (v : Described) → described_of h ≡ v → HasAdvanced v.point v.machine.window → HasAdvanced h.point rob.entries
   issued_advanced v s a =
       subst (HasAdvanced h.point) (sym (ap (λ (x : Machine). x.window) issued_machine))
       (issue_advanced h.desc h.point (machine_of h) w.sized.parts w.refines.point.unresolved (advanced h v w s a))

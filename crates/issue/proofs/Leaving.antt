@@ -14,7 +14,7 @@ use Rattle.window_model.specs.Issue.{access_of, after_load, divider_after, issue
 use Rattle.window_model.proofs.Issuing.{by_load}
 use Rattle.machine_facts.proofs.Requests.{room_ahead}
 use Rattle.issue.specs.Decisions.{division_of, load_of, turns}
-use Rattle.issue.specs.Shared.{cache_left, divider_left, misses_left, requested, second_left}
+use Rattle.issue.specs.Shared.{cache_left, divider_left, misses_left, requests_of_load, second_left}
 
 -- what the access of the load in this place comes to, and the divider with the division in it
 abbrev loaded : Desc → Machine → Option Place → Option Access
@@ -57,14 +57,14 @@ leaves d x window load cache second misses divider w l c s m n =
 -- ---- lines take registers only where there are as many
 
 module _ (d : Desc) (x : Machine) (fits : length x.misses ≤ d.cache_mshrs) where
-  access_room : (b : List Entry) (e : Entry) → length x.misses + length (requested (Some (access_of d (around x) b e))) ≤ d.cache_mshrs
+  access_room : (b : List Entry) (e : Entry) → length x.misses + length (requests_of_load (Some (access_of d (around x) b e))) ≤ d.cache_mshrs
   access_room =
-      by_load d (around x) (λ a. length x.misses + length (requested (Some a)) ≤ d.cache_mshrs) (omega (arith, fits)) (λ a n some room. room_ahead d (around x) a n room)
+      by_load d (around x) (λ a. length x.misses + length (requests_of_load (Some a)) ≤ d.cache_mshrs) (omega (arith, fits)) (λ a n some room. room_ahead d (around x) a n room)
       (λ a n some full. omega (arith, fits)) (λ c. omega (arith, fits))
 
-  room_by : (o : Option Place) → length x.misses + length (requested (loaded d x o)) ≤ d.cache_mshrs
+  room_by : (o : Option Place) → length x.misses + length (requests_of_load (loaded d x o)) ≤ d.cache_mshrs
   room_by None = omega (arith, fits)
   room_by (Some p) = access_room p.before p.entry
 
-  pub has_room : (load : Option Access) → load ≡ load_of d (around x) x.window → length x.misses + length (requested load) ≤ d.cache_mshrs
-  has_room load h = subst (λ l. length x.misses + length (requested l) ≤ d.cache_mshrs) (sym h) (room_by (first (may_at d (around x) LoadPort) x.window))
+  pub has_room : (load : Option Access) → load ≡ load_of d (around x) x.window → length x.misses + length (requests_of_load load) ≤ d.cache_mshrs
+  has_room load h = subst (λ l. length x.misses + length (requests_of_load l) ≤ d.cache_mshrs) (sym h) (room_by (first (may_at d (around x) LoadPort) x.window))

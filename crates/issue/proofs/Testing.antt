@@ -23,7 +23,7 @@ use Rattle.stations.specs.declared.wants.Part.{Part}
 use Rattle.rob_ring.specs.declared.beside.Sources.{Sources}
 use Rattle.visibility.specs.Gate.{may_show_by, may_transmit}
 use Rattle.unit_ports.specs.Ports.{Ports, left_at, port_for, taken_at}
-use Rattle.unit_ports.specs.Laws.{LeftAfter, asked, if_asked}
+use Rattle.unit_ports.specs.Laws.{LeftAfter, ports_after_request, if_asked}
 use Rattle.unit_ports.proofs.Granting.{granted_is, left_more}
 use Rattle.visibility.specs.Point.{HasAdvanced, Point}
 use Rattle.visibility.proofs.Showing.{shown_by_point}
@@ -106,8 +106,8 @@ only_ports _ p = record { alus = refl; cycle = refl }
 
 -- an entry in one piece takes one where it may issue there
 left_asked : (b : Bool) (d : Desc) (now : Around) (before : List Entry) (e : Entry) (p : Ports) → is_store e.item.kind ≡ false → may_at d now (port_for e.item.kind) before e ≡ b → LeftAfter d now before p →
-    LeftAfter d now (e ∷ before) (asked b e p)
-left_asked b d now before e p s h l = subst (λ b. LeftAfter d now (e ∷ before) (asked b e p)) h (left_more d now before e p s l)
+    LeftAfter d now (e ∷ before) (ports_after_request b e p)
+left_asked b d now before e p s h l = subst (λ b. LeftAfter d now (e ∷ before) (ports_after_request b e p)) h (left_more d now before e p s l)
 
 -- an entry that asks for no port takes none
 pub left_none : (d : Desc) (now : Around) (before : List Entry) (e : Entry) (p : Ports) → AsksNone d now before e → LeftAfter d now before p → LeftAfter d now (e ∷ before) p

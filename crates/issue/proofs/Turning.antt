@@ -18,7 +18,7 @@ use Rattle.window_model.specs.Around.{Around}
 use Rattle.window_model.specs.declared.lookup.Lines.{Lines}
 use Rattle.window_model.specs.declared.lookup.Request.{Request}
 use Rattle.window_model.specs.declared.lookup.Access.TheVariants.{Looks}
-use Rattle.window_model.specs.Access.{looked_up, prefetched}
+use Rattle.window_model.specs.Access.{looked_up, prefetch_request}
 use Rattle.window_model.specs.Order.{has_address, has_data, is_load, is_store, is_waiting}
 use Rattle.window_model.specs.Retire.{op_of, byte_count}
 use Rattle.window_model.specs.MayIssue.{effect_of}
@@ -35,7 +35,7 @@ use Rattle.refinement.specs.Noted.{PartsGoOn, TracksOn}
 use Rattle.refinement.specs.Stations.{Issues, station_of}
 use Rattle.core_parts.specs.declared.decided.Put.{Put}
 use Rattle.issue.specs.Ports.{most_events_of}
-use Rattle.issue.specs.Puts.{ArePuts, IsPut, issue_by, issue_in, placed, width_for}
+use Rattle.issue.specs.Puts.{ArePuts, IsPut, issue_by, issue_in, window_with_puts, width_for}
 use Rattle.issue.specs.Turns.{after_by, begin_entry, puts_by, puts_of}
 use Rattle.issue.proofs.Advanced.{lacks_address, lacks_data, still_undone}
 use Rattle.issue.proofs.Asking.{AsksNone, InStep, fresh_address, fresh_data, granted_may, grants_none}
@@ -127,7 +127,7 @@ looks_turns d now e f v found ahead s w = some_events now e _ _ _ _ s w
 
 load_turns : (d : Desc) (now : Around) (b : List Entry) (e : Entry) (f : Effect) (v : ℕ) → is_store e.item.kind ≡ false → is_waiting e.state ≡ true → Turns e (load_as (access_of d now b e) d now e f v)
 load_turns d now b e f v s w =
-    by_load d now (λ a. Turns e (load_as a d now e f v)) (one_event now e _ _ _ s w) (λ a n some room. let found = looked_up d now a n in looks_turns d now e f v found (prefetched d now found) s w)
+    by_load d now (λ a. Turns e (load_as a d now e f v)) (one_event now e _ _ _ s w) (λ a n some room. let found = looked_up d now a n in looks_turns d now e f v found (prefetch_request d now found) s w)
     (λ a n some full. inl refl) (λ c. one_event now e _ _ _ s w) b e
 
 begin_turns : (k : Kind) (d : Desc) (now : Around) (before : List Entry) (e : Entry) → is_store e.item.kind ≡ false → is_waiting e.state ≡ true → Turns e (begin_as k d now before e)
@@ -286,7 +286,7 @@ puts_more window i station e puts b h n (inr a) t =
     })
 
 -- the youngest is put in its place first
-pub placed_push : (puts : List Put) (p : Put) (window : List Entry) → placed (puts ++ p ∷ []) window ≡ placed puts (issue_in p window)
+pub placed_push : (puts : List Put) (p : Put) (window : List Entry) → window_with_puts (puts ++ p ∷ []) window ≡ window_with_puts puts (issue_in p window)
 placed_push [] p window = refl
 placed_push (q ∷ ps) p window = ap (issue_in q) (placed_push ps p window)
 
@@ -303,14 +303,14 @@ here_between older e younger i l = subst (λ i. slice_get (older ++ e ∷ younge
     seam (x ∷ xs) = seam xs
 
 pub placed_more : (puts : List Put) (i station : ℕ) (e : Entry) (b : Begun) (older younger : List Entry) → length older ≡ i → Turns e b →
-    placed (puts ++ puts_of i station b) (older ++ e ∷ younger) ≡ placed puts (older ++ b.entry ∷ younger)
+    window_with_puts (puts ++ puts_of i station b) (older ++ e ∷ younger) ≡ window_with_puts puts (older ++ b.entry ∷ younger)
 placed_more puts i station e b older younger l (inl q) =
-    let P : Begun → Type 0 = λ b. placed (puts ++ puts_of i station b) (older ++ e ∷ younger) ≡ placed puts (older ++ b.entry ∷ younger) in
-    subst P (sym q) (ap (λ ps. placed ps (older ++ e ∷ younger)) (append-nil puts))
+    let P : Begun → Type 0 = λ b. window_with_puts (puts ++ puts_of i station b) (older ++ e ∷ younger) ≡ window_with_puts puts (older ++ b.entry ∷ younger) in
+    subst P (sym q) (ap (λ ps. window_with_puts ps (older ++ e ∷ younger)) (append-nil puts))
 placed_more puts i station e b older younger l (inr a) =
-    let P : List Event → Type 0 = λ events. placed (puts ++ puts_by i station (after_by b.entry events)) (older ++ e ∷ younger) ≡ placed puts (older ++ b.entry ∷ younger) in
+    let P : List Event → Type 0 = λ events. window_with_puts (puts ++ puts_by i station (after_by b.entry events)) (older ++ e ∷ younger) ≡ window_with_puts puts (older ++ b.entry ∷ younger) in
     let p : Put = record { position = i; station = station; issued = issued_of b.entry } in
     let there : issue_in p (older ++ e ∷ younger) ≡ older ++ b.entry ∷ younger =
     issues_here p (older ++ e ∷ younger) e (here_between older e younger i l) ∙ set_at older e younger (with_issued (issued_of b.entry) e) i l
     ∙ ap (λ r. older ++ r ∷ younger) a.rest in
-    subst P (sym a.has) (placed_push puts p (older ++ e ∷ younger) ∙ ap (placed puts) there)
+    subst P (sym a.has) (placed_push puts p (older ++ e ∷ younger) ∙ ap (window_with_puts puts) there)

@@ -22,7 +22,7 @@ use Rattle.core_parts.specs.declared.decided.Put.{Put}
 use Rattle.issue.specs.declared.seen.Seen.{Seen}
 use Rattle.core_parts.specs.declared.decided.Decided.{Decided}
 use Rattle.issue.specs.Decisions.{DecidesFor, turns_of}
-use Rattle.issue.specs.Puts.{ArePuts, IsPut, placed}
+use Rattle.issue.specs.Puts.{ArePuts, IsPut, window_with_puts}
 use Rattle.issue.specs.Shared.{divider_left}
 use Rattle.issue.specs.State.{IssueInvariant, StandsAt, around_of, window_of}
 use Rattle.issue.specs.Turns.{puts_of}
@@ -37,7 +37,7 @@ use Rattle.issue.proofs.Turning.{PutsTo, entry_turns, placed_more, puts_more, tu
 pub record DecidedTo (s : Seen) (i : ℕ) (puts : List Put) (load : Option Access) (start divider : Divider) (earlier events : List Event) : Type 0 where
   pub puts_to : PutsTo (window_of s) i puts
   -- the window with the older entries put in their places, whatever entries are younger
-  pub window : (younger : List Entry) → placed puts (take i (window_of s) ++ younger) ≡ map (λ b. b.entry) (each (issue_entry s.desc.now (around_of s)) (take i (window_of s))) ++ younger
+  pub window : (younger : List Entry) → window_with_puts puts (take i (window_of s) ++ younger) ≡ map (λ b. b.entry) (each (issue_entry s.desc.now (around_of s)) (take i (window_of s))) ++ younger
   pub events_are : events ≡ earlier ++ flat_map (λ b. b.events) (each (issue_entry s.desc.now (around_of s)) (take i (window_of s)))
   pub load_is : load ≡ of_first (may_at s.desc.now (around_of s) LoadPort) (access_of s.desc.now (around_of s)) (take i (window_of s))
   pub divider_is : divider ≡ divider_left (of_first (may_at s.desc.now (around_of s) DivPort) (taken_for (around_of s)) (take i (window_of s))) start
@@ -76,15 +76,15 @@ module _ (s : Seen) (i : ℕ) (e : Entry) (stands : IssueInvariant s) (h : Stand
   turns_more : turns (i + 1) ≡ turns i ++ turn ∷ []
   turns_more = ap (each (issue_entry d now)) (one_more (window_of s) i e h) ∙ each_push (issue_entry d now) [] (window_up_to i) e
 
-  window_more : (station : ℕ) (puts : List Put) → ((younger : List Entry) → placed puts (window_up_to i ++ younger) ≡ map (λ b. b.entry) (turns i) ++ younger) →
-      (younger : List Entry) → placed (puts ++ puts_of i station turn) (window_up_to (i + 1) ++ younger) ≡ map (λ b. b.entry) (turns (i + 1)) ++ younger
+  window_more : (station : ℕ) (puts : List Put) → ((younger : List Entry) → window_with_puts puts (window_up_to i ++ younger) ≡ map (λ b. b.entry) (turns i) ++ younger) →
+      (younger : List Entry) → window_with_puts (puts ++ puts_of i station turn) (window_up_to (i + 1) ++ younger) ≡ map (λ b. b.entry) (turns (i + 1)) ++ younger
   window_more station puts w younger =
       let within : i < length (window_of s) = slice_get_within (window_of s) i e h in
       let l : length (window_up_to i) ≡ i = length-take-le i (window_of s) (omega (arith, within)) in
       let older : window_up_to (i + 1) ++ younger ≡ window_up_to i ++ e ∷ younger = ap (λ es. es ++ younger) (one_more (window_of s) i e h) ∙ append_assoc (window_up_to i) (e ∷ []) younger in
       let turned : map (λ b. b.entry) (turns (i + 1)) ≡ map (λ b. b.entry) (turns i) ++ turn.entry ∷ [] = ap (map (λ b. b.entry)) turns_more ∙ entries_push (turns i) turn in
       let whole : map (λ b. b.entry) (turns (i + 1)) ++ younger ≡ map (λ b. b.entry) (turns i) ++ turn.entry ∷ younger = ap (λ es. es ++ younger) turned ∙ append_assoc (map (λ b. b.entry) (turns i)) (turn.entry ∷ []) younger in
-      ap (placed (puts ++ puts_of i station turn)) older
+      ap (window_with_puts (puts ++ puts_of i station turn)) older
       ∙ placed_more puts i station e turn (window_up_to i) younger l (entry_turns d now before e step)
       ∙ w (turn.entry ∷ younger) ∙ sym whole
 
@@ -103,7 +103,7 @@ module _ (s : Seen) (i : ℕ) (e : Entry) (stands : IssueInvariant s) (h : Stand
   decided_more station puts new_puts load new_load start divider new_divider earlier events more n p m l v t =
       record {
         puts_to = subst (PutsTo (window_of s) (i + 1)) (sym p) (puts_more (window_of s) i station e puts turn h n (entry_turns d now before e step) t.puts_to);
-        window = λ younger. ap (λ ps. placed ps (window_up_to (i + 1) ++ younger)) p ∙ window_more station puts t.window younger;
+        window = λ younger. ap (λ ps. window_with_puts ps (window_up_to (i + 1) ++ younger)) p ∙ window_more station puts t.window younger;
         events_are = events_more earlier events more m t.events_are;
         load_is = slot_more (access_of d now) d now LoadPort (window_of s) i e load new_load h refl l t.load_is;
         divider_is = divider_more d now (window_of s) i e start divider new_divider h v t.divider_is;
@@ -161,7 +161,7 @@ decided_all s i decided start divider earlier events le t =
     record {
       puts_are = t.puts_to.puts_are;
       decides = record {
-        window = ap (placed decided.puts.items) (sym (append-nil (take i (window_of s)) ∙ all)) ∙ t.window []
+        window = ap (window_with_puts decided.puts.items) (sym (append-nil (take i (window_of s)) ∙ all)) ∙ t.window []
             ∙ append-nil (map (λ b. b.entry) (each (issue_entry d now) (take i (window_of s)))) ∙ ap (map (λ b. b.entry)) turns;
         load = t.load_is ∙ ap (of_first (may_at d now LoadPort) (access_of d now)) all;
         divider = t.divider_is ∙ ap (λ es. divider_left (of_first (may_at d now DivPort) (taken_for now) es) start) all;
@@ -184,7 +184,7 @@ walked_none s ports puts load earlier p l left =
                 puts_are = record { each_put = All-nil (IsPut (window_of s)); by_age = λ i j d lt within. absurd (omega arith) };
                 older = All-nil (λ p. p.position < 0);
               });
-          window = λ younger. ap (λ ps. placed ps younger) p;
+          window = λ younger. ap (λ ps. window_with_puts ps younger) p;
           events_are = sym (append-nil earlier);
           load_is = l;
           divider_is = refl;

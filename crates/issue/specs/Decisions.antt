@@ -13,7 +13,7 @@ use Rattle.core_parts.specs.declared.decided.Decided.{Decided}
 pub use Rattle.core_parts.specs.Decided.{IsNothing}
 pub use Rattle.core_parts.specs.Puts.{most_begun}
 use Rattle.issue.specs.declared.seen.Seen.{Seen}
-use Rattle.issue.specs.Puts.{placed}
+use Rattle.issue.specs.Puts.{window_with_puts}
 use Rattle.issue.specs.Shared.{divider_left}
 use Rattle.issue.specs.declared.candidate.Candidate.{Candidate}
 use Rattle.issue.specs.Ports.{LeftBehind, OnlyPorts, events_left, granted_at, left_in_all}
@@ -37,7 +37,7 @@ division_of d now window = option_map (λ p. taken_for now p.before p.entry) (fi
 
 -- which entries begin, what the load's access comes to, and the divider then
 pub record Decides (d : Desc) (now : Around) (es : List Entry) (decided : Decided) (old new : Divider) : Type 0 where
-  pub window : placed decided.puts.items es ≡ map (λ b. b.entry) (turns d now es)
+  pub window : window_with_puts decided.puts.items es ≡ map (λ b. b.entry) (turns d now es)
   pub load : decided.load ≡ load_of d now es
   pub divider : new ≡ divider_left (division_of d now es) old
 

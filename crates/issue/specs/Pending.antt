@@ -8,7 +8,7 @@ use Rattle.window_model.specs.Around.{is_free}
 use Rattle.window_model.specs.MayIssue.{bytes_of, passes_stores}
 use Rattle.visibility.specs.Point.{is_hidden}
 use Rattle.lsq.specs.declared.pending.Pending.{Pending}
-use Rattle.lsq.specs.Pending.{awaited, lacks_address}
+use Rattle.lsq.specs.Pending.{pending_among, lacks_address}
 use Rattle.lsq.specs.Queues.{is_known, older}
 use Rattle.lsq.specs.declared.store.Store.{Store}
 use Rattle.issue.specs.declared.candidate.Candidate.{Candidate}
@@ -41,7 +41,7 @@ is_kept s p = kept_as p.entry.now.item.kind s p
 
 -- what the queue of stores says of the bytes that the load asks for
 abbrev pub pending_here : Seen → Candidate → Pending
-pending_here s p = awaited (bytes_of (around_of s) (before_of s p) p.entry.now) (older_here s p)
+pending_here s p = pending_among (bytes_of (around_of s) (before_of s p) p.entry.now) (older_here s p)
 
 -- no older store keeps the load: one whose address isn't known lets it go where the load passes stores, and none
 -- without data covers a byte of the load or has a tainted address

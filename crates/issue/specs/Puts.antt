@@ -9,7 +9,7 @@ use Rattle.window_model.specs.Order.{is_store, is_waiting}
 use Rattle.window_model.specs.Retire.{byte_count}
 use Rattle.rob_ring.specs.Issued.{issued_of, with_issued}
 use Rattle.lsq.specs.Queues.{Queues}
-use Rattle.refinement.specs.Noted.{PartsGoOn, TracksOn, noted, noted_load}
+use Rattle.refinement.specs.Noted.{PartsGoOn, TracksOn, queues_with_parts, noted_load}
 use Rattle.refinement.specs.Stations.{Issues, station_of}
 use Rattle.core_parts.specs.declared.decided.Put.{Put}
 
@@ -44,11 +44,11 @@ abbrev pub issue_in : Put → List Entry → List Entry
 issue_in p window = issue_by p window (slice_get window p.position)
 
 -- the window once the entries of all puts have issued in their places
-abbrev pub placed : List Put → List Entry → List Entry
-placed [] window = window
-placed (p ∷ ps) window = issue_in p (placed ps window)
+abbrev pub window_with_puts : List Put → List Entry → List Entry
+window_with_puts [] window = window
+window_with_puts (p ∷ ps) window = issue_in p (window_with_puts ps window)
 
 -- what has issued of the entry is known to the queues, if it is a store; and if it is a load what it reads, where loads
 -- may pass stores
 abbrev pub known_in : Bool → Queues → Entry → Queues
-known_in loads_pass q e = noted_load loads_pass (width_for (byte_count e)) e (noted (width_for (byte_count e)) e q)
+known_in loads_pass q e = noted_load loads_pass (width_for (byte_count e)) e (queues_with_parts (width_for (byte_count e)) e q)

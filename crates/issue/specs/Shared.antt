@@ -29,6 +29,6 @@ divider_left None v = v
 divider_left (Some taken) v = taken
 
 -- the lines that take registers with the load that was tried
-abbrev pub requested : Option Access → List Request
-requested (Some (Looks found ahead)) = all_requests found ahead
-requested _ = []
+abbrev pub requests_of_load : Option Access → List Request
+requests_of_load (Some (Looks found ahead)) = all_requests found ahead
+requests_of_load _ = []

@@ -1,7 +1,7 @@
 -- What becomes of an entry that has its turn, in its place (docs/machine.md, "Issue").
 use Rattle.std.specs.Prelude.{◌≡◌, ℕ, Bool, List, [], ◌∷◌, ◌++◌, Option, None, Some, if◌then◌else◌}
 use Rattle.std.specs.Option.{option_map, option_to_list}
-use Rattle.rv_effect.specs.Seen.{seen}
+use Rattle.rv_effect.specs.Seen.{isa_effect}
 use Rattle.rv_effect.specs.declared.fields.Effect as made
 use Rattle.rv_types.specs.Isa.{Effect}
 use Rattle.machine_desc.specs.declared.Desc.{Desc}
@@ -39,7 +39,7 @@ value_from a d now before e = value_loaded now.ram before e a
 
 -- what a load comes to by what it finds
 abbrev pub loads : Seen → Candidate → made.Effect → Loaded → Begun
-loads s p f l = load_as l.access s.desc.now (around_of s) p.entry.now (seen f) l.value
+loads s p f l = load_as l.access s.desc.now (around_of s) p.entry.now (isa_effect f) l.value
 
 -- a store by whether its address part is granted its port, and its data part
 abbrev pub address_by : Bool → Seen → Candidate → Effect → Begun

@@ -5,7 +5,7 @@ use window_model::{Access, Line, Lines, Request, line_of, upper_line};
 impl<'a> Seen<'a> {
     ghost use Rattle.std.specs.Prelude.{◌≡◌, ◌==◌, ◌≤◌, ◌<◌, ◌+◌, ◌^◌, IsTrue};
     ghost use Rattle.std.specs.List.{find};
-    ghost use Rattle.window_model.specs.Access.{joined, line_behind, look_up, looked_up, prefetched, prefetches, request, unless_forwarded, unless_lacking};
+    ghost use Rattle.window_model.specs.Access.{line_on_miss, line_behind, look_up, looked_up, prefetch_request, prefetches, request, unless_forwarded, unless_lacking};
     ghost use Rattle.issue.specs.State.{IssueInvariant, around_of};
 
     // A line that takes a miss register: it comes from the second level, where that has it.
@@ -22,7 +22,7 @@ impl<'a> Seen<'a> {
     // A line that the cache lacks.
     fn join(&self, line: u32) -> Line
         requires stands { IssueInvariant self.now }
-        ensures { result ≡ joined self.now.desc.now (around_of self.now) line
+        ensures { result ≡ line_on_miss self.now.desc.now (around_of self.now) line
             (find (λ m. m.line == line) self.now.mshrs.now.misses) }
     {
         match self.mshrs.find(line) {
@@ -76,7 +76,7 @@ impl<'a> Seen<'a> {
     // The line behind an access, if it is prefetched: it takes the register that is left.
     fn prefetched(&self, lines: &Lines) -> Option<Request>
         requires stands { IssueInvariant self.now }
-        ensures { result ≡ prefetched self.now.desc.now (around_of self.now) lines.now }
+        ensures { result ≡ prefetch_request self.now.desc.now (around_of self.now) lines.now }
     {
         if !self.prefetches(lines) {
             return None;

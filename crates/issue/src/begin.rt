@@ -1,8 +1,8 @@
 //! What an entry does in one piece that is granted a port, by its kind (`docs/machine.md`, "Issue"). Its events go into
 //! the row.
 ghost use Rattle.std.specs.Prelude.{◌≡◌, None, Some};
-ghost use Rattle.rv_effect.specs.Seen.{seen};
-ghost use Rattle.window_model.specs.Issue.{begun, fault_if, outcome};
+ghost use Rattle.rv_effect.specs.Seen.{isa_effect};
+ghost use Rattle.window_model.specs.Issue.{executing_until, fault_if, outcome};
 ghost use Rattle.rob_ring.specs.Issued.{issued_of};
 
 use crate::candidate::Candidate;
@@ -18,7 +18,7 @@ use window_model::{Access, Entry, Event, Outcome, Progress, Row};
 
 /// What an effect comes to with this value and fault.
 pub(crate) fn outcome(effect: &Effect, value: u32, fault: Option<Cause>) -> Outcome
-    ensures { result ≡ outcome (seen effect.now) value fault }
+    ensures { result ≡ outcome (isa_effect effect.now) value fault }
 {
     Outcome {
         value,
@@ -41,7 +41,7 @@ fn fault_if(misaligned: bool) -> Option<Cause>
 
 /// What has issued of the entry as it executes until this cycle.
 pub(crate) fn begun(cycle: u32, entry: &Entry, due: u64, outcome: Outcome) -> Issued
-    ensures { result ≡ issued_of (begun cycle entry.now due outcome) }
+    ensures { result ≡ issued_of (executing_until cycle entry.now due outcome) }
 {
     Issued {
         state: Progress::Busy(due),
@@ -55,7 +55,7 @@ pub(crate) fn begun(cycle: u32, entry: &Entry, due: u64, outcome: Outcome) -> Is
 impl<'a> Seen<'a> {
     ghost use Rattle.std.specs.Prelude.{◌≡◌, Some, false, true};
     ghost use Rattle.rv_types.specs.declared.Kind.TheVariants as kind;
-    ghost use Rattle.rv_effect.specs.Seen.{seen};
+    ghost use Rattle.rv_effect.specs.Seen.{isa_effect};
     ghost use Rattle.window_model.specs.MayIssue.{goes_behind};
     ghost use Rattle.window_model.specs.Issue.{begin_as, is_division};
     ghost use Rattle.window_model.specs.Order.{is_load, is_store};
@@ -73,7 +73,7 @@ impl<'a> Seen<'a> {
         ports: &mut Ports,
         row: &mut Row,
     ) -> Issued
-        requires effect { seen computed.now.effect ≡ effect_here self.now candidate.now }
+        requires effect { isa_effect computed.now.effect ≡ effect_here self.now candidate.now }
         requires first { computed.now.first ≡ first_of self.now candidate.now }
         requires room { HasRoom 1 row.old }
         ensures divider { ports.new ≡ record ports.old {
@@ -96,7 +96,7 @@ impl<'a> Seen<'a> {
 
     // A multiplication executes for the description's latency of multiplications.
     fn begin_product(&self, candidate: &Candidate, made: &Effect, row: &mut Row) -> Issued
-        requires effect { seen made.now ≡ effect_here self.now candidate.now }
+        requires effect { isa_effect made.now ≡ effect_here self.now candidate.now }
         requires room { HasRoom 1 row.old }
         ensures { Comes (here (begin_as kind.Mul) self.now candidate.now) (Some result) row.old row.new }
     {
@@ -112,7 +112,7 @@ impl<'a> Seen<'a> {
 
     // What takes one cycle of an arithmetic unit.
     fn begin_simple(&self, candidate: &Candidate, made: &Effect, row: &mut Row) -> Issued
-        requires effect { seen made.now ≡ effect_here self.now candidate.now }
+        requires effect { isa_effect made.now ≡ effect_here self.now candidate.now }
         requires room { HasRoom 1 row.old }
         ensures { Comes (here (begin_as kind.Alu) self.now candidate.now) (Some result) row.old row.new }
     {
@@ -132,7 +132,7 @@ impl<'a> Seen<'a> {
         row: &mut Row,
     ) -> Option<Issued>
         requires turn { HasTurn self.now candidate.now }
-        requires effect { seen computed.now.effect ≡ effect_here self.now candidate.now }
+        requires effect { isa_effect computed.now.effect ≡ effect_here self.now candidate.now }
         requires first { computed.now.first ≡ first_of self.now candidate.now }
         requires whole { is_store candidate.now.entry.now.item.kind ≡ false }
         requires goes { is_load candidate.now.entry.now.item.kind ≡ true

@@ -10,7 +10,7 @@ use unit_ports::Ports;
 
 impl<'a> Seen<'a> {
     ghost use Rattle.std.specs.Prelude.{◌≡◌, ◌&&◌, Some, false, slice_get, true};
-    ghost use Rattle.rv_effect.specs.Seen.{seen};
+    ghost use Rattle.rv_effect.specs.Seen.{isa_effect};
     ghost use Rattle.window_model.specs.MayIssue.{address_of, bytes_of, goes_behind};
     ghost use Rattle.window_model.specs.Order.{is_store};
     ghost use Rattle.window_model.specs.Around.{is_free};
@@ -53,7 +53,7 @@ impl<'a> Seen<'a> {
     /// What a load asks for, by what its instruction makes of its operands.
     #[inline(always)]
     pub(crate) fn load_request(&self, candidate: &Candidate, made: &Effect) -> LoadRequest
-        requires effect { seen made.now ≡ effect_here self.now candidate.now }
+        requires effect { isa_effect made.now ≡ effect_here self.now candidate.now }
         ensures addr { result.addr ≡ made.now.addr }
         ensures size { bytes_in result.width ≡ byte_count candidate.now.entry.now }
         ensures fault { result.fault ≡ load_fault self.now.ram.now made.now.addr (byte_count candidate.now.entry.now) }
@@ -70,7 +70,7 @@ impl<'a> Seen<'a> {
     fn goes(&self, candidate: &Candidate, made: &Effect, kept: &mut Option<Kept>) -> bool
         requires turn { HasTurn self.now candidate.now }
         requires open { stores_keep self.now candidate.now ≡ false }
-        requires effect { seen made.now ≡ effect_here self.now candidate.now }
+        requires effect { isa_effect made.now ≡ effect_here self.now candidate.now }
         ensures { result ≡ here goes_behind self.now candidate.now }
     {
         if self.desc.stores_in_one() {
@@ -217,7 +217,7 @@ impl<'a> Seen<'a> {
     ) -> bool
         requires turn { HasTurn self.now candidate.now }
         requires open { is_kept self.now candidate.now ≡ false }
-        requires effect { seen made.now ≡ effect_here self.now candidate.now }
+        requires effect { isa_effect made.now ≡ effect_here self.now candidate.now }
         ensures { result ≡ besides self.now candidate.now }
     {
         match candidate.entry.item.kind {

@@ -41,7 +41,7 @@ impl<'a> Seen<'a> {
     ghost use Rattle.rv_types.specs.declared.Kind.TheVariants as kind;
     ghost use Rattle.rv_types.specs.Memory.{load_fault, range};
     ghost use Rattle.rv_types.specs.Value.{bytes_in};
-    ghost use Rattle.rv_effect.specs.Seen.{seen};
+    ghost use Rattle.rv_effect.specs.Seen.{isa_effect};
     ghost use Rattle.window_model.specs.Access.{due_by, due_of};
     ghost use Rattle.window_model.specs.MayIssue.{goes_behind, stores_let};
     ghost use Rattle.window_model.specs.Issue.{access_of, begin_as};
@@ -81,7 +81,7 @@ impl<'a> Seen<'a> {
     pub(crate) fn load(&self, candidate: &Candidate, made: &Effect) -> Loaded
         requires turn { HasTurn self.now candidate.now }
         requires goes { here goes_behind self.now candidate.now ≡ true }
-        requires effect { seen made.now ≡ effect_here self.now candidate.now }
+        requires effect { isa_effect made.now ≡ effect_here self.now candidate.now }
         ensures access { result.access ≡ here access_of self.now candidate.now }
         ensures begun { loads self.now candidate.now made.now result
             ≡ here (begin_as kind.Load) self.now candidate.now }

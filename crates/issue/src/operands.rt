@@ -74,7 +74,7 @@ pub(crate) struct Computed {
 
 impl<'a> Seen<'a> {
     ghost use Rattle.std.specs.Prelude.{◌≡◌};
-    ghost use Rattle.rv_effect.specs.Seen.{seen};
+    ghost use Rattle.rv_effect.specs.Seen.{isa_effect};
     ghost use Rattle.window_model.specs.MayIssue.{address_of};
     ghost use Rattle.issue.specs.Operands.{first_of, second_of};
     ghost use Rattle.issue.specs.State.{HasTurn, before_of};
@@ -125,7 +125,7 @@ impl<'a> Seen<'a> {
     pub(crate) fn compute(&self, candidate: &Candidate) -> Computed
         requires turn { HasTurn self.now candidate.now }
         ensures first { result.first ≡ first_of self.now candidate.now }
-        ensures effect { seen result.effect ≡ effect_here self.now candidate.now }
+        ensures effect { isa_effect result.effect ≡ effect_here self.now candidate.now }
     {
         let operands = self.operands(candidate);
         let item = &candidate.entry.item;

@@ -75,7 +75,7 @@ fn has_issued(entry: &Entry, part: Part) -> bool
 impl<'a> Seen<'a> {
     ghost use Rattle.std.specs.Prelude.{◌≡◌, ◌≤◌, ◌+◌, Bool, [], ◌∷◌, true, length};
     ghost use Rattle.rv_types.specs.Value.{one_if};
-    ghost use Rattle.rv_effect.specs.Seen.{seen};
+    ghost use Rattle.rv_effect.specs.Seen.{isa_effect};
     ghost use Rattle.window_model.specs.declared.Event.TheVariants as event;
     ghost use Rattle.window_model.specs.Delay.{may_show};
     ghost use Rattle.window_model.specs.Ports.{AddressPort, DataPort};
@@ -154,7 +154,7 @@ impl<'a> Seen<'a> {
     fn issue_address(&self, entry: &Entry, issued: &mut Issued, made: &Effect, row: &mut Row)
         requires room { HasRoom 1 row.old }
         ensures issued { issued.new ≡ issued_of
-            (with_address (around_of self.now) (seen made.now) (with_issued issued.old entry.now)) }
+            (with_address (around_of self.now) (isa_effect made.now) (with_issued issued.old entry.now)) }
         ensures row { row.new ≡ with_events row.old (event.Agu entry.now.serial ∷ []) }
     {
         row.push(Event::Agu(entry.serial));
@@ -170,7 +170,7 @@ impl<'a> Seen<'a> {
     fn issue_data(&self, entry: &Entry, issued: &mut Issued, made: &Effect, row: &mut Row)
         requires room { HasRoom 1 row.old }
         ensures issued { issued.new ≡ issued_of
-            (with_data (around_of self.now) (seen made.now) (with_issued issued.old entry.now)) }
+            (with_data (around_of self.now) (isa_effect made.now) (with_issued issued.old entry.now)) }
         ensures row { row.new ≡ with_events row.old (data_events self.now.desc.now entry.now) }
     {
         if !self.desc.stores_in_one() {

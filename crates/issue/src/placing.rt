@@ -4,13 +4,13 @@ ghost use Rattle.std.specs.Prelude.{◌≡◌, ◌<◌, length, true};
 ghost use Rattle.machine_desc.specs.Questions.{loads_pass};
 ghost use Rattle.window_model.specs.Order.{has_address, is_store};
 ghost use Rattle.window_model.specs.Retire.{byte_count};
-ghost use Rattle.refinement.specs.Noted.{noted, noted_load, with_span};
+ghost use Rattle.refinement.specs.Noted.{queues_with_parts, noted_load, with_span};
 ghost use Rattle.refinement.specs.InFlight.{InFlight};
 ghost use Rattle.refinement.specs.Refines.{Refines};
 ghost use Rattle.refinement.specs.Waiters.{wants_by, wants_of};
 ghost use Rattle.refinement.specs.Stations.{left_held};
 ghost use Rattle.issue.specs.Parts.{holding};
-ghost use Rattle.issue.specs.Puts.{ArePuts, known_in, placed, width_for};
+ghost use Rattle.issue.specs.Puts.{ArePuts, known_in, window_with_puts, width_for};
 
 use core_parts::Puts;
 use lsq::{IssuedLoad, Lsq, Span};
@@ -75,7 +75,7 @@ fn note_address(lsq: &mut Lsq, entry: &Entry)
 
 // What has issued of an entry is known to the queue of stores, if it is a store.
 fn note_store(lsq: &mut Lsq, entry: &Entry)
-    ensures { lsq.new ≡ noted (width_for (byte_count entry.now)) entry.now lsq.old }
+    ensures { lsq.new ≡ queues_with_parts (width_for (byte_count entry.now)) entry.now lsq.old }
 {
     if !entry.is_store() {
         return;
@@ -126,7 +126,7 @@ pub(crate) fn place(
 )
     requires puts { ArePuts rob.old.entries puts.now.items }
     requires refines { (p : InFlight) × Refines (holding desc.now rob.old stations.old lsq.old p) }
-    ensures window { rob.new ≡ record rob.old { entries = placed puts.now.items rob.old.entries } }
+    ensures window { rob.new ≡ record rob.old { entries = window_with_puts puts.now.items rob.old.entries } }
     ensures same_places { stations.new.room ≡ stations.old.room }
     ensures same_loads { lsq.new.max_loads ≡ lsq.old.max_loads }
     ensures same_stores { lsq.new.max_stores ≡ lsq.old.max_stores }

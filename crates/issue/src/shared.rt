@@ -5,7 +5,7 @@ ghost use Rattle.std.specs.List.{fold};
 ghost use Rattle.std.specs.Option.{option_to_list};
 ghost use Rattle.window_model.specs.Access.{register};
 ghost use Rattle.window_model.specs.SecondLevel.{second_touched};
-ghost use Rattle.issue.specs.Shared.{cache_left, misses_left, requested, second_left};
+ghost use Rattle.issue.specs.Shared.{cache_left, misses_left, requests_of_load, second_left};
 
 use cache_tags::Tags;
 use machine_desc::Desc;
@@ -57,7 +57,7 @@ pub(crate) fn take_registers(
     cycle: u32,
     desc: &Desc,
 )
-    requires room { length mshrs.old.misses + length (requested load) ≤ mshrs.old.room }
+    requires room { length mshrs.old.misses + length (requests_of_load load) ≤ mshrs.old.room }
     ensures misses { mshrs.new ≡ record mshrs.old {
       misses = misses_left desc.now cycle load mshrs.old.misses;
     } }

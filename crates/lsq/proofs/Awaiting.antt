@@ -10,7 +10,7 @@ use Rattle.lsq.specs.declared.store.Span.{Span}
 use Rattle.lsq.specs.declared.store.Store.{Store}
 use Rattle.lsq.specs.Queues.{youngest_root}
 use Rattle.lsq.specs.Merging.{reaches}
-use Rattle.lsq.specs.Pending.{awaited, awaits_too, bytes_asked, lacks_address, lacks_data_for, reaches_one}
+use Rattle.lsq.specs.Pending.{pending_among, awaits_too, bytes_asked, lacks_address, lacks_data_for, reaches_one}
 
 one : (p : Bool) → p ≡ (p || false)
 one true = refl
@@ -37,7 +37,7 @@ root_if true s ss = refl
 root_if false s ss = refl
 
 -- what a load awaits of stores with a younger one in front
-pub one_more : (bytes : List ℕ) (s : Store) (ss : List Store) → awaited bytes (s ∷ ss) ≡ awaits_too bytes s (awaited bytes ss)
+pub one_more : (bytes : List ℕ) (s : Store) (ss : List Store) → pending_among bytes (s ∷ ss) ≡ awaits_too bytes s (pending_among bytes ss)
 one_more bytes s ss =
     ap (λ r. record { address = lacks_address s || list_any lacks_address ss; overlap = lacks_data_for bytes s || list_any (lacks_data_for bytes) ss; root = r })
     (root_if (is_some s.stored) s (filter (λ s. not (is_some s.stored)) ss))

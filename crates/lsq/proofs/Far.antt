@@ -13,7 +13,7 @@ use Rattle.lsq.specs.declared.merging.Gathered.{Gathered}
 use Rattle.lsq.specs.declared.store.Span.{Span}
 use Rattle.lsq.specs.declared.store.Store.{Store}
 use Rattle.lsq.specs.Merging.{byte_by, byte_in_span, reaches}
-use Rattle.lsq.specs.Gathering.{is_near, passed}
+use Rattle.lsq.specs.Gathering.{is_near, with_younger_store}
 
 few_bytes : (w : Width) → bytes_in w ≤ 4
 few_bytes B = omega arith
@@ -60,7 +60,7 @@ record_of s g p q r t ep eq er et =
     ∙ ap₂ (λ r t. record { first = g.first; second = g.second; third = option_or r g.third; fourth = option_or t g.fourth; root = later s.root g.root }) er et
 
 -- a store that is far gives only its root
-pub far_span : (s : Store) (k : Span) (a : ℕ) (g : Gathered) → s.span ≡ Some k → is_near a k ≡ false → passed a s g ≡ record g { root = later s.root g.root }
+pub far_span : (s : Store) (k : Span) (a : ℕ) (g : Gathered) → s.span ≡ Some k → is_near a k ≡ false → with_younger_store a s g ≡ record g { root = later s.root g.root }
 far_span s k a g e h =
     let none : (b : ℕ) → a ≤ b → b < a + 4 → byte_by b s ≡ None
     = λ b low high. ap (λ k. byte_in_span b k s.stored) e ∙ no_byte k s.stored b (far k a b h low high) in

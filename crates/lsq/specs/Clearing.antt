@@ -35,8 +35,8 @@ abbrev pub is_violated : Store → Load → Bool
 is_violated s l = nat_lt s.serial l.serial && passed_wrongly s.span l.access
 
 -- the serial of the oldest load that the store violates
-abbrev pub violated : Store → List Load → Option ℕ
-violated s loads = option_map (λ l. l.serial) (find (is_violated s) loads)
+abbrev pub violated_serial : Store → List Load → Option ℕ
+violated_serial s loads = option_map (λ l. l.serial) (find (is_violated s) loads)
 
 -- the store of this serial
 abbrev pub store_of : ℕ → List Store → Option Store
@@ -44,4 +44,4 @@ store_of serial stores = find (λ s. s.serial == serial) stores
 
 -- the oldest load that is violated by the store of this serial
 abbrev pub violated_by : ℕ → List Store → List Load → Option ℕ
-violated_by serial stores loads = option_and_then (λ s. violated s loads) (store_of serial stores)
+violated_by serial stores loads = option_and_then (λ s. violated_serial s loads) (store_of serial stores)

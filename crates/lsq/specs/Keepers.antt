@@ -4,6 +4,6 @@ use Rattle.lsq.specs.declared.keepers.Keeper.{Keeper}
 use Rattle.lsq.specs.declared.keepers.Kept.{Kept}
 
 -- the guesses, with the store that keeps a load as that of the load's group
-abbrev pub noted : Option Kept → List (Option Keeper) → List (Option Keeper)
-noted None stores = stores
-noted (Some k) stores = slice_set stores (k.load % 64) (Some k.keeper)
+abbrev pub with_keeper : Option Kept → List (Option Keeper) → List (Option Keeper)
+with_keeper None stores = stores
+with_keeper (Some k) stores = slice_set stores (k.load % 64) (Some k.keeper)

@@ -24,9 +24,9 @@ abbrev pub byte_by : ℕ → Store → Option ℕ
 byte_by a s = byte_in_span a s.span s.stored
 
 -- the byte that these stores, youngest first, give to a load at an address: that of the youngest that writes it
-abbrev pub forwarded : List Store → ℕ → Option ℕ
-forwarded [] a = None
-forwarded (s ∷ stores) a = option_or (byte_by a s) (forwarded stores a)
+abbrev pub forwarded_byte : List Store → ℕ → Option ℕ
+forwarded_byte [] a = None
+forwarded_byte (s ∷ stores) a = option_or (byte_by a s) (forwarded_byte stores a)
 
 -- a byte that is given, else the one that memory holds
 abbrev pub byte_or_memory : Ram → ℕ → Option ℕ → ℕ
@@ -35,11 +35,11 @@ byte_or_memory ram a (Some byte) = byte
 
 -- the n bytes that a load finds from an address on, behind these stores
 abbrev pub merged_bytes : Ram → List Store → ℕ → ℕ → List ℕ
-merged_bytes ram stores a n = map (λ b. byte_or_memory ram b (forwarded stores b)) (range a n)
+merged_bytes ram stores a n = map (λ b. byte_or_memory ram b (forwarded_byte stores b)) (range a n)
 
 -- stores give all n bytes from an address on
 abbrev pub all_forwarded : List Store → ℕ → ℕ → Bool
-all_forwarded stores a n = list_all (λ b. is_some (forwarded stores b)) (range a n)
+all_forwarded stores a n = list_all (λ b. is_some (forwarded_byte stores b)) (range a n)
 
 -- what a store writes reaches an address, where it is known by a cycle where it writes
 abbrev pub reaches_by : ℕ → ℕ → Option Span → Bool

@@ -43,8 +43,8 @@ keeps serial bytes s = nat_lt s.serial serial && lacks_data_for bytes s
 -- ---- one walk over the stores
 
 -- what a load of these bytes waits for in these stores, youngest first
-abbrev pub awaited : List ℕ → List Store → Pending
-awaited bytes stores = record {
+abbrev pub pending_among : List ℕ → List Store → Pending
+pending_among bytes stores = record {
   address = list_any lacks_address stores;
   overlap = list_any (lacks_data_for bytes) stores;
   root = youngest_root (filter (λ s. not (is_some s.stored)) stores);

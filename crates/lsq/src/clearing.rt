@@ -1,7 +1,7 @@
 //! Which load is violated as a store is cleared (`docs/machine.md`, "Clear"): one walk over the loads.
 ghost use Rattle.std.specs.Prelude.{◌≡◌, [], ◌∷◌};
 ghost use Rattle.std.specs.Option.{option_map};
-ghost use Rattle.lsq.specs.Clearing.{info_of, is_violated, is_wrong, passed_wrongly, store_of, violated, violated_by};
+ghost use Rattle.lsq.specs.Clearing.{info_of, is_violated, is_wrong, passed_wrongly, store_of, violated_serial, violated_by};
 
 use crate::load::{IssuedLoad, Load};
 use crate::pending::shares;
@@ -62,7 +62,7 @@ fn is_violated(store: &Store, load: &Load) -> bool
 
 // The load's serial, if the store violates it.
 fn serial_if_violated(store: &Store, load: &Load) -> Option<u64>
-    ensures { result ≡ violated store.now (load.now ∷ []) }
+    ensures { result ≡ violated_serial store.now (load.now ∷ []) }
 {
     if is_violated(store, load) {
         return Some(load.serial);
@@ -72,7 +72,7 @@ fn serial_if_violated(store: &Store, load: &Load) -> Option<u64>
 
 // The oldest load that the store violates.
 fn violated(store: &Store, loads: &[Load]) -> Option<u64>
-    ensures { result ≡ violated store.now loads.now }
+    ensures { result ≡ violated_serial store.now loads.now }
 {
     let mut oldest = None;
     for load in loads {

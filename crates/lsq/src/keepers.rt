@@ -1,6 +1,6 @@
 //! Which store kept a load when it last asked.
 ghost use Rattle.std.specs.Prelude.{◌≡◌, ◌%◌, None, Some, replicate, slice_get};
-ghost use Rattle.lsq.specs.Keepers.{noted};
+ghost use Rattle.lsq.specs.Keepers.{with_keeper};
 
 /// How many groups of loads there are: a load's group is its serial's remainder by this number.
 pub const GROUPS: usize = 64;
@@ -53,7 +53,7 @@ impl Keepers {
 
     /// Notes which store keeps a load, if one does.
     pub fn note(&mut self, kept: Option<Kept>)
-        ensures { self.new.stores ≡ noted kept self.old.stores }
+        ensures { self.new.stores ≡ with_keeper kept self.old.stores }
     {
         if let Some(kept) = kept {
             self.stores[(kept.load % GROUPS as u64) as usize] = Some(kept.keeper);

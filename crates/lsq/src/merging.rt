@@ -8,7 +8,7 @@ ghost use Rattle.rv_types.specs.Value.{bytes_in};
 ghost use Rattle.rv_types.specs.Word.{from_le, to_le};
 ghost use Rattle.lsq.specs.Queues.{older, youngest_root};
 ghost use Rattle.lsq.specs.Merging.{all_forwarded, byte_by, byte_or_memory, giver, merged_bytes, reaches, reaches_by};
-ghost use Rattle.lsq.specs.Gathering.{covered_in, gathered, is_near, nothing, number_in, passed};
+ghost use Rattle.lsq.specs.Gathering.{covered_in, bytes_from_stores, is_near, nothing, number_in, with_younger_store};
 
 use crate::load::LoadRequest;
 use crate::store::{Span, Store};
@@ -89,7 +89,7 @@ fn byte_by(store: &Store, addr: u64) -> Option<u8>
 fn may_give(store: &Store, addr: u64) -> bool
     requires { addr < 2 ^ 32 }
     ensures { (g : Gathered) → result ≡ false
-        → passed addr store.now g ≡ record g { root = later store.now.root g.root } }
+        → with_younger_store addr store.now g ≡ record g { root = later store.now.root g.root } }
 {
     match &store.span {
         Some(span) => is_near(span, addr),
@@ -114,7 +114,7 @@ impl Gathered {
     // What is gathered for the bytes from an address on, once this younger store is passed.
     fn passed(self, store: &Store, addr: u64) -> Gathered
         requires { addr < 2 ^ 32 }
-        ensures { result ≡ passed addr store.now self }
+        ensures { result ≡ with_younger_store addr store.now self }
     {
         let second = addr + 1;
         let third = second + 1;
@@ -132,7 +132,7 @@ impl Gathered {
     // them only gives its root.
     fn passed_by_range(self, store: &Store, addr: u64) -> Gathered
         requires { addr < 2 ^ 32 }
-        ensures { result ≡ passed addr store.now self }
+        ensures { result ≡ with_younger_store addr store.now self }
     {
         if may_give(store, addr) {
             return self.passed(store, addr);
@@ -144,7 +144,7 @@ impl Gathered {
     // What is gathered for the bytes from an address on, once this store is passed, if it is older than the load.
     fn passed_if_older(self, store: &Store, serial: u64, addr: u64) -> Gathered
         requires { addr < 2 ^ 32 }
-        ensures { result ≡ (if nat_lt store.now.serial serial then passed addr store.now self else self) }
+        ensures { result ≡ (if nat_lt store.now.serial serial then with_younger_store addr store.now self else self) }
     {
         if store.serial < serial {
             return self.passed_by_range(store, addr);
@@ -201,7 +201,7 @@ fn byte_or_memory(byte: Option<u8>, ram: &Ram, addr: u64) -> u8
 // What the stores older than a serial give to a load of the bytes from an address on.
 fn gather(stores: &[Store], serial: u64, addr: u64) -> Gathered
     requires { addr < 2 ^ 32 }
-    ensures { result ≡ gathered (older serial stores.now) addr }
+    ensures { result ≡ bytes_from_stores (older serial stores.now) addr }
 {
     let mut gathered = Gathered::nothing();
     for store in stores {

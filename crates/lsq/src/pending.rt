@@ -3,7 +3,7 @@ ghost use Rattle.std.specs.Prelude.{◌≡◌, ◌&&◌, [], nat_lt, if◌then�
 ghost use Rattle.std.specs.List.{list_any, position_from};
 ghost use Rattle.lsq.specs.Queues.{older};
 ghost use Rattle.lsq.specs.Merging.{reaches};
-ghost use Rattle.lsq.specs.Pending.{awaited, awaits_too, bytes_requested, keeps, lacks_address, reaches_one};
+ghost use Rattle.lsq.specs.Pending.{pending_among, awaits_too, bytes_requested, keeps, lacks_address, reaches_one};
 
 use crate::load::LoadRequest;
 use crate::merging::{is_near, reaches};
@@ -99,7 +99,7 @@ pub(crate) fn lack_address(stores: &[Store], serial: u64) -> bool
 impl Pending {
     // What a load waits for in no store.
     fn nothing() -> Pending
-        ensures { result ≡ awaited [] [] }
+        ensures { result ≡ pending_among [] [] }
     {
         Pending {
             address: false,
@@ -143,7 +143,7 @@ impl Pending {
 // What a load with a serial waits for in these stores.
 #[tactic(auto, using(crate::proofs::Awaiting::one_more))]
 pub(crate) fn pending_in(stores: &[Store], serial: u64, request: &LoadRequest) -> Pending
-    ensures { result ≡ awaited (bytes_requested request.now) (older serial stores.now) }
+    ensures { result ≡ pending_among (bytes_requested request.now) (older serial stores.now) }
 {
     let mut pending = Pending::nothing();
     for store in stores {

@@ -5,7 +5,7 @@ use Rattle.machine_desc.specs.declared.SttModel.{SttModel}
 use Rattle.machine_desc.specs.declared.Defence.{Defence}
 use Rattle.machine_desc.specs.Version.{knows_model, knows_defence}
 use Rattle.machine_desc.proofs.EveryDesc.{each_is}
-use Rattle.machine_desc.specs.Ranges.{key_number, Meets, described, all_may_be}
+use Rattle.machine_desc.specs.Ranges.{key_number, Meets, desc_of_numbers, all_may_be}
 
 -- a description may have any model and any defence that its version knows
 pub meets_with : (d : Desc) (m : SttModel) (t : Defence) → IsTrue (knows_model d.version m) → IsTrue (knows_defence d.version t) → Meets d.version (key_number d) m t
@@ -22,4 +22,4 @@ meets_with d m t model defence = record {
 
 -- the description with this model and this defence, which its version knows
 abbrev pub with_stt : (d : Desc) (m : SttModel) (t : Defence) → IsTrue (knows_model d.version m) → IsTrue (knows_defence d.version t) → Desc
-with_stt d m t model defence = described d.version (key_number d) m t (all_may_be (meets_with d m t model defence))
+with_stt d m t model defence = desc_of_numbers d.version (key_number d) m t (all_may_be (meets_with d m t model defence))

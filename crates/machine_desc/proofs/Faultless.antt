@@ -6,7 +6,7 @@ use Rattle.machine_desc.specs.declared.keys.Key.TheVariants.{CacheHitLatency, Ca
 use Rattle.machine_desc.specs.declared.fault.DescFault.{DescFault}
 use Rattle.machine_desc.specs.Table.{keys}
 use Rattle.machine_desc.specs.Description.{first, top_fault, sections_fault, key_fault, keys_fault, latency_fault, end_fault, registers_fault, second_fault, document_fault, with_number, number}
-use Rattle.machine_desc.specs.inner.Description.{checked}
+use Rattle.machine_desc.specs.inner.Description.{ok_without_fault}
 use Rattle.machine_desc.specs.Version.{comes_between}
 use Rattle.machine_desc.specs.Clean.{IsClean}
 use Rattle.machine_desc.proofs.Places.{each_key}
@@ -80,10 +80,10 @@ is_clean v document h =
     }
 
 -- a test passes only where there is no fault
-pub none_from_checked : (x : Option DescFault) → checked x ≡ Ok tt → x ≡ None
+pub none_from_checked : (x : Option DescFault) → ok_without_fault x ≡ Ok tt → x ≡ None
 none_from_checked None h = refl
 none_from_checked (Some e) h = absurd (cc)
 
 -- a document is clean, where the test of it passes
-pub clean_from_checked : (v : ℕ) (document : Members) → checked (document_fault v document) ≡ Ok tt → IsClean v document
+pub clean_from_checked : (v : ℕ) (document : Members) → ok_without_fault (document_fault v document) ≡ Ok tt → IsClean v document
 clean_from_checked v document h = is_clean v document (none_from_checked _ h)

@@ -16,7 +16,7 @@ use Rattle.machine_desc.specs.Version.{newest, knows_model, knows_defence}
 use Rattle.machine_desc.specs.Table.{values_of}
 use Rattle.machine_desc.specs.Allowed.{HasShape, Fits, MayBe}
 use Rattle.machine_desc.proofs.EveryDesc.{each_is}
-use Rattle.machine_desc.specs.Ranges.{key_number, Meets, described, all_may_be}
+use Rattle.machine_desc.specs.Ranges.{key_number, Meets, desc_of_numbers, all_may_be}
 use Rattle.machine_desc.proofs.Versions.{in_each}
 use Rattle.machine_desc.proofs.Tested.{both}
 
@@ -95,4 +95,4 @@ meets_in_newest d = record {
 
 -- a description's numbers, model and defence in the newest version
 abbrev pub renewed : Desc → Desc
-renewed d = described newest (key_number d) d.stt_model d.stt_defence (all_may_be (meets_in_newest d))
+renewed d = desc_of_numbers newest (key_number d) d.stt_model d.stt_defence (all_may_be (meets_in_newest d))

@@ -10,7 +10,7 @@ use Rattle.machine_desc.specs.declared.Defence.TheVariants.{Stt}
 use Rattle.machine_desc.specs.declared.keys.Key.{Key}
 use Rattle.machine_desc.specs.declared.keys.Key.TheVariants.{CoreFetchWidth, SttModel as ModelKey, SttDefence as DefenceKey}
 use Rattle.machine_desc.specs.declared.fault.DescFault.{DescFault}
-use Rattle.machine_desc.specs.Ranges.{key_number, MayBeAll, described}
+use Rattle.machine_desc.specs.Ranges.{key_number, MayBeAll, desc_of_numbers}
 use Rattle.machine_desc.specs.inner.Allowed.{are_desc_prop}
 use Rattle.machine_desc.specs.Description.{Setting, OneNumber, OneModel, OneDefence, setting_of, Contents, contents, description_of, Describes}
 use Rattle.machine_desc.proofs.Places.{place, mapped_at_place}
@@ -51,7 +51,7 @@ same_desc d e h =
     let defence : d.stt_defence ≡ e.stt_defence = ap as_defence (same_setting d e h DefenceKey) in
     let stands : PathP (λ i. MayBeAll (version i) (λ key. same_number d e h key i) (model i) (defence i)) d.stands e.stands =
     is_prop→PathP (λ i. MayBeAll (version i) (λ key. same_number d e h key i) (model i) (defence i)) (λ i. are_desc_prop) d.stands e.stands in
-    λ i. described (version i) (λ key. same_number d e h key i) (model i) (defence i) (stands i)
+    λ i. desc_of_numbers (version i) (λ key. same_number d e h key i) (model i) (defence i) (stands i)
 
 same_ok : (c c' : Contents) (r : Result Contents DescFault) → r ≡ Ok c → r ≡ Ok c' → c ≡ c'
 same_ok c c' r h k = cc

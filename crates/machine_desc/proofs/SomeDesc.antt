@@ -14,7 +14,7 @@ use Rattle.machine_desc.specs.Table.{values_of}
 use Rattle.machine_desc.specs.Description.{OneModel, OneDefence, set_to, setting, setting_of, settings, document_fault, version, Contents, contents, contents_or, contents_by, text_contents, description_of}
 use Rattle.machine_desc.specs.inner.Description.{model, defence}
 use Rattle.machine_desc.specs.Version.{IsKnown}
-use Rattle.machine_desc.specs.Ranges.{Meets, described, all_may_be}
+use Rattle.machine_desc.specs.Ranges.{Meets, desc_of_numbers, all_may_be}
 use Rattle.machine_desc.specs.Clean.{IsClean, has_numbers}
 use Rattle.machine_desc.proofs.Passing.{number_at, Found, found, may_be}
 use Rattle.machine_desc.proofs.Faultless.{is_clean, latencies, ends, registers, second}
@@ -46,7 +46,7 @@ module _ (v : ℕ) (known : IsKnown v) (document : Members) (m : SttModel) (t : 
   }
 
   made : Desc
-  made = described v (number_at v document) m t (all_may_be meets)
+  made = desc_of_numbers v (number_at v document) m t (all_may_be meets)
 
   -- the description has at each key what the document sets the key to
   each_made : (key : Key) → setting v document key ≡ Ok (setting_of made key)

@@ -12,7 +12,7 @@ use Rattle.machine_desc.specs.declared.keys.Values.{Values}
 use Rattle.machine_desc.specs.declared.keys.Values.TheVariants.{Numbers, Optional, Models, Defences}
 use Rattle.machine_desc.specs.Version.{newest, knows_model, knows_defence, comes_between}
 use Rattle.machine_desc.specs.Table.{keys, values_of}
-use Rattle.machine_desc.specs.Ranges.{Meets, described, all_may_be}
+use Rattle.machine_desc.specs.Ranges.{Meets, desc_of_numbers, all_may_be}
 use Rattle.machine_desc.specs.Description.{has_shape}
 use Rattle.machine_desc.specs.Clean.{PassesAs}
 use Rattle.machine_desc.proofs.Fitting.{fits_from_test}
@@ -87,4 +87,4 @@ meets v n m t h =
 
 -- the description of numbers that pass all tests
 abbrev pub tested : (v : ℕ) (n : Key → ℕ) (m : SttModel) (t : Defence) → IsTrue (all_pass v n m t) → Desc
-tested v n m t h = described v n m t (all_may_be (meets v n m t h))
+tested v n m t h = desc_of_numbers v n m t (all_may_be (meets v n m t h))

@@ -7,7 +7,7 @@ use Rattle.machine_desc.specs.declared.keys.Key.{Key}
 use Rattle.machine_desc.specs.declared.keys.Key.TheVariants.{CoreFetchWidth, CoreRetireWidth, CoreRob, CoreStations, CoreLoads, CoreStores, CoreQueue, UnitsAlus, UnitsMulLatency, PredictorCounters, PredictorBtb, CacheSets, CacheWays, CacheLine, CacheHitLatency, CacheMissLatency, CacheMshrs, RamBase, RamSize, PredictorDepend, CacheSecondSets, SttModel as ModelKey, SttDefence as DefenceKey}
 use Rattle.machine_desc.specs.Table.{row}
 use Rattle.machine_desc.specs.Allowed.{MayBe}
-use Rattle.machine_desc.specs.Ranges.{described, all_may_be}
+use Rattle.machine_desc.specs.Ranges.{desc_of_numbers, all_may_be}
 use Rattle.machine_desc.specs.Clean.{least_of}
 
 -- the numbers of the example; those of the keys that it leaves out are their least
@@ -49,7 +49,7 @@ each_is_asked _ = (lit≤ tt, lit≤ tt, tt)
 
 -- the description of the example
 abbrev pub example : Desc
-example = described 1 example_number Spectre Stt (all_may_be (record {
+example = desc_of_numbers 1 example_number Spectre Stt (all_may_be (record {
   version = (lit≤ tt, lit≤ tt);
   each = each_is_asked;
   latencies = lit< tt;

@@ -59,8 +59,8 @@ MayBeAll v n m t = AreDesc
     (n CachePrefetch) (n RamBase) (n RamSize) (n RamMisaligned) m t
 
 -- the description of these numbers
-abbrev pub described : (v : ℕ) (n : Key → ℕ) (m : SttModel) (t : Defence) → MayBeAll v n m t → Desc
-described v n m t stands = record {
+abbrev pub desc_of_numbers : (v : ℕ) (n : Key → ℕ) (m : SttModel) (t : Defence) → MayBeAll v n m t → Desc
+desc_of_numbers v n m t stands = record {
   version = v;
   core_fetch_width = n CoreFetchWidth;
   core_retire_width = n CoreRetireWidth;

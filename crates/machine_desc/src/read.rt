@@ -9,7 +9,7 @@ ghost use Rattle.machine_desc.specs.Clean.{IsClean, has_numbers};
 ghost use Rattle.machine_desc.specs.Allowed.{MayBe};
 ghost use Rattle.machine_desc.specs.Version.{IsKnown, comes_between};
 ghost use Rattle.machine_desc.specs.Description.{first, version, top_fault, name_fault, section_fault, sections_fault, key_fault, keys_fault, number, latency_fault, end_fault, registers_fault, second_fault, document_contents, document_fault, OneNumber, setting, setting_of, contents, description_of, Describes};
-ghost use Rattle.machine_desc.specs.inner.Description.{checked, model, defence};
+ghost use Rattle.machine_desc.specs.inner.Description.{ok_without_fault, model, defence};
 
 use crate::document::{
     defence_in, member_of, model_in, number_in, number_or_least, unknown_key, unknown_section,
@@ -30,7 +30,7 @@ fn version(document: &Table) -> Result<u32, DescFault>
 // Refuses a name at the top that is neither the version's nor a table's.
 #[tactic(auto, unfolding(crate::specs::Description::top_fault))]
 fn check_top(document: &Table) -> Result<(), DescFault>
-    ensures { result ≡ checked (top_fault (table_view document.now)) }
+    ensures { result ≡ ok_without_fault (top_fault (table_view document.now)) }
 {
     match unknown_section(document, &SECTIONS) {
         None => Ok(()),
@@ -40,7 +40,7 @@ fn check_top(document: &Table) -> Result<(), DescFault>
 
 // Refuses a name of a table that is no key of this version.
 fn check_names(version: u32, table: &Table, section: Section) -> Result<(), DescFault>
-    ensures { result ≡ checked (name_fault version section (table_view table.now)) }
+    ensures { result ≡ ok_without_fault (name_fault version section (table_view table.now)) }
 {
     match unknown_key(version, table, &KEYS, section) {
         None => Ok(()),
@@ -50,7 +50,7 @@ fn check_names(version: u32, table: &Table, section: Section) -> Result<(), Desc
 
 // What stands at a table's name is a table with no unknown name.
 fn check_section(version: u32, document: &Table, section: Section) -> Result<(), DescFault>
-    ensures { result ≡ checked (section_fault version (table_view document.now) section) }
+    ensures { result ≡ ok_without_fault (section_fault version (table_view document.now) section) }
 {
     match member_of(document, section.name()) {
         None => Ok(()),
@@ -62,7 +62,7 @@ fn check_section(version: u32, document: &Table, section: Section) -> Result<(),
 }
 
 fn check_each_section(version: u32, document: &Table, sections: &[Section]) -> Result<(), DescFault>
-    ensures { result ≡ checked (first (map (section_fault version (table_view document.now)) sections.now)) }
+    ensures { result ≡ ok_without_fault (first (map (section_fault version (table_view document.now)) sections.now)) }
 {
     for section in sections {
         check_section(version, document, *section)?;
@@ -73,7 +73,7 @@ fn check_each_section(version: u32, document: &Table, sections: &[Section]) -> R
 // Refuses the first fault of the tables, in their order.
 #[tactic(auto, unfolding(crate::specs::Description::sections_fault))]
 fn check_sections(version: u32, document: &Table) -> Result<(), DescFault>
-    ensures { result ≡ checked (sections_fault version (table_view document.now)) }
+    ensures { result ≡ ok_without_fault (sections_fault version (table_view document.now)) }
 {
     check_each_section(version, document, &SECTIONS)
 }
@@ -81,7 +81,7 @@ fn check_sections(version: u32, document: &Table) -> Result<(), DescFault>
 // A key's value is there, and one that it may have.
 #[tactic(auto, unfolding(crate::specs::Description::key_fault))]
 fn check_key(version: u32, document: &Table, key: Key) -> Result<(), DescFault>
-    ensures { result ≡ checked (key_fault version (table_view document.now) key) }
+    ensures { result ≡ ok_without_fault (key_fault version (table_view document.now) key) }
 {
     let value = value_at(document, key);
     match key.values(version) {
@@ -102,7 +102,7 @@ fn check_key(version: u32, document: &Table, key: Key) -> Result<(), DescFault>
 }
 
 fn check_each_key(version: u32, document: &Table, keys: &[Key]) -> Result<(), DescFault>
-    ensures { result ≡ checked (first (map (key_fault version (table_view document.now)) keys.now)) }
+    ensures { result ≡ ok_without_fault (first (map (key_fault version (table_view document.now)) keys.now)) }
 {
     for key in keys {
         check_key(version, document, *key)?;
@@ -113,7 +113,7 @@ fn check_each_key(version: u32, document: &Table, keys: &[Key]) -> Result<(), De
 // Refuses the first fault of the keys' values, in the order of the keys.
 #[tactic(auto, unfolding(crate::specs::Description::keys_fault))]
 fn check_keys(version: u32, document: &Table) -> Result<(), DescFault>
-    ensures { result ≡ checked (keys_fault version (table_view document.now)) }
+    ensures { result ≡ ok_without_fault (keys_fault version (table_view document.now)) }
 {
     check_each_key(version, document, &KEYS)
 }
@@ -133,7 +133,7 @@ fn number(version: u32, document: &Table, key: Key) -> Result<u32, DescFault>
 // A miss takes longer than a hit.
 #[tactic(auto, unfolding(crate::specs::Description::latency_fault))]
 fn check_latencies(version: u32, document: &Table) -> Result<(), DescFault>
-    ensures { result ≡ checked (latency_fault version (table_view document.now)) }
+    ensures { result ≡ ok_without_fault (latency_fault version (table_view document.now)) }
 {
     let hit = number(version, document, Key::CacheHitLatency)?;
     let miss = number(version, document, Key::CacheMissLatency)?;
@@ -147,7 +147,7 @@ fn check_latencies(version: u32, document: &Table) -> Result<(), DescFault>
 // RAM ends at or below 2^32.
 #[tactic(auto, unfolding(crate::specs::Description::end_fault))]
 fn check_end(version: u32, document: &Table) -> Result<(), DescFault>
-    ensures { result ≡ checked (end_fault version (table_view document.now)) }
+    ensures { result ≡ ok_without_fault (end_fault version (table_view document.now)) }
 {
     let base = number(version, document, Key::RamBase)?;
     let size = number(version, document, Key::RamSize)?;
@@ -161,7 +161,7 @@ fn check_end(version: u32, document: &Table) -> Result<(), DescFault>
 // Where an access may lie in two lines there are two miss registers.
 #[tactic(auto, unfolding(crate::specs::Description::registers_fault))]
 fn check_registers(version: u32, document: &Table) -> Result<(), DescFault>
-    ensures { result ≡ checked (registers_fault version (table_view document.now)) }
+    ensures { result ≡ ok_without_fault (registers_fault version (table_view document.now)) }
 {
     let misaligned = number(version, document, Key::RamMisaligned)?;
     let mshrs = number(version, document, Key::CacheMshrs)?;
@@ -182,7 +182,7 @@ fn comes_between(second_sets: u32, hit: u32, second: u32, miss: u32) -> bool
 // A line of the second level comes between a hit and a miss.
 #[tactic(auto, unfolding(crate::specs::Description::second_fault))]
 fn check_second(version: u32, document: &Table) -> Result<(), DescFault>
-    ensures { result ≡ checked (second_fault version (table_view document.now)) }
+    ensures { result ≡ ok_without_fault (second_fault version (table_view document.now)) }
 {
     let second_sets = number(version, document, Key::CacheSecondSets)?;
     let hit = number(version, document, Key::CacheHitLatency)?;
@@ -198,7 +198,7 @@ fn check_second(version: u32, document: &Table) -> Result<(), DescFault>
 // The first fault of a document of this version.
 #[tactic(auto, unfolding(crate::specs::Description::document_fault))]
 fn check_document(version: u32, document: &Table) -> Result<(), DescFault>
-    ensures { result ≡ checked (document_fault version (table_view document.now)) }
+    ensures { result ≡ ok_without_fault (document_fault version (table_view document.now)) }
 {
     check_top(document)?;
     check_sections(version, document)?;

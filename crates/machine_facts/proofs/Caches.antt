@@ -6,9 +6,9 @@ use Rattle.std.proofs.lemmas.List.{length-set, length-take}
 use Rattle.machine_desc.specs.declared.Desc.{Desc}
 use Rattle.window_model.specs.State.{set_of}
 use Rattle.window_model.specs.Fill.{with_line}
-use Rattle.window_model.specs.Retire.{touched}
+use Rattle.window_model.specs.Retire.{with_line_touched}
 use Rattle.window_model.specs.SecondLevel.{second_set_of, second_touched, second_with_line}
-use Rattle.window_model.specs.Sets.{entered, is_in, moved_up}
+use Rattle.window_model.specs.Sets.{with_front_line, is_in, moved_up}
 use Rattle.window_model.proofs.Lists.{each_set, each_at, filter_shortens}
 use Rattle.machine_facts.proofs.Parts.{CacheFits, LevelFits, SecondFits}
 
@@ -26,7 +26,7 @@ shrinks p (x ∷ xs) h = shrinks_if (p x) (list_any p xs) x _ xs h (filter_short
 -- ---- a line that enters or moves, and several
 
 module _ (count most : ℕ) where
-  entered_fits : (level : List (List ℕ)) (s line : ℕ) → LevelFits count most level → LevelFits count most (entered most level s line)
+  entered_fits : (level : List (List ℕ)) (s line : ℕ) → LevelFits count most level → LevelFits count most (with_front_line most level s line)
   entered_fits level s line h =
       let v = take most (line ∷ get_or level s []) in
       let n = length-take most (line ∷ get_or level s []) in
@@ -56,8 +56,8 @@ module _ (d : Desc) where
   pub filled_fits : (lines : List ℕ) (cache : List (List ℕ)) → CacheFits d cache → CacheFits d (fold (with_line d) cache lines)
   filled_fits = several d.cache_sets d.cache_ways (with_line d) (λ cache line. entered_fits d.cache_sets d.cache_ways cache (set_of d line) line)
 
-  pub lines_fit : (lines : List ℕ) (cache : List (List ℕ)) → CacheFits d cache → CacheFits d (fold (touched d) cache lines)
-  lines_fit = several d.cache_sets d.cache_ways (touched d) (λ cache line. moved_fits d.cache_sets d.cache_ways cache (set_of d line) line)
+  pub lines_fit : (lines : List ℕ) (cache : List (List ℕ)) → CacheFits d cache → CacheFits d (fold (with_line_touched d) cache lines)
+  lines_fit = several d.cache_sets d.cache_ways (with_line_touched d) (λ cache line. moved_fits d.cache_sets d.cache_ways cache (set_of d line) line)
 
   pub second_filled_fits : (lines : List ℕ) (second : List (List ℕ)) → SecondFits d second → SecondFits d (fold (second_with_line d) second lines)
   second_filled_fits = several d.cache_second_sets d.cache_second_ways (second_with_line d) (λ second line. entered_fits d.cache_second_sets d.cache_second_ways second (second_set_of d line) line)

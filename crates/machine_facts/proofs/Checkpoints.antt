@@ -17,14 +17,14 @@ use Rattle.window_model.specs.declared.Checkpoint.{Checkpoint}
 use Rattle.window_model.specs.Around.{around}
 use Rattle.window_model.specs.State.{Machine, opening}
 use Rattle.window_model.specs.Order.{Place, each_from, first}
-use Rattle.window_model.specs.Fill.{complete, completed}
+use Rattle.window_model.specs.Fill.{complete, after_completion}
 use Rattle.window_model.specs.Resolve.{resolve}
 use Rattle.window_model.specs.Retire.{retire}
 use Rattle.window_model.specs.Ports.{LoadPort, may_at}
 use Rattle.window_model.specs.Issue.{Begun, issue, issue_entry}
-use Rattle.window_model.specs.Rename.{rename, renamed}
+use Rattle.window_model.specs.Rename.{rename, entry_of_item}
 use Rattle.window_model.specs.Fetch.{fetch, item_at}
-use Rattle.window_model.specs.History.{jumped, links, checkpoint_after, popped, pushed, returns, shifted, stack}
+use Rattle.window_model.specs.History.{after_jump, links, checkpoint_after, after_pop, after_push, returns, after_direction, stack}
 use Rattle.window_model.specs.Cycle.{at, cycle}
 use Rattle.window_model.proofs.Counts.{Evolves, map_evolves, completed_goes}
 use Rattle.window_model.proofs.Issuing.{by_after_load, issue_evolves}
@@ -39,22 +39,22 @@ use Rattle.machine_facts.specs.Checkpoints.{FitsCheckpoint, FitCheckpoints}
 -- ---- what an instruction makes of history and stack
 
 module _ (d : Desc) where
-  shifted_fits : (way : Bool) (m : Checkpoint) → FitsCheckpoint d m → FitsCheckpoint d (shifted d way m)
+  shifted_fits : (way : Bool) (m : Checkpoint) → FitsCheckpoint d m → FitsCheckpoint d (after_direction d way m)
   shifted_fits way m h = record { history = omega arith; stack = h.stack }
 
-  pushed_fits : (a : ℕ) (m : Checkpoint) → FitsCheckpoint d m → FitsCheckpoint d (pushed d a m)
+  pushed_fits : (a : ℕ) (m : Checkpoint) → FitsCheckpoint d m → FitsCheckpoint d (after_push d a m)
   pushed_fits a m h = let n = length-take d.predictor_returns (a ∷ stack m) in record { history = h.history; stack = omega (arith, n) }
 
-  popped_fits : (m : Checkpoint) → FitsCheckpoint d m → FitsCheckpoint d (popped m)
+  popped_fits : (m : Checkpoint) → FitsCheckpoint d m → FitsCheckpoint d (after_pop m)
   popped_fits m h =
       let n = length-take m.depth m.addresses in
       let k = length-drop 1 (stack m) in
       record { history = h.history; stack = omega (arith, n, k, h.stack) }
 
-  jumped_fits : (pc : ℕ) (i : Instr) (m : Checkpoint) → FitsCheckpoint d m → FitsCheckpoint d (jumped d pc i m)
+  jumped_fits : (pc : ℕ) (i : Instr) (m : Checkpoint) → FitsCheckpoint d m → FitsCheckpoint d (after_jump d pc i m)
   jumped_fits pc i m h = by (links i) (returns i)
     where
-      by : (b c : Bool) → FitsCheckpoint d (if b then pushed d (word_add pc 4) m else if c then popped m else m)
+      by : (b c : Bool) → FitsCheckpoint d (if b then after_push d (word_add pc 4) m else if c then after_pop m else m)
       by true c = pushed_fits (word_add pc 4) m h
       by false true = popped_fits m h
       by false false = h
@@ -84,7 +84,7 @@ module _ (d : Desc) where
   checkpoints_opening entry ram = record { next = record { history = pow_pos d.predictor_history; stack = omega arith }; entries = tt; items = tt }
 
   checkpoints_complete : (x : Machine) → FitCheckpoints d x → FitCheckpoints d (complete x).machine
-  checkpoints_complete x h = record { next = h.next; entries = evolves_fits x.window _ (map_evolves (completed x.cycle) (completed_goes x.cycle) x.window) h.entries; items = h.items }
+  checkpoints_complete x h = record { next = h.next; entries = evolves_fits x.window _ (map_evolves (after_completion x.cycle) (completed_goes x.cycle) x.window) h.entries; items = h.items }
 
   -- entries fit whose older ones stay, whose younger ones stay or go, and of which one is resolved
   entries_at : (x : Machine) (p : Place) → Taken d x p → FitCheckpoints d x → (zs : List Entry) → (Each EntryFits p.younger → Each EntryFits zs) → Each EntryFits (reverse p.before ++ resolved_one p.entry ∷ zs)
@@ -122,7 +122,7 @@ module _ (d : Desc) where
   checkpoints_rename =
       rename_keep d (FitCheckpoints d) (λ x i rest q f h.
       let items = subst (Each ItemFits) q h.items in
-      record { next = h.next; entries = each_push EntryFits x.window (renamed d x.next_serial i) h.entries items.0; items = items.1 })
+      record { next = h.next; entries = each_push EntryFits x.window (entry_of_item d x.next_serial i) h.entries items.0; items = items.1 })
 
   checkpoints_fetch : (code : Code) (x : Machine) → FitCheckpoints d x → FitCheckpoints d (fetch d code x).machine
   checkpoints_fetch code =

@@ -17,16 +17,16 @@ use Rattle.window_model.specs.declared.Progress.{Progress}
 use Rattle.window_model.specs.declared.Progress.TheVariants.{Waiting, Busy, Done}
 use Rattle.window_model.specs.State.{Machine, line_of, upper_line}
 use Rattle.window_model.specs.Order.{Place, each_from, is_store}
-use Rattle.window_model.specs.Fill.{is_due, completed, completes, completes_at}
+use Rattle.window_model.specs.Fill.{is_due, after_completion, completes, completes_at}
 use Rattle.window_model.specs.Around.{Around}
 use Rattle.window_model.specs.declared.lookup.Request.{Request}
 use Rattle.window_model.specs.declared.lookup.Access.{Access}
 use Rattle.window_model.specs.declared.lookup.Access.TheVariants.{Faults, Forwards, Looks, Waits}
-use Rattle.window_model.specs.Access.{all_requests, due_by, due_of, latency_of, look_up, looked_up, misses_after, prefetched, register, request}
+use Rattle.window_model.specs.Access.{all_requests, due_by, due_of, latency_of, look_up, looked_up, misses_after, prefetch_request, register, request}
 use Rattle.window_model.specs.SecondLevel.{second_has}
 use Rattle.window_model.specs.MayIssue.{effect_of}
 use Rattle.window_model.specs.Issue.{Begun, issue_entry, begin_as, busy_until_both, load_as, with_address, access_of, time_of, divider_after}
-use Rattle.window_model.specs.Rename.{renamed, at_once}
+use Rattle.window_model.specs.Rename.{entry_of_item, at_once}
 use Rattle.window_model.proofs.Lists.{each_then, each_map, each_join, each_filter, OfSome, find_each}
 use Rattle.window_model.proofs.Issuing.{Comes, Remains, Begins, by_issue, begin_comes, begin_goes, gone_parts, by_line, by_load}
 use Rattle.machine_facts.proofs.Requests.{AllFresh, all_fresh}
@@ -67,7 +67,7 @@ left_due d past cycle longest (Busy due) h q s = (not_this past cycle due h q s.
 left_due d past cycle longest Waiting h q s = tt
 left_due d past cycle longest Done h q s = tt
 
-completed_due : (d : Desc) (past cycle : ℕ) → cycle ≡ past + 1 → (e : Entry) → IsDue d past cycle e → IsDue d cycle cycle (completed cycle e)
+completed_due : (d : Desc) (past cycle : ℕ) → cycle ≡ past + 1 → (e : Entry) → IsDue d past cycle e → IsDue d cycle cycle (after_completion cycle e)
 completed_due d past cycle q e h = by_due (completes cycle e) refl
   where
     by_due : (b : Bool) → completes cycle e ≡ b → IsDue d cycle cycle (if b then record e { state = Done } else e)
@@ -75,8 +75,8 @@ completed_due d past cycle q e h = by_due (completes cycle e) refl
     by_due false k = left_due d past cycle (latency e.item.kind d) e.state k q h
 
 -- the entries that are busy once those due in this cycle are Done become Done in a later one
-pub dues_left : (d : Desc) (past cycle : ℕ) (w : List Entry) → cycle ≡ past + 1 → Each (IsDue d past cycle) w → Each (IsDue d cycle cycle) (map (completed cycle) w)
-dues_left d past cycle w q h = each_map (IsDue d cycle cycle) (completed cycle) w (each_then (IsDue d past cycle) (λ e. IsDue d cycle cycle (completed cycle e)) (completed_due d past cycle q) w h)
+pub dues_left : (d : Desc) (past cycle : ℕ) (w : List Entry) → cycle ≡ past + 1 → Each (IsDue d past cycle) w → Each (IsDue d cycle cycle) (map (after_completion cycle) w)
+dues_left d past cycle w q h = each_map (IsDue d cycle cycle) (after_completion cycle) w (each_then (IsDue d past cycle) (λ e. IsDue d cycle cycle (after_completion cycle e)) (completed_due d past cycle q) w h)
 
 -- ---- entries that begin end soon
 
@@ -195,7 +195,7 @@ part_later cycle (Some due) h = omega (arith, h)
 pub parts_later : (cycle : ℕ) (w : List Entry) → Each (PartsDue cycle) w → Each (PartsDue (cycle + 1)) w
 parts_later cycle = each_then (PartsDue cycle) (PartsDue (cycle + 1)) (λ e h. (part_later cycle e.addr_due h.0, part_later cycle e.data_due h.1))
 
-completed_parts : (past cycle : ℕ) (e : Entry) → PartsDue past e → PartsDue past (completed cycle e)
+completed_parts : (past cycle : ℕ) (e : Entry) → PartsDue past e → PartsDue past (after_completion cycle e)
 completed_parts past cycle e h = by_due (completes cycle e)
   where
     by_due : (b : Bool) → PartsDue past (if b then record e { state = Done } else e)
@@ -203,8 +203,8 @@ completed_parts past cycle e h = by_due (completes cycle e)
     by_due false = h
 
 -- an entry that becomes Done keeps when its parts are known
-pub parts_left : (past cycle : ℕ) (w : List Entry) → Each (PartsDue past) w → Each (PartsDue past) (map (completed cycle) w)
-parts_left past cycle w h = each_map (PartsDue past) (completed cycle) w (each_then (PartsDue past) (λ e. PartsDue past (completed cycle e)) (completed_parts past cycle) w h)
+pub parts_left : (past cycle : ℕ) (w : List Entry) → Each (PartsDue past) w → Each (PartsDue past) (map (after_completion cycle) w)
+parts_left past cycle w h = each_map (PartsDue past) (after_completion cycle) w (each_then (PartsDue past) (λ e. PartsDue past (after_completion cycle e)) (completed_parts past cycle) w h)
 
 -- what begins has the parts that it had
 begun_parts : (n : ℕ) (e r : Entry) → Comes e r → PartsDue n e → PartsDue n r
@@ -225,7 +225,7 @@ parts_issued d now b (e ∷ es) h =
 
 -- ---- what starts cleared is cleared
 
-completed_cleared : (d : Desc) (cycle : ℕ) (e : Entry) → StaysCleared d e → StaysCleared d (completed cycle e)
+completed_cleared : (d : Desc) (cycle : ℕ) (e : Entry) → StaysCleared d e → StaysCleared d (after_completion cycle e)
 completed_cleared d cycle e h = by_due (completes cycle e)
   where
     by_due : (b : Bool) → StaysCleared d (if b then record e { state = Done } else e)
@@ -233,8 +233,8 @@ completed_cleared d cycle e h = by_due (completes cycle e)
     by_due false = h
 
 -- an entry that becomes Done stays cleared where it needs no clearing
-pub cleared_left : (d : Desc) (cycle : ℕ) (w : List Entry) → Each (StaysCleared d) w → Each (StaysCleared d) (map (completed cycle) w)
-cleared_left d cycle w h = each_map (StaysCleared d) (completed cycle) w (each_then (StaysCleared d) (λ e. StaysCleared d (completed cycle e)) (completed_cleared d cycle) w h)
+pub cleared_left : (d : Desc) (cycle : ℕ) (w : List Entry) → Each (StaysCleared d) w → Each (StaysCleared d) (map (after_completion cycle) w)
+cleared_left d cycle w h = each_map (StaysCleared d) (after_completion cycle) w (each_then (StaysCleared d) (λ e. StaysCleared d (after_completion cycle e)) (completed_cleared d cycle) w h)
 
 -- what issues is cleared where it was
 begun_cleared : (d : Desc) (e r : Entry) → Comes e r → StaysCleared d e → StaysCleared d r
@@ -261,7 +261,7 @@ divider_soon x (Some p) h = let n = time_in x.regs p.before p.entry in omega (ar
 -- ---- new entries end soon
 
 -- a renamed entry isn't busy
-pub due_new : (d : Desc) (past cycle serial : ℕ) (i : Item) → IsDue d past cycle (renamed d serial i)
+pub due_new : (d : Desc) (past cycle serial : ℕ) (i : Item) → IsDue d past cycle (entry_of_item d serial i)
 due_new d past cycle serial i = by_kind (at_once i.kind)
   where
     by_kind : (b : Bool) → DueSoon past cycle (latency i.kind d) (if b then Done else Waiting)
@@ -329,7 +329,7 @@ taken_soon d now i sets h =
     by_load d now (λ a. MissesSoon d now.cycle (misses_after a d now.cycle now.misses)) h
     (λ a n some room.
     let found = looked_up d now a n in
-    let rs = all_requests found (prefetched d now found) in
+    let rs = all_requests found (prefetch_request d now found) in
     let fresh = all_fresh d now a n some in
     record {
       misses = each_join (IsPending d now.cycle now.cycle) now.misses (taken d now rs) h.misses (taken_pending d now i sets 0 rs fresh);

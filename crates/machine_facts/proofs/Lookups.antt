@@ -12,14 +12,14 @@ use Rattle.window_model.specs.Around.{Around}
 use Rattle.window_model.specs.SecondLevel.{second_has, second_set_of, second_touched}
 use Rattle.window_model.specs.Sets.{is_in, moved_up}
 use Rattle.window_model.specs.State.{line_of, set_of, upper_line}
-use Rattle.window_model.specs.Retire.{has_line, touched}
+use Rattle.window_model.specs.Retire.{has_line, with_line_touched}
 use Rattle.window_model.specs.declared.lookup.Line.{Line}
 use Rattle.window_model.specs.declared.lookup.Line.TheVariants.{Hits, Joins, Takes}
 use Rattle.window_model.specs.declared.lookup.Lines.{Lines}
 use Rattle.window_model.specs.declared.lookup.Request.{Request}
 use Rattle.window_model.specs.declared.lookup.Access.{Access}
 use Rattle.window_model.specs.declared.lookup.Access.TheVariants.{Looks, Waits}
-use Rattle.window_model.specs.Access.{in_order, joined, look_up, line_at, line_behind, prefetched, register, request_by, requests, unless_lacking}
+use Rattle.window_model.specs.Access.{in_order, line_on_miss, look_up, line_at, line_behind, prefetch_request, register, request_by, requests, unless_lacking}
 use Rattle.window_model.proofs.Issuing.{OneOrTwo, One, Two, lines_are}
 use Rattle.machine_facts.specs.InTurn.{left_above, left_by, InTurn, in_turn, ahead_of, access_in_turn, OthersStay, AccessesGoInTurn, AccessesLeaveInTurn}
 use Rattle.machine_facts.proofs.Requests.{line_found}
@@ -95,7 +95,7 @@ not_found d cycle (Takes r) other h = by_test (r.line == other) refl
 -- ---- another line is looked up as before
 
 look_if : (d : Desc) (now left : Around) (other : ℕ) (b c : Bool) (o p : Option Miss) → c ≡ b → p ≡ o → second_has d left.second other ≡ second_has d now.second other
-    → (if c then Hits other else joined d left other p) ≡ (if b then Hits other else joined d now other o)
+    → (if c then Hits other else line_on_miss d left other p) ≡ (if b then Hits other else line_on_miss d now other o)
 look_if d now left other true c o p q e s = rw q refl
 look_if d now left other false c (Some m) p q e s = rw (q, e) refl
 look_if d now left other false c None p q e s = rw (q, e, s) refl
@@ -159,7 +159,7 @@ module _ (d : Desc) (now : Around) (low : ℕ) where
   same_ram None = refl
   same_ram (Some high) = refl
 
-  left_cache : (up : Option ℕ) → fold (touched d) now.cache (map line_at (in_order (in_turn d now low up).found)) ≡ (in_turn d now low up).left.cache
+  left_cache : (up : Option ℕ) → fold (with_line_touched d) now.cache (map line_at (in_order (in_turn d now low up).found)) ≡ (in_turn d now low up).left.cache
   left_cache None = refl
   left_cache (Some high) = refl
 
@@ -223,7 +223,7 @@ module _ (d : Desc) (now : Around) (low : ℕ) (up : Option ℕ) (are : OneOrTwo
       let new = length-map (requests t.found) (register d now.cycle) in
       ap (λ (ms : List Miss). length ms) (sym left) ∙ (both ∙ ap (λ (k : ℕ). length now.misses + k) (new ∙ ap (λ (ls : Lines). length (requests ls)) found_alike))
 
-  ahead_alike : prefetched d now found ≡ ahead_of d t
+  ahead_alike : prefetch_request d now found ≡ ahead_of d t
   ahead_alike =
       let built : Lines → ℕ → Ram → Line → Option Request = λ ls taken ram l.
       if has_prefetch d && nat_lt 0 (length (requests ls)) && nat_lt (line_behind d ls) (ram.base + length ram.bytes) && nat_lt taken d.cache_mshrs then request_by l else None in

@@ -23,7 +23,7 @@ use Rattle.window_model.specs.inner.Issue.{data_events}
 use Rattle.window_model.proofs.Together.{data_few, entry_parts, issue_parts}
 use Rattle.window_model.specs.declared.lookup.Line.{Line}
 use Rattle.window_model.specs.declared.lookup.Request.{Request}
-use Rattle.window_model.specs.Access.{in_order, line_at, look_at, look_events, looked_up, prefetched, source_of}
+use Rattle.window_model.specs.Access.{in_order, line_at, look_at, look_events, looked_up, prefetch_request, source_of}
 use Rattle.window_model.proofs.Issuing.{as_many, by_after_load, by_load, one_at_most}
 use Rattle.window_model.proofs.Telling.{lines_few}
 use Rattle.window_model.proofs.Booleans.{below}
@@ -54,10 +54,10 @@ told_at LoadPort = 3
 told_at _ = 1
 
 -- a load that looks up lines has at most three events: its lines, and the one that is prefetched
-looks_few : (d : Desc) (now : Around) (a n serial : ℕ) → let found = looked_up d now a n in length (look_events serial found (prefetched d now found)) ≤ 3
+looks_few : (d : Desc) (now : Around) (a n serial : ℕ) → let found = looked_up d now a n in length (look_events serial found (prefetch_request d now found)) ≤ 3
 looks_few d now a n serial =
     let found = looked_up d now a n in
-    let ahead = prefetched d now found in
+    let ahead = prefetch_request d now found in
     let told : Line → Event = λ l. event.Ld serial (line_at l) (look_at l) in
     let told_ahead : Request → Event = λ r. event.Pf r.line (source_of r) in
     let sum = length-append (map told (in_order found)) (map told_ahead (option_to_list ahead)) in

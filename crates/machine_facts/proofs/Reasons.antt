@@ -12,12 +12,12 @@ use Rattle.window_model.specs.declared.Item.{Item}
 use Rattle.window_model.specs.declared.Target.{Target}
 use Rattle.window_model.specs.declared.Progress.TheVariants.{Done}
 use Rattle.window_model.specs.Order.{each_from, is_done, is_faulty, fault_of}
-use Rattle.window_model.specs.Fill.{completed, completes}
+use Rattle.window_model.specs.Fill.{after_completion, completes}
 use Rattle.window_model.specs.Retire.{trap_of}
 use Rattle.window_model.specs.Around.{Around}
 use Rattle.window_model.specs.Issue.{Begun, issue_entry}
-use Rattle.window_model.specs.Rename.{is_stop, renamed}
-use Rattle.window_model.specs.Fetch.{predicted}
+use Rattle.window_model.specs.Rename.{is_stop, entry_of_item}
+use Rattle.window_model.specs.Fetch.{predicted_pc}
 use Rattle.window_model.specs.declared.Checkpoint.{Checkpoint}
 use Rattle.window_model.proofs.Issuing.{issue_goes}
 use Rattle.machine_facts.proofs.StoreParts.{issued_stays}
@@ -65,7 +65,7 @@ done_last false true f h = h
 done_last false false f h = absurd (cc)
 
 -- nothing is fetched behind an entry that becomes Done where nothing was before
-pub last_completed : (cycle : ℕ) (e : Entry) → is_last e ≡ true → is_last (completed cycle e) ≡ true
+pub last_completed : (cycle : ℕ) (e : Entry) → is_last e ≡ true → is_last (after_completion cycle e) ≡ true
 last_completed cycle e h = by_due (completes cycle e)
   where
     by_due : (b : Bool) → is_last (if b then record e { state = Done } else e) ≡ true
@@ -117,8 +117,8 @@ last_rest e rest q n t h =
 -- ---- what is renamed and fetched
 
 -- nothing is fetched behind a renamed entry exactly where it is a stop
-pub last_new : (d : Desc) (serial : ℕ) (i : Item) → is_last (renamed d serial i) ≡ is_stop i.kind
-last_new d serial i = by (is_stop i.kind) (is_done (renamed d serial i).state)
+pub last_new : (d : Desc) (serial : ℕ) (i : Item) → is_last (entry_of_item d serial i) ≡ is_stop i.kind
+last_new d serial i = by (is_stop i.kind) (is_done (entry_of_item d serial i).state)
   where
     by : (s t : Bool) → (s || t && false) ≡ s
     by true t = refl
@@ -126,6 +126,6 @@ last_new d serial i = by (is_stop i.kind) (is_done (renamed d serial i).state)
     by false false = refl
 
 -- only a stop predicts nothing
-pub stop_predicts : (k : Kind) (d : Desc) (t : List (Option Target)) (m : Checkpoint) (way : Bool) (pc : ℕ) (i : Instr) → predicted k d t m way pc i ≡ None → is_stop k ≡ true
+pub stop_predicts : (k : Kind) (d : Desc) (t : List (Option Target)) (m : Checkpoint) (way : Bool) (pc : ℕ) (i : Instr) → predicted_pc k d t m way pc i ≡ None → is_stop k ≡ true
 stop_predicts (Stop a) d t m way pc i h = refl
 stop_predicts _ d t m way pc i h = absurd (cc)

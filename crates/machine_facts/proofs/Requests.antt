@@ -9,7 +9,7 @@ use Rattle.window_model.specs.Around.{Around}
 use Rattle.window_model.specs.State.{line_of, upper_line}
 use Rattle.window_model.specs.declared.lookup.Lines.{Lines}
 use Rattle.window_model.specs.declared.lookup.Request.{Request}
-use Rattle.window_model.specs.Access.{all_requests, line_at, line_behind, look_up, looked_up, prefetched, request, request_by, requests}
+use Rattle.window_model.specs.Access.{all_requests, line_at, line_behind, look_up, looked_up, prefetch_request, request, request_by, requests}
 use Rattle.window_model.proofs.Issuing.{OneOrTwo, One, Two, by_line, by_prefetched, lines_are}
 
 -- the request is of the level that has its line, and no miss register waits for that line
@@ -62,14 +62,14 @@ module _ (d : Desc) (now : Around) where
     abbrev found : Lines
     found = looked_up d now a n
 
-    pub all_fresh : 0 < n → AllFresh d now 0 (all_requests found (prefetched d now found))
-    all_fresh some = lines_more (line_of d a) (upper_line d a n) (option_to_list (prefetched d now found)) (lines_are d a n some) ahead
+    pub all_fresh : 0 < n → AllFresh d now 0 (all_requests found (prefetch_request d now found))
+    all_fresh some = lines_more (line_of d a) (upper_line d a n) (option_to_list (prefetch_request d now found)) (lines_are d a n some) ahead
       where
-        ahead : AllFresh d now (line_behind d found) (option_to_list (prefetched d now found))
+        ahead : AllFresh d now (line_behind d found) (option_to_list (prefetch_request d now found))
         ahead = by_prefetched d now found (λ o. AllFresh d now (line_behind d found) (option_to_list o)) tt (λ m r f. (omega arith, record { own = refl; fresh = f }, tt))
 
     -- where there are registers for the load's lines, there is one for what is prefetched
-    pub room_ahead : length now.misses + length (requests found) ≤ d.cache_mshrs → length now.misses + length (all_requests found (prefetched d now found)) ≤ d.cache_mshrs
+    pub room_ahead : length now.misses + length (requests found) ≤ d.cache_mshrs → length now.misses + length (all_requests found (prefetch_request d now found)) ≤ d.cache_mshrs
     room_ahead room =
         by_prefetched d now found (λ ahead. length now.misses + length (all_requests found ahead) ≤ d.cache_mshrs) (let l = length-append (requests found) [] in omega (arith, l, room))
         (λ m r f. let l = length-append (requests found) (request d now (line_behind d found) ∷ []) in omega (arith, l, r))

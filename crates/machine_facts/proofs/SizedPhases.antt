@@ -19,14 +19,14 @@ use Rattle.window_model.specs.declared.Progress.TheVariants.{Waiting, Done}
 use Rattle.window_model.specs.declared.Target.{Target}
 use Rattle.window_model.specs.State.{Machine, opening}
 use Rattle.window_model.specs.Order.{Place, first, each_from, is_waiting, is_faulty, is_store}
-use Rattle.window_model.specs.Fill.{fill, complete, completed, completes, is_due, lines}
+use Rattle.window_model.specs.Fill.{fill, complete, after_completion, completes, is_due, lines}
 use Rattle.window_model.specs.Resolve.{resolve, Learnt, learn, learn_as, squash, keep}
 use Rattle.window_model.specs.Around.{Around, around}
 use Rattle.window_model.specs.declared.lookup.Request.{Request}
-use Rattle.window_model.specs.Access.{all_requests, cache_after, in_order, line_at, looked_up, misses_after, prefetched, register, second_after}
+use Rattle.window_model.specs.Access.{all_requests, cache_after, in_order, line_at, looked_up, misses_after, prefetch_request, register, second_after}
 use Rattle.window_model.specs.Ports.{LoadPort, may_at}
 use Rattle.window_model.specs.Issue.{Begun, issue, issue_entry, access_of, after_load}
-use Rattle.window_model.specs.Rename.{rename, rename_one, renamed, fits, at_once}
+use Rattle.window_model.specs.Rename.{rename, rename_one, entry_of_item, fits, at_once}
 use Rattle.window_model.specs.Fetch.{fetch, fetch_one, item_at, instr_at, kind_at}
 use Rattle.window_model.proofs.Booleans.{below, completes_waits}
 use Rattle.window_model.proofs.Lists.{each_then, each_map, each_join, each_left, each_right, each_push, each_replicate, filter_shortens}
@@ -83,7 +83,7 @@ sized_fill d x i s =
       registers = f.registers;
     })
 
-complete_entry : (d : Desc) (ram : Ram) (cycle : ℕ) (e : Entry) → IsEntry d ram e → IsEntry d ram (completed cycle e)
+complete_entry : (d : Desc) (ram : Ram) (cycle : ℕ) (e : Entry) → IsEntry d ram e → IsEntry d ram (after_completion cycle e)
 complete_entry d ram cycle e h = by_due (completes cycle e) refl
   where
     by_due : (b : Bool) → completes cycle e ≡ b → IsEntry d ram (if b then record e { state = Done } else e)
@@ -95,8 +95,8 @@ pub sized_complete : (d : Desc) (x : Machine) → IsDesc d → Sized d x → Siz
 sized_complete d x i s =
     let f = parts d x s in
     whole d (complete x).machine (record {
-      window = thinner d x.window _ (evolves_thins x.window _ (map_evolves (completed x.cycle) (completed_goes x.cycle) x.window)) f.window;
-      entries = each_map (IsEntry d x.ram) (completed x.cycle) x.window (each_then (IsEntry d x.ram) (λ e. IsEntry d x.ram (completed x.cycle e)) (complete_entry d x.ram x.cycle) x.window f.entries);
+      window = thinner d x.window _ (evolves_thins x.window _ (map_evolves (after_completion x.cycle) (completed_goes x.cycle) x.window)) f.window;
+      entries = each_map (IsEntry d x.ram) (after_completion x.cycle) x.window (each_then (IsEntry d x.ram) (λ e. IsEntry d x.ram (after_completion x.cycle e)) (complete_entry d x.ram x.cycle) x.window f.entries);
       queue = f.queue;
       predictor = f.predictor;
       cache = f.cache;
@@ -183,7 +183,7 @@ load_shares d now s =
     by_load d now (λ a. SharedFits d (cache_after a d now.cache) (second_after a d now.second) (misses_after a d now.cycle now.misses)) s
     (λ a n some room.
     let found = looked_up d now a n in
-    let asked = all_requests found (prefetched d now found) in
+    let asked = all_requests found (prefetch_request d now found) in
     let taken = map (register d now.cycle) asked in
     let more = length-append now.misses taken in
     let as_many = length-map asked (register d now.cycle) in
@@ -219,7 +219,7 @@ store_waits : (k : Kind) → is_store k ≡ true → false ≡ not (is_waiting (
 store_waits Store h = refl
 store_waits _ h = absurd (cc)
 
-renamed_entry : (d : Desc) (ram : Ram) (i : Item) (serial : ℕ) → HasKind i → IsEntry d ram (renamed d serial i)
+renamed_entry : (d : Desc) (ram : Ram) (i : Item) (serial : ℕ) → HasKind i → IsEntry d ram (entry_of_item d serial i)
 renamed_entry d ram i serial h = record { kind = h; memory = λ s a. tt; outcome = λ s a. absurd (cc); parts = store_waits i.kind; together = λ v s. refl }
 
 -- an item that fits is renamed
@@ -230,7 +230,7 @@ rename_item d x i rest q r s =
     let items = subst (Each HasKind) q f.queue.item_kinds in
     whole d (rename_one d i rest x).machine (record {
       window = renamed_fits d x.window i x.next_serial r f.window;
-      entries = each_push (IsEntry d x.ram) x.window (renamed d x.next_serial i) f.entries (renamed_entry d x.ram i x.next_serial items.0);
+      entries = each_push (IsEntry d x.ram) x.window (entry_of_item d x.next_serial i) f.entries (renamed_entry d x.ram i x.next_serial items.0);
       queue = record { queue = omega (arith, n, f.queue.queue); item_kinds = items.1 };
       predictor = f.predictor;
       cache = f.cache;

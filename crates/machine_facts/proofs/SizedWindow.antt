@@ -9,7 +9,7 @@ use Rattle.window_model.specs.declared.Entry.{Entry}
 use Rattle.window_model.specs.declared.Item.{Item}
 use Rattle.window_model.specs.declared.Progress.TheVariants.{Waiting, Done}
 use Rattle.window_model.specs.Order.{is_load, is_store, is_waiting}
-use Rattle.window_model.specs.Rename.{is_call, at_once, fits, fits_as, renamed}
+use Rattle.window_model.specs.Rename.{is_call, at_once, fits, fits_as, entry_of_item}
 use Rattle.window_model.proofs.Booleans.{both, not_true, below}
 use Rattle.window_model.proofs.Counts.{Thins, thins_length, thins_count, count_is, count_pushed, none_counted, of_item, of_waiting}
 use Rattle.machine_facts.specs.Sized.{awaits, loads, stores, calls}
@@ -56,9 +56,9 @@ station_room true r n m h k s = omega arith
 station_room false r n m h k s = let l = k h in omega arith
 
 -- where there is room for an item, the window fits the description with its entry
-pub renamed_fits : (d : Desc) (w : List Entry) (i : Item) (serial : ℕ) → fits d w i ≡ true → WindowFits d w → WindowFits d (w ++ renamed d serial i ∷ [])
+pub renamed_fits : (d : Desc) (w : List Entry) (i : Item) (serial : ℕ) → fits d w i ≡ true → WindowFits d w → WindowFits d (w ++ entry_of_item d serial i ∷ [])
 renamed_fits d w i serial f h =
-    let new = renamed d serial i in
+    let new = entry_of_item d serial i in
     let f1 = both (nat_lt (length w) d.core_rob && not (list_any calls w) && fits_as i.kind d w) _ f in
     let f2 = both (nat_lt (length w) d.core_rob && not (list_any calls w)) _ f1.0 in
     let f3 = both (nat_lt (length w) d.core_rob) _ f2.0 in

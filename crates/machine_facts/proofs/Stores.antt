@@ -11,7 +11,7 @@ use Rattle.window_model.specs.declared.Progress.{Progress}
 use Rattle.window_model.specs.declared.Progress.TheVariants.{Waiting, Busy, Done}
 use Rattle.window_model.specs.State.{Machine}
 use Rattle.window_model.specs.Order.{is_busy, is_store}
-use Rattle.window_model.specs.Fill.{completes, completes_at, completed}
+use Rattle.window_model.specs.Fill.{completes, completes_at, after_completion}
 use Rattle.window_model.specs.Resolve.{resolve}
 use Rattle.window_model.specs.Retire.{retire}
 use Rattle.window_model.proofs.Lists.{each_join, each_left, each_right, each_then, each_map}
@@ -38,13 +38,13 @@ completed_if : (b : Bool) (e : Entry) → let r = (if b then record e { state = 
 completed_if true e = (refl, refl)
 completed_if false e = (refl, refl)
 
-entry_settles : (d : Desc) (cycle : ℕ) (e : Entry) → IsDue d cycle cycle e → WaitsOrDone (completed (cycle + 1) e)
+entry_settles : (d : Desc) (cycle : ℕ) (e : Entry) → IsDue d cycle cycle e → WaitsOrDone (after_completion (cycle + 1) e)
 entry_settles d cycle e h s =
     let r = completed_if (completes (cycle + 1) e) e in
     ap is_busy r.0 ∙ by_state d cycle e.item.kind e.state h (sym (ap (λ i. is_store i.kind) r.1) ∙ s)
 
-completed_settles : (d : Desc) (cycle : ℕ) (w : List Entry) → Each (IsDue d cycle cycle) w → Each WaitsOrDone (map (completed (cycle + 1)) w)
-completed_settles d cycle w h = each_map WaitsOrDone (completed (cycle + 1)) w (each_then (IsDue d cycle cycle) (λ e. WaitsOrDone (completed (cycle + 1) e)) (entry_settles d cycle) w h)
+completed_settles : (d : Desc) (cycle : ℕ) (w : List Entry) → Each (IsDue d cycle cycle) w → Each WaitsOrDone (map (after_completion (cycle + 1)) w)
+completed_settles d cycle w h = each_map WaitsOrDone (after_completion (cycle + 1)) w (each_then (IsDue d cycle cycle) (λ e. WaitsOrDone (after_completion (cycle + 1) e)) (entry_settles d cycle) w h)
 
 -- ---- Resolve and Retire leave no store busy
 

@@ -13,13 +13,13 @@ use Rattle.window_model.specs.declared.Entry.{Entry}
 use Rattle.window_model.specs.declared.Item.{Item}
 use Rattle.window_model.specs.State.{Machine, opening}
 use Rattle.window_model.specs.Order.{Place, first, is_done, is_faulty, value_of}
-use Rattle.window_model.specs.Fill.{fill, complete, completed, is_due}
+use Rattle.window_model.specs.Fill.{fill, complete, after_completion, is_due}
 use Rattle.window_model.specs.Resolve.{resolve, squash, keep, is_from, next_of}
 use Rattle.window_model.specs.Retire.{retire, head_leaves, trap_of}
 use Rattle.window_model.specs.Around.{around}
 use Rattle.window_model.specs.Ports.{DivPort, LoadPort, may_at}
 use Rattle.window_model.specs.Issue.{issue, after_load}
-use Rattle.window_model.specs.Rename.{rename, rename_one, renamed, fits, is_stop}
+use Rattle.window_model.specs.Rename.{rename, rename_one, entry_of_item, fits, is_stop}
 use Rattle.window_model.specs.Fetch.{fetch, fetch_one, guess, item_at, instr_at, kind_at}
 use Rattle.window_model.proofs.Lists.{each_join, each_left, each_right, each_push}
 use Rattle.window_model.proofs.Placing.{Taken, resolve_keep, taught}
@@ -74,14 +74,14 @@ timely_fill past_misses past d x i q h = record {
 -- behind Complete all that is under way ends in a later cycle, if before it entries ended in this one at the earliest
 pub timely_complete : (past : ℕ) (d : Desc) (x : Machine) → IsDesc d → x.cycle ≡ past + 1 → TimelyFrom x.cycle past d x → Timely d (complete x).machine
 timely_complete past d x i q h = record {
-  serials = rises_on 0 x.next_serial x.window _ (map_evolves (completed x.cycle) (completed_goes x.cycle) x.window) h.serials;
+  serials = rises_on 0 x.next_serial x.window _ (map_evolves (after_completion x.cycle) (completed_goes x.cycle) x.window) h.serials;
   dues = dues_left d past x.cycle x.window q h.dues;
   parts = parts_left x.cycle x.cycle x.window h.parts;
   cleared = cleared_left d x.cycle x.window h.cleared;
   misses = h.misses;
   lines = h.lines;
   divider = h.divider;
-  fetches = λ n. items_more _ _ (last_map (completed x.cycle) (last_completed x.cycle) (is_some x.end) (is_some x.end) (λ h. h) x.window) x.queue (h.fetches n);
+  fetches = λ n. items_more _ _ (last_map (after_completion x.cycle) (last_completed x.cycle) (is_some x.end) (is_some x.end) (λ h. h) x.window) x.queue (h.fetches n);
   zero = h.zero;
 }
 
@@ -231,16 +231,16 @@ timely_issue d x i z k h =
 
 rename_item : (d : Desc) (x : Machine) (j : Item) (rest : List Item) → x.queue ≡ j ∷ rest → fits d x.window j ≡ true → Timely d x → Timely d (rename_one d j rest x).machine
 rename_item d x j rest q f h = record {
-  serials = rises_push 0 x.next_serial x.window (renamed d x.next_serial j) refl h.serials;
-  dues = each_push (IsDue d x.cycle x.cycle) x.window (renamed d x.next_serial j) h.dues (due_new d x.cycle x.cycle x.next_serial j);
-  parts = each_push (PartsDue x.cycle) x.window (renamed d x.next_serial j) h.parts (tt, tt);
-  cleared = each_push (StaysCleared d) x.window (renamed d x.next_serial j) h.cleared (λ s. ap not s);
+  serials = rises_push 0 x.next_serial x.window (entry_of_item d x.next_serial j) refl h.serials;
+  dues = each_push (IsDue d x.cycle x.cycle) x.window (entry_of_item d x.next_serial j) h.dues (due_new d x.cycle x.cycle x.next_serial j);
+  parts = each_push (PartsDue x.cycle) x.window (entry_of_item d x.next_serial j) h.parts (tt, tt);
+  cleared = each_push (StaysCleared d) x.window (entry_of_item d x.next_serial j) h.cleared (λ s. ap not s);
   misses = h.misses;
   lines = h.lines;
   divider = h.divider;
   fetches = λ n.
       let before : last_item_from (last_from (is_some x.end) x.window) (j ∷ rest) ≡ true = ap (last_item_from (last_from (is_some x.end) x.window)) (sym q) ∙ h.fetches n in
-      ap (λ b. last_item_from b rest) (last_push (is_some x.end) x.window (renamed d x.next_serial j) ∙ last_new d x.next_serial j) ∙ before;
+      ap (λ b. last_item_from b rest) (last_push (is_some x.end) x.window (entry_of_item d x.next_serial j) ∙ last_new d x.next_serial j) ∙ before;
   zero = h.zero;
 }
 

@@ -8,7 +8,7 @@ use Rattle.machine_desc.specs.Questions.{has_prefetch}
 use Rattle.window_model.specs.State.{line_of, upper_line}
 use Rattle.window_model.specs.Around.{Around}
 use Rattle.window_model.specs.SecondLevel.{second_touched}
-use Rattle.window_model.specs.Retire.{touched}
+use Rattle.window_model.specs.Retire.{with_line_touched}
 use Rattle.window_model.specs.declared.lookup.Line.{Line}
 use Rattle.window_model.specs.declared.lookup.Lines.{Lines}
 use Rattle.window_model.specs.declared.lookup.Request.{Request}
@@ -27,7 +27,7 @@ left_taking d asked now = record now {
 -- what a line that was looked up leaves: it moves to the front of its set, where the cache has it, and takes a miss
 -- register, where it is to take one
 abbrev pub left_by : Desc → Line → Around → Around
-left_by d l now = record (left_taking d (request_by l) now) { cache = touched d now.cache (line_at l) }
+left_by d l now = record (left_taking d (request_by l) now) { cache = with_line_touched d now.cache (line_at l) }
 
 -- what the upper line leaves, if there is one
 abbrev pub left_above : Desc → Option Line → Around → Around

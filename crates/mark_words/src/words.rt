@@ -1,6 +1,6 @@
 //! What becomes of the marks of words (`docs/theorems.md`, "Secrets that are loaded").
 ghost use Rattle.std.specs.Prelude.{◌≡◌, ◌&&◌};
-ghost use Rattle.secret_marks.specs.Words.{any_byte, downward, either, every_byte, lowest_byte, mark_at, smeared, upward};
+ghost use Rattle.secret_marks.specs.Words.{any_byte, downward, either, every_byte, lowest_byte, mark_at, every_byte_if_any, upward};
 
 use secret_marks::WordMarks;
 
@@ -102,7 +102,7 @@ pub fn downward(w: WordMarks) -> WordMarks
 /// The marks of a word of which every byte is marked, where any was.
 #[inline]
 pub fn smeared(w: WordMarks) -> WordMarks
-    ensures { result ≡ smeared w }
+    ensures { result ≡ every_byte_if_any w }
 {
     every_byte(any_byte(w))
 }

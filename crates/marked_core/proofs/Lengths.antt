@@ -6,10 +6,10 @@ use Rattle.machine_desc.specs.declared.Desc.{Desc}
 use Rattle.window_model.specs.declared.Entry.{Entry}
 use Rattle.window_model.specs.Around.{around}
 use Rattle.window_model.specs.Clear.{clear, cleared_one}
-use Rattle.window_model.specs.Fill.{complete, completed}
+use Rattle.window_model.specs.Fill.{complete, after_completion}
 use Rattle.window_model.specs.Issue.{issue, issue_entry}
 use Rattle.window_model.specs.Order.{each_from}
-use Rattle.window_model.specs.Rename.{rename, renamed}
+use Rattle.window_model.specs.Rename.{rename, entry_of_item}
 use Rattle.window_model.specs.Resolve.{resolve}
 use Rattle.window_model.specs.State.{Machine}
 use Rattle.window_model.proofs.Clearing.{clear_keep}
@@ -22,7 +22,7 @@ use Rattle.secret_marks.specs.Marks.{new_entry}
 -- ---- how many entries are left
 
 pub complete_keeps : (x : Machine) → length (complete x).machine.window ≡ length x.window
-complete_keeps x = length-map x.window (completed x.cycle)
+complete_keeps x = length-map x.window (after_completion x.cycle)
 
 front_shorter : (n : ℕ) (front back : List Entry) → length (front ++ back) ≤ n → length front ≤ n
 front_shorter n front back h = let l = length-append front back in omega (arith, l, h)
@@ -60,7 +60,7 @@ issue_keeps d x = length-map (each_from (issue_entry d (around x)) [] x.window) 
 pub rename_lengthens : (d : Desc) (x : Machine) → length x.window ≤ length (rename d x).machine.window
 rename_lengthens d x =
     rename_keep d (λ y. length x.window ≤ length y.window)
-    (λ y i rest q f h. let l = length-append y.window (renamed d y.next_serial i ∷ []) in omega (arith, l, h)) x (omega arith)
+    (λ y i rest q f h. let l = length-append y.window (entry_of_item d y.next_serial i ∷ []) in omega (arith, l, h)) x (omega arith)
 
 -- ---- how many marks are left
 

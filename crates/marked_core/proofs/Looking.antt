@@ -17,7 +17,7 @@ use Rattle.core_cycle.proofs.Going.{goes_on, one_more}
 use Rattle.secret_marks.specs.declared.FirstShown.{FirstShown}
 use Rattle.secret_marks.specs.declared.Shown.{Shown}
 use Rattle.secret_marks.specs.Marks.{Marks}
-use Rattle.secret_marks.specs.Published.{Public, published, published_by}
+use Rattle.secret_marks.specs.Published.{Public, public_piece, published_by}
 use Rattle.secret_marks.specs.Shown.{first_shown, in_cycle, shown_cycle}
 use Rattle.secret_marks.specs.Watch.{watch_cycle}
 use Rattle.secret_marks.proofs.Cycle.{watched_machine}
@@ -81,7 +81,7 @@ ended_shows public d code (suc t) y k e q = (
 ended_publishes : (public : Public) (d : Desc) (code : Code) (t : ℕ) (y : Machine) (e : End) → y.end ≡ Some e → published_by public d code t y ≡ []
 ended_publishes public d code zero y e q = refl
 ended_publishes public d code (suc t) y e q =
-    ap (λ o. unless_ended o [] (published public (hart_of y) (cycle d code y).piece ++ published_by public d code t (cycle d code y).machine)) q
+    ap (λ o. unless_ended o [] (public_piece public (hart_of y) (cycle d code y).piece ++ published_by public d code t (cycle d code y).machine)) q
 
 has_end : (o p : Option End) (b : Bool) → o ≡ p → b ≡ is_some o → b ≡ true → (e : End) × (p ≡ Some e)
 has_end None p b q r h = absurd (cc)
@@ -106,16 +106,16 @@ pub record Counts (public : Public) (d : Desc) (code : Code) (n i : ℕ) (x y : 
 
 -- how many bytes are published of a piece of output, by equal streams
 pub count_is : (p p2 : PublicStreams) (s : Hart) (stream : ℕ) (piece piece2 : List ℕ) (count : ℕ) → count ≡ length (if public_in p stream then piece else []) →
-    p ≡ p2 → stream ≡ reg s.regs 10 → piece ≡ piece2 → count ≡ length (published (public_in p2) s piece2)
+    p ≡ p2 → stream ≡ reg s.regs 10 → piece ≡ piece2 → count ≡ length (public_piece (public_in p2) s piece2)
 count_is p p2 s stream piece piece2 count h ep es eq =
     h
     ∙ ap (λ p. length (if public_in p stream then piece else [])) ep
     ∙ ap (λ t. length (if public_in p2 t then piece else [])) es
-    ∙ ap (λ q. length (published (public_in p2) s q)) eq
+    ∙ ap (λ q. length (public_piece (public_in p2) s q)) eq
 
 module _ (public : Public) (d : Desc) (code : Code) (n i : ℕ) (x y : Machine) (count : ℕ) (l : Counts public d code n i x y count) where
   abbrev piece : List ℕ
-  piece = published public (hart_of y) (cycle d code y).piece
+  piece = public_piece public (hart_of y) (cycle d code y).piece
 
   -- a cycle more is counted
   pub counts_next : i < n → y.end ≡ None → (y2 : Machine) → y2 ≡ (cycle d code y).machine → (more : ℕ) → more ≡ length piece → more ≤ 1024 →

@@ -9,7 +9,7 @@ use Rattle.window_model.specs.State.{Machine}
 use Rattle.machine_facts.proofs.Ports.{issue_adds}
 use Rattle.core_parts.specs.Described.{Described}
 use Rattle.issue.specs.Named.{NamesIssued}
-use Rattle.entry_marks.specs.Named.{NamesEachIssued, has_issued}
+use Rattle.entry_marks.specs.IssuedNow.{NamesEachIssued, has_issued}
 use Rattle.entry_marks.proofs.Fitting.{each_at}
 use Rattle.marked_core.specs.InStep.{NotYet}
 use Rattle.marked_core.proofs.Lengths.{issue_keeps}

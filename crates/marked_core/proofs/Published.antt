@@ -13,7 +13,7 @@ use Rattle.window_model.proofs.Counts.{count, count_is}
 use Rattle.secret_marks.specs.declared.EntryMarks.{EntryMarks}
 use Rattle.secret_marks.specs.declared.WordMarks.{WordMarks}
 use Rattle.secret_marks.specs.Marks.{Marks}
-use Rattle.secret_marks.specs.Published.{Public, published, published_marks, unmarked_at}
+use Rattle.secret_marks.specs.Published.{Public, public_piece, published_marks, unmarked_at}
 use Rattle.secret_marks.proofs.Puts.{AreAlone, Puts, no_call_alone, retire_puts}
 use Rattle.entry_marks.specs.declared.marks.Marks.{Marks as Beside}
 use Rattle.entry_marks.specs.Walk.{marks_of}

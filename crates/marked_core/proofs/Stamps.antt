@@ -17,10 +17,10 @@ use Rattle.window_model.specs.Around.{Around, around}
 use Rattle.window_model.specs.Clear.{clear, cleared_one}
 use Rattle.window_model.specs.Cycle.{begins_cycle, cycle}
 use Rattle.window_model.specs.Fetch.{fetch}
-use Rattle.window_model.specs.Fill.{complete, completed, completes, fill}
+use Rattle.window_model.specs.Fill.{complete, after_completion, completes, fill}
 use Rattle.window_model.specs.Issue.{Begun, access_of, begin_as, issue, issue_entry, load_as}
 use Rattle.window_model.specs.Order.{each_from}
-use Rattle.window_model.specs.Rename.{rename, renamed}
+use Rattle.window_model.specs.Rename.{rename, entry_of_item}
 use Rattle.window_model.specs.Resolve.{resolve}
 use Rattle.window_model.specs.Retire.{retire, unless_ended}
 use Rattle.window_model.specs.State.{Machine, nothing, then_does}
@@ -62,7 +62,7 @@ module _ (P : Entry → Type 0) where
     one_completed true e h = done e h
     one_completed false e h = h
 
-    all_completed : (cycle : ℕ) (es : List Entry) → Each P es → Each P (map (completed cycle) es)
+    all_completed : (cycle : ℕ) (es : List Entry) → Each P es → Each P (map (after_completion cycle) es)
     all_completed cycle [] h = tt
     all_completed cycle (e ∷ es) h = (one_completed (completes cycle e) e h.0, all_completed cycle es h.1)
 
@@ -159,7 +159,7 @@ module _ (d : Desc) (code : Code) (n : ℕ) where
   all_fetched : (x : Machine) → Each (IssuedBy n) x.window → Each (IssuedBy n) (fetch d code (rename d x).machine).machine.window
   all_fetched x h =
       fetch_keep d (λ y. Each (IssuedBy n) y.window) code (λ y pc q r k. k) (rename d x).machine
-      (rename_keep d (λ y. Each (IssuedBy n) y.window) (λ y i rest q f k. each_more (IssuedBy n) y.window (renamed d y.next_serial i) k tt) x h)
+      (rename_keep d (λ y. Each (IssuedBy n) y.window) (λ y i rest q f k. each_more (IssuedBy n) y.window (entry_of_item d y.next_serial i) k tt) x h)
 
   by_end : (o : Option End) (x : Machine) → x.cycle ≡ n → Each (IssuedBy n) x.window →
       Each (IssuedBy n) (unless_ended o (nothing x) (then_does (issue d x) (λ y. then_does (rename d y) (fetch d code)))).machine.window

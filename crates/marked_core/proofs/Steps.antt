@@ -6,7 +6,7 @@ use Rattle.visibility.specs.Point.{Point}
 use Rattle.window_model.specs.State.{Machine}
 use Rattle.core_parts.specs.Described.{Described}
 use Rattle.secret_marks.specs.declared.EntryMarks.{EntryMarks}
-use Rattle.secret_marks.specs.Marks.{cut, extended, new_entry}
+use Rattle.secret_marks.specs.Marks.{cut, with_new_entries, new_entry}
 use Rattle.entry_marks.specs.declared.marks.Marks.{Marks}
 use Rattle.entry_marks.specs.Walk.{marks_of, marks_with}
 use Rattle.marked_core.specs.InStep.{InStep}
@@ -64,7 +64,7 @@ pub marks_cut : (m : Marks) (w : Buffer EntryMarks) (n : ℕ) (s : Described) �
 marks_cut m w n s count e = ap (λ (b : Buffer EntryMarks). marks_with m b.items) e ∙ ap (λ n. marks_with m (take n m.window.items)) count
 
 pub marks_extended : (m : Marks) (w : Buffer EntryMarks) (n : ℕ) (s : Described) → n ≡ length s.machine.window →
-    w ≡ buffer (m.window.items ++ replicate (n - length m.window.items) new_entry) m.window.capacity → marks_with m w.items ≡ extended s.machine.window (marks_of m)
+    w ≡ buffer (m.window.items ++ replicate (n - length m.window.items) new_entry) m.window.capacity → marks_with m w.items ≡ with_new_entries s.machine.window (marks_of m)
 marks_extended m w n s count e =
     ap (λ (b : Buffer EntryMarks). marks_with m b.items) e
     ∙ ap (λ n. marks_with m (m.window.items ++ replicate (n - length m.window.items) new_entry)) count

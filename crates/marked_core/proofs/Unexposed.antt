@@ -13,10 +13,10 @@ use Rattle.window_model.specs.Around.{Around, around}
 use Rattle.window_model.specs.Clear.{clear, cleared_one}
 use Rattle.window_model.specs.Cycle.{begins_cycle, cycle}
 use Rattle.window_model.specs.Fetch.{fetch}
-use Rattle.window_model.specs.Fill.{complete, completed, completes}
+use Rattle.window_model.specs.Fill.{complete, after_completion, completes}
 use Rattle.window_model.specs.Issue.{Begun, after_load, begin_as, issue, issue_entry}
 use Rattle.window_model.specs.Order.{Place, each_from, is_waiting}
-use Rattle.window_model.specs.Rename.{rename, renamed}
+use Rattle.window_model.specs.Rename.{rename, entry_of_item}
 use Rattle.window_model.specs.Retire.{retire, unless_ended}
 use Rattle.window_model.specs.State.{Machine, nothing, then_does}
 use Rattle.window_model.proofs.Clearing.{clear_keep}
@@ -31,7 +31,7 @@ use Rattle.secret_marks.specs.declared.EntryMarks.{EntryMarks}
 use Rattle.secret_marks.specs.declared.Shown.{Shown}
 use Rattle.secret_marks.specs.declared.WordMarks.{WordMarks}
 use Rattle.secret_marks.specs.Words.{any_byte, either}
-use Rattle.secret_marks.specs.Marks.{Marks, goes_mark, is_at, issued_from, issued_marks, leaves_as, left, new_entry, value_marks}
+use Rattle.secret_marks.specs.Marks.{Marks, goes_mark, is_at, issued_from, issued_marks, leaves_as, marks_after_leaving, new_entry, value_marks}
 use Rattle.secret_marks.specs.Published.{Public}
 use Rattle.secret_marks.specs.Shown.{resolved_shown, shown_by}
 use Rattle.secret_marks.specs.Shows.{outcome_marked}
@@ -92,7 +92,7 @@ one_completed : (b : Bool) (e : Entry) → (if b then record e { state = Done } 
 one_completed true e = refl
 one_completed false e = refl
 
-shown_of_completed : (cycle : ℕ) (window : List Entry) (marks : List EntryMarks) → Unexposed window marks → Unexposed (map (completed cycle) window) marks
+shown_of_completed : (cycle : ℕ) (window : List Entry) (marks : List EntryMarks) → Unexposed window marks → Unexposed (map (after_completion cycle) window) marks
 shown_of_completed cycle [] marks h = no_entry marks
 shown_of_completed cycle (e ∷ window) [] h = tt
 shown_of_completed cycle (e ∷ window) (mark ∷ marks) h =
@@ -136,7 +136,7 @@ cut_unexposed (suc n) (e ∷ window) (mark ∷ marks) h = (h.0, cut_unexposed n 
 -- ---- Retire
 
 left_unexposed : (base : ℕ) (gone rest : List Entry) (m : Marks) (marks : List EntryMarks) → m.window ≡ marks → Unexposed (gone ++ rest) marks →
-    Unexposed rest (left base (length gone) (gone ++ rest) m marks).window
+    Unexposed rest (marks_after_leaving base (length gone) (gone ++ rest) m marks).window
 left_unexposed base [] rest m marks e h =
     subst (λ (n : Marks). Unexposed rest n.window) (sym (none_leaves base 0 rest m marks refl)) (subst (Unexposed rest) (sym e) h)
 left_unexposed base (y ∷ gone) rest m [] e h = subst (Unexposed rest) (sym e) (no_mark rest)
@@ -150,8 +150,8 @@ retire_unexposed public d x m h =
     let all = ap (λ es. length es) w.is in
     let both = length-append w.gone y.window in
     let count : length w.gone ≡ length x.window - length y.window = omega (arith, all, both) in
-    subst (λ n. Unexposed y.window (left y.ram.base n x.window m m.window).window) count
-    (subst (λ es. Unexposed y.window (left y.ram.base (length w.gone) es m m.window).window) (sym w.is)
+    subst (λ n. Unexposed y.window (marks_after_leaving y.ram.base n x.window m m.window).window) count
+    (subst (λ es. Unexposed y.window (marks_after_leaving y.ram.base (length w.gone) es m m.window).window) (sym w.is)
     (left_unexposed y.ram.base w.gone y.window m m.window refl (subst (λ es. Unexposed es m.window) w.is h)))
 
 -- ---- Issue: what is resolved doesn't wait, so it has issued before
@@ -264,7 +264,7 @@ fetch_unexposed d code x m h =
     let y = (rename d x).machine in
     let marks = m.window ++ replicate (length y.window - length m.window) new_entry in
     fetch_keep d (λ z. Unexposed z.window marks) code (λ z pc q r k. k) y
-    (rename_keep d (λ z. Unexposed z.window marks) (λ z i rest q f k. one_more z.window (renamed d z.next_serial i) marks refl k) x
+    (rename_keep d (λ z. Unexposed z.window marks) (λ z i rest q f k. one_more z.window (entry_of_item d z.next_serial i) marks refl k) x
     (more_marks (length y.window - length m.window) x.window m.window h))
 
 -- ---- the cycle

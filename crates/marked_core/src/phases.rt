@@ -12,7 +12,7 @@ ghost use Rattle.window_model.specs.Rename.{rename};
 ghost use Rattle.window_model.specs.Resolve.{resolve};
 ghost use Rattle.window_model.specs.Retire.{retire};
 ghost use Rattle.window_model.specs.inner.Row.{HasRoom, IsLonger, most_cleared, most_entries, most_fetched, most_issued, most_resolved, most_retired, with_events};
-ghost use Rattle.secret_marks.specs.Marks.{after_issue_marks, after_retire_marks, cut, extended};
+ghost use Rattle.secret_marks.specs.Marks.{after_issue_marks, after_retire_marks, cut, with_new_entries};
 ghost use Rattle.secret_marks.specs.Published.{published_marks};
 ghost use Rattle.secret_marks.specs.Streams.{public_in};
 ghost use Rattle.secret_marks.specs.Shown.{head_shown, operands_shown, resolved_shown};
@@ -183,7 +183,7 @@ pub(crate) fn rename_marked<R: RenameTaint>(parts: &mut Parts<R>, marks: &mut Ma
     ensures machine { parts.new ≡ record parts.old { machine = (rename parts.old.desc parts.old.machine).machine } }
     ensures row { row.new ≡ with_events row.old (rename parts.old.desc parts.old.machine).events }
     ensures few { IsLonger most_fetched row.old row.new }
-    ensures marks { marks_of marks.new ≡ extended parts.new.machine.window (marks_of marks.old) }
+    ensures marks { marks_of marks.new ≡ with_new_entries parts.new.machine.window (marks_of marks.old) }
     ensures step { InStep parts.new marks.new }
 {
     rename(parts, row);

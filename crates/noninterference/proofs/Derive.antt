@@ -13,7 +13,7 @@ use Rattle.window_model.specs.Taint.{visible}
 use Rattle.window_model.specs.MayIssue.{effect_of}
 use Rattle.window_model.specs.Shape.{SameShape}
 use Rattle.window_model.proofs.Booleans.{or_true}
-use Rattle.committed_state.specs.Computed.{Bank, ComesTo, as_known, computed}
+use Rattle.committed_state.specs.Computed.{Bank, ComesTo, as_known, outcome_behind}
 use Rattle.committed_state.specs.Consistent.{bank_in}
 use Rattle.committed_state.proofs.Onward.{of_item}
 use Rattle.noninterference.specs.Alike.{without_outcome}
@@ -54,7 +54,7 @@ module _ (now : ℕ) (d : Desc) (code : Code) (x x2 : Machine) (regs : x.regs �
       let h = a.0.but_outcome in
       let st = w.stands.0 in
       let item = ap (λ (t : Entry). t.item) h in
-      let c2 : ComesTo e2.outcome (as_known e (computed s2 b2 e)) = subst (ComesTo e2.outcome) (sym (ap (λ (t : Entry). as_known t (computed s2 b2 t)) h)) w2.stands.0.computed in
+      let c2 : ComesTo e2.outcome (as_known e (outcome_behind s2 b2 e)) = subst (ComesTo e2.outcome) (sym (ap (λ (t : Entry). as_known t (outcome_behind s2 b2 t)) h)) w2.stands.0.computed in
       let of_x2 : effect_of x2.regs b2 e2 ≡ effect_of x2.regs b2 e = ap (λ i. effect_of x2.regs b2 (of_item i)) (sym item) in (
         record {
           but_outcome = h;

@@ -30,7 +30,7 @@ use Rattle.window_model.proofs.LookedUp.{same_due_by}
 use Rattle.window_model.proofs.Places.{Found}
 use Rattle.window_model.proofs.Issuing.{asks_division, asks_load, may_own, may_parts, load_clean, division_clean}
 use Rattle.committed_state.specs.Consistent.{IsItem, EntryInvariant, bank_in}
-use Rattle.two_runs.specs.Masks.{SamePlace, but_data}
+use Rattle.two_runs.specs.Masks.{SamePlace, without_contents}
 use Rattle.two_runs.proofs.Choices.{if_both}
 use Rattle.two_runs.proofs.Issue.{DivisionsAsk, LoadsAsk, issue_leaves, issue_left, same_taken}
 use Rattle.two_runs.proofs.Masks.{along, lengths, peel}
@@ -149,7 +149,7 @@ module _ (cycle : ℕ) (d : Desc) (code : Code) (x x2 : Machine) (r : Alike x x2
   item_at b [] es e i = i.0.item
   item_at b (o ∷ older) es e i = item_at (o ∷ b) older es e i.1
 
-  load_asks : Along (EntryInvariant d code (bank_in (hart_of x)) cycle) [] x.window → (p p2 : Place) → Asking p p2 → Found (may_at d now LoadPort) [] x.window p → LoadsAsk d x x2 (ap but_data r) p p2
+  load_asks : Along (EntryInvariant d code (bank_in (hart_of x)) cycle) [] x.window → (p p2 : Place) → Asking p p2 → Found (may_at d now LoadPort) [] x.window p → LoadsAsk d x x2 (ap without_contents r) p p2
   load_asks i p p2 s at =
       let t = asks_load d now p.before p.entry at.has in
       let l : is_load p.entry.item.kind ≡ true = ap is_load t.1 in
@@ -157,12 +157,12 @@ module _ (cycle : ℕ) (d : Desc) (code : Code) (x x2 : Machine) (r : Alike x x2
       let m = load_clean p.entry.item.kind d now p.before p.entry (may_parts d now p.before p.entry t.0).kind l in
       untainted_access d code x x2 r place p.before p2.before s.known.1 p.entry p2.entry s.known.0.but_outcome item l m
 
-  division_asks : (p p2 : Place) → Asking p p2 → Found (may_at d now DivPort) [] x.window p → DivisionsAsk d x x2 (ap but_data r) p p2
+  division_asks : (p p2 : Place) → Asking p p2 → Found (may_at d now DivPort) [] x.window p → DivisionsAsk d x x2 (ap without_contents r) p p2
   division_asks p p2 s at =
       let t = asks_division d now p.before p.entry at.has in
       let m = division_clean p.entry.item.kind d now p.before p.entry (may_parts d now p.before p.entry t.0).kind (ap is_division t.1) in
       let h = s.known.0.but_outcome in
-      same_taken d x x2 (ap but_data r) p.before p2.before (seen_by_outcomes d.stt_model p.before p2.before s.known.1) p.entry p2.entry h (untainted_time d code x x2 r place p.before p2.before s.known.1 p.entry p2.entry h m)
+      same_taken d x x2 (ap without_contents r) p.before p2.before (seen_by_outcomes d.stt_model p.before p2.before s.known.1) p.entry p2.entry h (untainted_time d code x x2 r place p.before p2.before s.known.1 p.entry p2.entry h m)
 
   issue_alike : SameOutcomes d.stt_model (reverse x.window) (reverse x2.window) → Along (EntryInvariant d code (bank_in (hart_of x)) cycle) [] x.window → shown_after (issue d x) ≡ shown_after (issue d x2)
   issue_alike s i =
@@ -173,7 +173,7 @@ module _ (cycle : ℕ) (d : Desc) (code : Code) (x x2 : Machine) (r : Alike x x2
       let answers = λ (port : Port).
       along S (λ e e2 b b2 s. s.1) (may_at d now port) (may_at d now2 port) (λ b b2 e e2 s. at_alike d x x2 r place b b2 s.1 e e2 s.0.but_outcome port) [] [] x.window x2.window l s in
       tells hides (issue d x).machine.window (issue d x) (issue d x2) ((issue_leaves d x).kept.0 ∙ ap (λ (m : Machine). m.regs) r ∙ sym (issue_leaves d x2).kept.0)
-      (issue_left d x x2 (ap but_data r) hides x.window (issue d x).machine.window S w answers (load_asks i) division_asks q.1
+      (issue_left d x x2 (ap without_contents r) hides x.window (issue d x).machine.window S w answers (load_asks i) division_asks q.1
       (all_hidden (issue d x).machine.window (issue d x2).machine.window q.0))
 
 -- Issue tells nothing of two machines that show the same, where outcomes that may be looked at are equal

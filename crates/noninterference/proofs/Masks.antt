@@ -11,7 +11,7 @@ use Rattle.window_model.specs.declared.Outcome.{Outcome}
 use Rattle.window_model.specs.State.{After, Machine}
 use Rattle.window_model.specs.Order.{fault_of, is_load}
 use Rattle.window_model.specs.Retire.{addr_of}
-use Rattle.two_runs.specs.Masks.{LeavesAccess, LeftAlike, Mask, MaskedAlike, but_data, masked}
+use Rattle.two_runs.specs.Masks.{LeavesAccess, LeftAlike, Mask, MaskedAlike, without_contents, under_mask}
 use Rattle.two_runs.proofs.Masks.{but_outcomes, turned_alike}
 use Rattle.noninterference.specs.Alike.{TellsNothing, without_outcome}
 use Rattle.noninterference.specs.Outcomes.{OutcomesAgree, SameEntry, SameOutcome, SameOutcomes, but_value}
@@ -33,7 +33,7 @@ pub tells : {M : Type 0} (mask : M → Mask) (ms : List M) (a a2 : After) → a.
 tells mask ms a a2 q l =
     let G : List Event → Machine → List ℕ → List Entry → After = λ evs o regs w. record { machine = record o { regs = regs; window = w }; events = evs } in
     ap₂ (λ evs o. G evs o a.machine.regs (map without_outcome a.machine.window)) l.events l.others
-    ∙ ap₂ (G a2.events (but_data a2.machine)) q (but_outcomes mask ms a.machine.window a2.machine.window l.window)
+    ∙ ap₂ (G a2.events (without_contents a2.machine)) q (but_outcomes mask ms a.machine.window a2.machine.window l.window)
 
 -- ---- what is left of loads
 
@@ -59,7 +59,7 @@ same_left : (k : Kind) (model : SttModel) (b : List Entry) (e e2 : Entry) → Sa
 same_left Load model b e e2 h = h.0
 same_left _ model b e e2 h = refl
 
-entry_left : (model : SttModel) (b : List Entry) (e e2 : Entry) → SameEntry model b e e2 → masked (leaves_loads e) e ≡ masked (leaves_loads e) e2
+entry_left : (model : SttModel) (b : List Entry) (e e2 : Entry) → SameEntry model b e e2 → under_mask (leaves_loads e) e ≡ under_mask (leaves_loads e) e2
 entry_left model b e e2 s =
     let G : Entry → Option Outcome → Entry = λ t o. record t { outcome = left_of t.item.kind o } in
     let H : Entry → Option Outcome → Entry = λ t o. record t { outcome = o } in

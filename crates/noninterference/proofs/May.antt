@@ -16,13 +16,13 @@ use Rattle.noninterference.specs.Outcomes.{SameOutcomes}
 use Rattle.noninterference.proofs.Operands.{address_alike}
 use Rattle.noninterference.proofs.Looking.{seen_by_outcomes}
 use Rattle.two_runs.proofs.May as seen
-use Rattle.two_runs.specs.Masks.{but_data}
+use Rattle.two_runs.specs.Masks.{without_contents}
 use Rattle.two_runs.proofs.Seeing.{seen_machine}
 use Rattle.two_runs.specs.Seen.{AsksAlike, EachAsks, SeenMachine}
 
 module _ (d : Desc) (x x2 : Machine) (r : Alike x x2) (place : SameShape x.ram x2.ram) where
   beside : SeenMachine x x2
-  beside = seen_machine x x2 (ap but_data r) place
+  beside = seen_machine x x2 (ap without_contents r) place
 
   -- a load with an untainted base has one address in both runs
   asks : (b b2 : List Entry) → SameOutcomes d.stt_model b b2 → (e e2 : Entry) → without_outcome e ≡ without_outcome e2 → AsksAlike d x x2 b b2 e e2

@@ -27,7 +27,7 @@ use Rattle.window_model.proofs.Booleans.{both, not_true, some_of}
 use Rattle.committed_state.specs.Consistent.{FitsParts, FitsState, IsItem, Predicts, all_issued, is_issued}
 use Rattle.committed_state.specs.Links.{entry_link}
 use Rattle.committed_state.specs.Computed.{Bank, ComesTo, as_known}
-use Rattle.committed_state.specs.Replay.{bank_after, replayed}
+use Rattle.committed_state.specs.Replay.{bank_after, replay_outcome}
 use Rattle.committed_state.proofs.Bytes.{some_is}
 use Rattle.committed_state.proofs.Computed.{is_access}
 use Rattle.committed_state.proofs.Heads.{item_of, goes_on}
@@ -38,9 +38,9 @@ use Rattle.noninterference.proofs.Loads.{word_of}
 use Rattle.noninterference.proofs.Paths.{path_goes}
 use Rattle.noninterference.proofs.Faults.{hart, entry_of, no_fault, passed_over}
 
-module _ (code : Code) (aligned : Aligned code) (s : Bank) (e : Entry) (n : ℕ) (item : IsItem code e.item) (f : FitsState e.state e) (parts : FitsParts e.item.kind (has_address e) (has_data e) (is_issued e)) (r : ComesTo e.outcome (as_known e (replayed s e))) (g : at_once e.item.kind ≡ false) (l : (entry_link e).next ≡ Some n) where
+module _ (code : Code) (aligned : Aligned code) (s : Bank) (e : Entry) (n : ℕ) (item : IsItem code e.item) (f : FitsState e.state e) (parts : FitsParts e.item.kind (has_address e) (has_data e) (is_issued e)) (r : ComesTo e.outcome (as_known e (replay_outcome s e))) (g : at_once e.item.kind ≡ false) (l : (entry_link e).next ≡ Some n) where
   abbrev O : Outcome
-  O = replayed s e
+  O = replay_outcome s e
 
   abbrev Steps : SttModel → Type 0
   Steps model = path model code (hart e.item.pc s) ≡ Goes (hart n (bank_after e s)) []
@@ -60,8 +60,8 @@ module _ (code : Code) (aligned : Aligned code) (s : Bank) (e : Entry) (n : ℕ)
   item_is : e.item ≡ item_of e.item.pc i e.item
   item_is = item_eq e.item e.item.pc i refl word_there.2 word_there.3
 
-  outcome_is : O ≡ replayed s (entry_of s e.item.pc e.item i)
-  outcome_is = ap (λ t. replayed s (of_item t)) item_is
+  outcome_is : O ≡ replay_outcome s (entry_of s e.item.pc e.item i)
+  outcome_is = ap (λ t. replay_outcome s (of_item t)) item_is
 
   -- what isn't a branch or JALR goes on at its prediction, and so does the replay
   unresolved : (t : Progress) (b : Bool) → is_control e.item.kind ≡ false → FitsState t (record e { resolved = b }) → b ≡ false

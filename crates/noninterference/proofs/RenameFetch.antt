@@ -9,7 +9,7 @@ use Rattle.window_model.specs.Rename.{rename}
 use Rattle.window_model.specs.Fetch.{fetch}
 use Rattle.two_runs.specs.Seen.{after_data}
 use Rattle.two_runs.proofs.RenameFetch.{fetch_alike, rename_alike}
-use Rattle.noninterference.specs.Alike.{without_outcome, shown, shown_after}
+use Rattle.noninterference.specs.Alike.{without_outcome, part_that_shows, shown_after}
 use Rattle.noninterference.specs.Laws.{RenameTellsNothing, FetchTellsNothing}
 
 -- entries without outcomes are left as they are
@@ -18,9 +18,9 @@ hidden_once [] = refl
 hidden_once (e ∷ es) = ap (λ t. without_outcome e ∷ t) (hidden_once es)
 
 -- Rename does to what shows what it does to the whole
-rename_shown : (d : Desc) (x : Machine) → shown_after (rename d x) ≡ rename d (shown x)
+rename_shown : (d : Desc) (x : Machine) → shown_after (rename d x) ≡ rename d (part_that_shows x)
 rename_shown d x =
-    let blank = (shown x).ram in
+    let blank = (part_that_shows x).ram in
     let after = rename d x in
     let kept = (rename_alike d x.regs x.ram x.window x refl).same in
     let r = rename_alike d x.regs blank (map without_outcome x.window) x (hidden_once x.window) in
@@ -34,9 +34,9 @@ pub rename_tells_nothing : RenameTellsNothing
 rename_tells_nothing d x x2 r = rename_shown d x ∙ ap (rename d) r ∙ sym (rename_shown d x2)
 
 -- Fetch does to what shows what it does to the whole
-fetch_shown : (d : Desc) (code : Code) (x : Machine) → shown_after (fetch d code x) ≡ fetch d code (shown x)
+fetch_shown : (d : Desc) (code : Code) (x : Machine) → shown_after (fetch d code x) ≡ fetch d code (part_that_shows x)
 fetch_shown d code x =
-    ap shown_after (fetch_alike d code x.regs x.ram x.window x) ∙ sym (fetch_alike d code x.regs (shown x).ram (map without_outcome x.window) x)
+    ap shown_after (fetch_alike d code x.regs x.ram x.window x) ∙ sym (fetch_alike d code x.regs (part_that_shows x).ram (map without_outcome x.window) x)
 
 -- Fetch tells nothing of two machines that show the same
 pub fetch_tells_nothing : FetchTellsNothing

@@ -18,7 +18,7 @@ use Rattle.window_model.specs.Taint.{visible, any_tainted, address_tainted}
 use Rattle.window_model.specs.Shape.{SameShape}
 use Rattle.window_model.proofs.Memory.{same_fault}
 use Rattle.window_model.specs.MayIssue.{effect_of}
-use Rattle.committed_state.specs.Computed.{Bank, ComesTo, as_known, as_known_by, bytes_over, computed, known_of, outcome_as}
+use Rattle.committed_state.specs.Computed.{Bank, ComesTo, as_known, as_known_by, bytes_over, outcome_behind, known_of, outcome_as}
 use Rattle.committed_state.proofs.Computed.{outcome_same}
 use Rattle.noninterference.specs.Outcomes.{but_value, SameOutcome}
 
@@ -67,7 +67,7 @@ known_part false datum v v2 h = refl
 -- two entries of one instruction that have issued both or neither, each behind its older ones: what makes their
 -- outcomes equal where they may be looked at
 module _ (model : SttModel) (s s2 : Bank) (b b2 : List Entry) (e e2 : Entry) (p : SameShape s.ram s2.ram) (o : is_some e.outcome ≡ is_some e2.outcome)
-    (c : ComesTo e.outcome (as_known e (computed s b e))) (c2 : ComesTo e2.outcome (as_known e (computed s2 b2 e)))
+    (c : ComesTo e.outcome (as_known e (outcome_behind s b e))) (c2 : ComesTo e2.outcome (as_known e (outcome_behind s2 b2 e)))
     (seen : is_load e.item.kind ≡ true → visible model b ≡ true → e.outcome ≡ e2.outcome)
     (clean : is_load e.item.kind ≡ true → is_some e.outcome ≡ true → any_tainted model b e ≡ false)
     (effects : any_tainted model b e ≡ false → effect_of s.regs b e ≡ effect_of s2.regs b2 e)

@@ -10,7 +10,7 @@ use Rattle.window_model.specs.Taint.{any_tainted}
 use Rattle.window_model.specs.Resolve.{may_resolve, next_of, resolve}
 use Rattle.window_model.proofs.Places.{found}
 use Rattle.window_model.proofs.Resolving.{resolve_parts, resolved_one}
-use Rattle.two_runs.specs.Masks.{but_data}
+use Rattle.two_runs.specs.Masks.{without_contents}
 use Rattle.two_runs.proofs.Masks.{along, lengths}
 use Rattle.two_runs.proofs.May.{may_resolve_alike}
 use Rattle.two_runs.proofs.Resolve.{resolve_alike, resolve_data}
@@ -33,7 +33,7 @@ resolve_tells_nothing d x x2 r o =
     let answers = along S (λ e e2 b b2 s. s.1) (may_resolve d) (may_resolve d) (λ b b2 e e2 s. may_resolve_alike d b b2 (seen_by_outcomes d.stt_model b b2 s.1) e e2 s.0.but_outcome)
     [] [] x.window x2.window (lengths hides x.window x.window x2.window s).1 o in
     tells hides (take (length (resolve d x).machine.window) x.window) (resolve d x) (resolve d x2) ((resolve_data d x).0 ∙ ap (λ (m : Machine). m.regs) r ∙ sym (resolve_data d x2).0)
-    (resolve_alike hides S d x.window x x2 (ap but_data r) s answers
+    (resolve_alike hides S d x.window x x2 (ap without_contents r) s answers
     (λ p p2 f t.
     let parts = resolve_parts d p.before p.entry (found (may_resolve d) [] x.window p f).has in
     let same = same_outcome p.entry.item.kind d.stt_model p.before p.entry p2.entry t.known.0.outcomes parts.control parts.clean in

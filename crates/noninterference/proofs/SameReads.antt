@@ -22,7 +22,7 @@ use Rattle.window_model.specs.Rename.{at_once}
 use Rattle.window_model.specs.Committed.{Aligned}
 use Rattle.window_model.specs.Path.{path}
 use Rattle.window_model.proofs.Lists.{each_left}
-use Rattle.committed_state.specs.Replay.{Bank, bank, effect_on, replayed, replayed_as}
+use Rattle.committed_state.specs.Replay.{Bank, bank, effect_on, replay_outcome, replayed_as}
 use Rattle.committed_state.proofs.Known.{replayed_behind}
 use Rattle.committed_state.specs.Computed.{ComesTo, as_known, as_known_by}
 use Rattle.committed_state.specs.Consistent.{FitsParts, FitsState, all_issued, all_issued_by, bank_in, is_issued}
@@ -91,9 +91,9 @@ module _ (now : ℕ) (d : Desc) (protected : protects d.stt_model ≡ true) (cod
       let q = ap (λ o. loads_at o t) word.1 ∙ is_load_instr (decode word.0) (sym word.3 ∙ kl) (bank s b) e word.2 in
       let bytes = subst (All (λ a. byte (bank s b).ram a ≡ byte (bank s2 b2).ram a)) q (each_left _ (loads_at (code e.item.pc) t) _ there.bytes) in
       let same = load_same (bank s b) (bank s2 b2) e e2 there.place (ap (λ (x : Entry). x.item.instr) h) f bytes in
-      let r = of_load e (replayed (bank s b) e) kl ((replayed_behind d code s now n (e ∷ b) w.stands).0 (visible_clear model b protected v)) in
-      let r2 = of_load e2 (replayed (bank s2 b2) e2) kl2 ((replayed_behind d code s2 now n2 (e2 ∷ b2) w2.stands).0 (visible_clear model b2 protected v2)) in
-      same_outcome e.outcome e2.outcome (replayed (bank s b) e) (replayed (bank s2 b2) e2) i r r2
+      let r = of_load e (replay_outcome (bank s b) e) kl ((replayed_behind d code s now n (e ∷ b) w.stands).0 (visible_clear model b protected v)) in
+      let r2 = of_load e2 (replay_outcome (bank s2 b2) e2) kl2 ((replayed_behind d code s2 now n2 (e2 ∷ b2) w2.stands).0 (visible_clear model b2 protected v2)) in
+      same_outcome e.outcome e2.outcome (replay_outcome (bank s b) e) (replay_outcome (bank s2 b2) e2) i r r2
       (λ y. ap (λ k. replayed_as k (bank s b) e) kl ∙ same ∙ ap (λ k. replayed_as k (bank s2 b2) e2) (sym kl2))
 
   derived : (b b2 : List Entry) → One b → Two b2 → AllSameReads model b b2 → SameOutcomes model b b2

@@ -10,7 +10,7 @@ use Rattle.rv_types.specs.declared.End.TheVariants.{Exit}
 use Rattle.rv_types.specs.declared.Kind.{Kind}
 use Rattle.rv_types.specs.declared.Kind.TheVariants.{Store, Call}
 use Rattle.machine_desc.specs.declared.Desc.{Desc}
-use Rattle.window_model.specs.Retire.{has_line, Retired, turns, head_leaves, call_leaves, as_hart, then_retires, stays, hart_of, lines_in, touched}
+use Rattle.window_model.specs.Retire.{has_line, Retired, turns, head_leaves, call_leaves, as_hart, then_retires, stays, hart_of, lines_in, with_line_touched}
 use Rattle.window_model.specs.declared.Entry.{Entry}
 use Rattle.window_model.specs.State.{Machine}
 use Rattle.window_model.specs.Order.{value_of}
@@ -21,7 +21,7 @@ use Rattle.window_model.proofs.Calls.{CallDoes}
 use Rattle.committed_state.specs.Consistent.{ConsistentIn}
 use Rattle.committed_state.proofs.Calls.{turns_empty}
 use Rattle.committed_state.proofs.Retire.{LeftAs}
-use Rattle.noninterference.specs.Alike.{Alike, shown, without_outcome}
+use Rattle.noninterference.specs.Alike.{Alike, part_that_shows, without_outcome}
 use Rattle.noninterference.specs.InStep.{InStepUpTo}
 use Rattle.noninterference.specs.Together.{RetiresAlike}
 use Rattle.noninterference.proofs.StepsAlike.{Moved, StepsAlike}
@@ -61,7 +61,7 @@ module _ (now : ℕ) (d : Desc) (code : Code) (total : ℕ) where
   left e w m = record m { window = w; regs = with_reg m.regs (writes_of e.item.instr) (value_of e.outcome); pc = next_of e.outcome; retired = m.retired + 1 }
 
   abbrev left_store : Entry → List Entry → Machine → Machine
-  left_store e w m = record (left e w m) { cache = fold (touched d) m.cache (lines_in d e) }
+  left_store e w m = record (left e w m) { cache = fold (with_line_touched d) m.cache (lines_in d e) }
 
   -- a head that is no call leaves both runs alike
   pub left_turn : (k : Kind) (x x2 : Machine) (e : Entry) (rest rest2 : List Entry) (more : Machine → Retired) → is_call k ≡ false → LeftAs now d code k x e rest → LeftAs now d code k x2 e rest2 → x.end ≡ None → map without_outcome rest ≡ map without_outcome rest2 → x.retired + suc (length rest) ≤ total → Alike x x2 → InStepUpTo d.stt_model code total x x2 → Follows more →
@@ -72,12 +72,12 @@ module _ (now : ℕ) (d : Desc) (code : Code) (total : ℕ) where
       let t2 = head_leaves Store d e rest2 x2 in
       then_alike t t2 more more
       (ap (λ (u : Machine). event.Ret e.serial ∷ map (λ line. event.St e.serial line (has_line d u.cache line)) (lines_in d e)) r) refl
-      (m t.machine t2.machine n l.holds l2.holds (omega (arith, le)) (ap (left_store e (map without_outcome rest)) r ∙ ap (λ w. left_store e w (shown x2)) w) (in_step_after x x2 t.machine t2.machine [] [] a l.step l2.step refl))
+      (m t.machine t2.machine n l.holds l2.holds (omega (arith, le)) (ap (left_store e (map without_outcome rest)) r ∙ ap (λ w. left_store e w (part_that_shows x2)) w) (in_step_after x x2 t.machine t2.machine [] [] a l.step l2.step refl))
   left_turn k x x2 e rest rest2 more c l l2 n w le r a m =
       let t = head_leaves k d e rest x in
       let t2 = head_leaves k d e rest2 x2 in
       then_alike t t2 more more refl refl
-      (m t.machine t2.machine n l.holds l2.holds (omega (arith, le)) (ap (left e (map without_outcome rest)) r ∙ ap (λ w. left e w (shown x2)) w) (in_step_after x x2 t.machine t2.machine [] [] a l.step l2.step refl))
+      (m t.machine t2.machine n l.holds l2.holds (omega (arith, le)) (ap (left e (map without_outcome rest)) r ∙ ap (λ w. left e w (part_that_shows x2)) w) (in_step_after x x2 t.machine t2.machine [] [] a l.step l2.step refl))
 
   -- what shows of the machine behind a call
   abbrev called : Machine → List ℕ → ℕ → ℕ → Bool → Option End → Machine
@@ -87,10 +87,10 @@ module _ (now : ℕ) (d : Desc) (code : Code) (total : ℕ) where
   as_alike x x2 s s2 t t2 o r v =
       let f = t.ram.misaligned in
       ap (λ m. called m t.regs t.pc t.ram.base f o) r
-      ∙ ap (λ g. called (shown x2) g t.pc t.ram.base f o) v.regs
-      ∙ ap (λ p. called (shown x2) t2.regs p t.ram.base f o) v.pc
-      ∙ ap (λ b. called (shown x2) t2.regs t2.pc b f o) (sym v.place.base)
-      ∙ ap (λ f. called (shown x2) t2.regs t2.pc t2.ram.base f o) (sym v.place.misaligned)
+      ∙ ap (λ g. called (part_that_shows x2) g t.pc t.ram.base f o) v.regs
+      ∙ ap (λ p. called (part_that_shows x2) t2.regs p t.ram.base f o) v.pc
+      ∙ ap (λ b. called (part_that_shows x2) t2.regs t2.pc b f o) (sym v.place.base)
+      ∙ ap (λ f. called (part_that_shows x2) t2.regs t2.pc t2.ram.base f o) (sym v.place.misaligned)
 
   -- a call leaves both runs alike
   pub call_turn : (x x2 : Machine) (e : Entry) (n : ℕ) (stored : Bool) (t t2 : Step) → isa_step code (hart_of x) ≡ t → isa_step code (hart_of x2) ≡ t2 → StepsAlike (hart_of x) (hart_of x2) t t2 → CallDoes (hart_of x) t → Alike x x2 → InStepUpTo d.stt_model code total x x2 →
@@ -105,7 +105,7 @@ module _ (now : ℕ) (d : Desc) (code : Code) (total : ℕ) where
   call_turn x x2 e n stored (Exits v t) (Exits v2 t2) q q2 s c r a =
       let y = as_hart t [] (Some (Exit v)) x in
       let y2 = as_hart t2 [] (Some (Exit v2)) x2 in
-      let al : Alike y y2 = as_alike x x2 (hart_of x) (hart_of x2) t t2 (Some (Exit v)) r s.1 ∙ ap (λ v. called (shown x2) t2.regs t2.pc t2.ram.base t2.ram.misaligned (Some (Exit v))) s.0 in
+      let al : Alike y y2 = as_alike x x2 (hart_of x) (hart_of x2) t t2 (Some (Exit v)) r s.1 ∙ ap (λ v. called (part_that_shows x2) t2.regs t2.pc t2.ram.base t2.ram.misaligned (Some (Exit v))) s.0 in
       then_alike (call_leaves e [] x (Exits v t)) (call_leaves e [] x2 (Exits v2 t2)) (turns d n stored) (turns d n stored) refl refl
       (subst (λ u. R u (turns d n stored y2)) (sym (turns_empty d n stored y refl)) (subst (R (stays y)) (sym (turns_empty d n stored y2 refl))
       (record { alike = al; events = refl; piece = refl; in_step = λ z. absurd (cc) })))

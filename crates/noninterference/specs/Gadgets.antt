@@ -15,28 +15,28 @@ abbrev pub HidesSecret : Desc → List ℕ → Type 0
 HidesSecret d words = (secret n : ℕ) → secret < 256 → trace d (code_of words) 0x10000 (memory 0 secret) n ≡ trace d (code_of words) 0x10000 (memory 0 0) n
 
 -- the program hides its secret under every description whose model protects
-abbrev pub Protected : List ℕ → Type 0
-Protected words = (d : Desc) → protects d.stt_model ≡ true → HidesSecret d words
+abbrev pub HidesWhereProtected : List ℕ → Type 0
+HidesWhereProtected words = (d : Desc) → protects d.stt_model ≡ true → HidesSecret d words
 
 -- no trace shows the secret behind a bounds check that is predicted wrongly, by a load at an address made of it
 abbrev pub BoundsCheckBypass : Type 0
-BoundsCheckBypass = Protected bounds_check
+BoundsCheckBypass = HidesWhereProtected bounds_check
 
 -- a store at an address made of the secret, and a load that it may cover
 abbrev pub TaintedStoreAddress : Type 0
-TaintedStoreAddress = Protected store
+TaintedStoreAddress = HidesWhereProtected store
 
 -- a branch on the secret
 abbrev pub TaintedBranch : Type 0
-TaintedBranch = Protected branch
+TaintedBranch = HidesWhereProtected branch
 
 -- a division of the secret
 abbrev pub TaintedDivisor : Type 0
-TaintedDivisor = Protected divisor
+TaintedDivisor = HidesWhereProtected divisor
 
 -- a jump to an address made of the secret
 abbrev pub TargetInjection : Type 0
-TargetInjection = Protected injection
+TargetInjection = HidesWhereProtected injection
 
 -- a store whose address comes from a slow division, a load that passes it and reads an old pointer, a load of the
 -- secret by that pointer, and a load at an address made of the secret: addi x8,x0,1; div x5,x2,x8; sw x8,0(x5); lw
@@ -46,7 +46,7 @@ store_bypass = 0x00100413 ∷ 0x028142b3 ∷ 0x0082a023 ∷ 0x00012303 ∷ 0x002
 
 -- no trace shows the secret behind a load that has passed a store
 abbrev pub SpeculativeStoreBypass : Type 0
-SpeculativeStoreBypass = Protected store_bypass
+SpeculativeStoreBypass = HidesWhereProtected store_bypass
 
 -- no trace shows the secret behind a load that faults, where the model is the futuristic one
 abbrev pub FaultShadow : Type 0

@@ -19,7 +19,7 @@ use Rattle.window_model.specs.Committed.{Aligned}
 use Rattle.window_model.specs.Path.{path as path_of}
 use Rattle.window_model.specs.Taint.{protects}
 use Rattle.noninterference.proofs.Runs.{same_trace}
-use Rattle.run_inputs.specs.Loaded.{loaded}
+use Rattle.run_inputs.specs.Loaded.{image_text}
 use Rattle.pair_run.specs.Starts.{trace_of}
 use Rattle.core_cycle.specs.Programmed.{Programmed}
 use Rattle.pair_run.specs.inner.Images.{CoreStarts, Opened, image_at}
@@ -39,7 +39,7 @@ module _ (d : Desc) (image : Image) (core : Programmed) (n : ℕ) (s : CoreStart
   pub counted_at_end : (y : Machine) → y ≡ after_cycles core.desc (word_at core.code) n core.machine → Counted y
   counted_at_end y e = subst Counted (sym (at_end y e)) (counts_at d (word_at image.code) image.entry image.ram n (every_desc d))
 
-  pub its_trace : trace_from core.desc (word_at core.code) n core.machine ≡ trace_of d (loaded image) n
+  pub its_trace : trace_from core.desc (word_at core.code) n core.machine ≡ trace_of d (image_text image) n
   its_trace = ap (λ (c : Programmed). trace_from c.desc (word_at c.code) n c.machine) s
 
 -- ---- Where the premise holds
@@ -61,15 +61,15 @@ premise_traces d one two n protected al p =
     ∙ same_trace d one.code one.entry one.ram two.ram n protected al p.agree
 
 pub hidden : (d : Desc) (one two : Image) (core core2 : Programmed) (n : ℕ) (r : Differ)
-    → protects d.stt_model ≡ true → CoreStarts d one core → CoreStarts d two core2 → Premise d (loaded one) (loaded two) n
+    → protects d.stt_model ≡ true → CoreStarts d one core → CoreStarts d two core2 → Premise d (image_text one) (image_text two) n
     → Differs (trace_from core.desc (word_at core.code) n core.machine) (trace_from core2.desc (word_at core2.code) n core2.machine) r → r ≡ Same
 hidden d one two core core2 n r protected s s2 p h =
-    one_trace _ _ r (its_trace d two core2 n s2 ∙ premise_traces d (loaded one) (loaded two) n protected (aligned one.code) p ∙ sym (its_trace d one core n s)) h
+    one_trace _ _ r (its_trace d two core2 n s2 ∙ premise_traces d (image_text one) (image_text two) n protected (aligned one.code) p ∙ sym (its_trace d one core n s)) h
 
 -- the test of codes and of starts answers whether the premise holds
 module _ (d : Desc) (one two : Start) (same_code : Bool) (first second : Programmed) (path : IsaState) (n steps : ℕ) (o : Opened d one two same_code first second path)
-    (e : steps ≡ (trace_of d (loaded (image_at one first.code)) n).retired + d.core_rob) where
-  pub is_premise : StartsAgree d.stt_model same_code (word_at path.code) one two steps → Premise d (loaded (image_at one first.code)) (loaded (image_at two second.code)) n
+    (e : steps ≡ (trace_of d (image_text (image_at one first.code)) n).retired + d.core_rob) where
+  pub is_premise : StartsAgree d.stt_model same_code (word_at path.code) one two steps → Premise d (image_text (image_at one first.code)) (image_text (image_at two second.code)) n
   is_premise a = record {
     entry = a.entry;
     code = o.code.0 a.same;
@@ -77,7 +77,7 @@ module _ (d : Desc) (one two : Start) (same_code : Bool) (first second : Program
         (subst (λ code. Agree one.ram two.ram (reads (path_of d.stt_model) (word_at code) (start one.entry one.ram) steps)) o.path_is.code a.agree);
   }
 
-  pub asked : Premise d (loaded (image_at one first.code)) (loaded (image_at two second.code)) n → StartsAgree d.stt_model same_code (word_at path.code) one two steps
+  pub asked : Premise d (image_text (image_at one first.code)) (image_text (image_at two second.code)) n → StartsAgree d.stt_model same_code (word_at path.code) one two steps
   asked p = record {
     same = o.code.1 p.code;
     entry = p.entry;
@@ -90,10 +90,10 @@ module _ (d : Desc) (one two : Start) (same_code : Bool) (first second : Program
       → IsTrue premise ↔ StartsAgree d.stt_model same_code (word_at path.code) one two steps
       → Differs (trace_from first.desc (word_at first.code) n first.machine) (trace_from second.desc (word_at second.code) n second.machine) differ
       → retired ≡ last.retired → cycles ≡ last.cycle
-      → Answers d (loaded (image_at one first.code)) (loaded (image_at two second.code)) n (record { premise = premise; first = differ; retired = retired; cycles = cycles })
+      → Answers d (image_text (image_at one first.code)) (image_text (image_at two second.code)) n (record { premise = premise; first = differ; retired = retired; cycles = cycles })
   answers premise differ last retired cycles l p h r c = record {
     premise = (λ t. is_premise (p.0 t), λ q. p.1 (asked q));
-    first = subst (λ (t : Trace). Differs t (trace_of d (loaded (image_at two second.code)) n) differ) (its_trace d (image_at one first.code) first n o.first_is)
+    first = subst (λ (t : Trace). Differs t (trace_of d (image_text (image_at two second.code)) n) differ) (its_trace d (image_at one first.code) first n o.first_is)
         (subst (λ (t : Trace). Differs (trace_from first.desc (word_at first.code) n first.machine) t differ) (its_trace d (image_at two second.code) second n o.second_is) h);
     retired = r ∙ ap (λ (m : Machine). m.retired) l;
     cycles = c ∙ ap (λ (m : Machine). m.cycle) l;

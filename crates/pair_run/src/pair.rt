@@ -2,7 +2,7 @@
 ghost use Rattle.std.specs.Prelude.{◌≡◌, ◌<◌, ◌+◌, length, true, IfOk, IsTrue};
 ghost use Rattle.window_model.specs.Taint.{protects};
 ghost use Rattle.pair_run.specs.inner.Images.{Opened, image_at};
-ghost use Rattle.run_inputs.specs.Loaded.{loaded};
+ghost use Rattle.run_inputs.specs.Loaded.{image_text};
 ghost use Rattle.pair_run.specs.Answer.{Answers};
 ghost use Rattle.pair_run.specs.declared.answer.Differ.TheVariants.{Same};
 
@@ -69,7 +69,7 @@ impl<R: RenameTaint + Drop> Pair<R> {
     /// Runs a core on both images, for at most so many cycles each, and answers how the runs differ, and whether they
     /// have to be the same under a model that protects (`docs/theorems.md`, "Noninterference"). It takes no memory.
     pub fn run(self, cycles: u32) -> PairAnswer
-        ensures answers { Answers self.desc (loaded self.one) (loaded self.two) cycles result }
+        ensures answers { Answers self.desc (image_text self.one) (image_text self.two) cycles result }
         ensures hides { protects self.desc.stt_model ≡ true → IsTrue result.premise → result.first ≡ Same }
     {
         let Pair {
@@ -92,8 +92,8 @@ fn answer_of<R: RenameTaint + Drop>(
 ) -> PairAnswer
     requires { Opened desc.now starts.old.one starts.old.two same_code
         cores.old.first cores.old.second starts.old.path }
-    ensures answers { Answers desc.now (loaded (image_at starts.old.one cores.old.first.code))
-        (loaded (image_at starts.old.two cores.old.second.code)) cycles result }
+    ensures answers { Answers desc.now (image_text (image_at starts.old.one cores.old.first.code))
+        (image_text (image_at starts.old.two cores.old.second.code)) cycles result }
     ensures hides { protects desc.now.stt_model ≡ true → IsTrue result.premise → result.first ≡ Same }
 {
     let first = run_both(&mut cores.first, &mut cores.second, cycles);

@@ -25,7 +25,7 @@ use Rattle.secret_marks.specs.Marks.{with_marks}
 use Rattle.secret_marks.specs.Published.{unmarked_at}
 use Rattle.secret_marks.specs.Streams.{public_in}
 use Rattle.constant_time.specs.PathMarks.{PathMarks, after_instr, after_step, load_marks, second_mark, store_marks}
-use Rattle.path_marks.specs.Moved.{InMemory, access_at, moved}
+use Rattle.path_marks.specs.Moved.{InMemory, access_at, marks_after_access}
 use Rattle.path_marks.proofs.Words.{instr_there}
 
 -- ---- a step by its answer
@@ -87,7 +87,7 @@ store_inside s t p i base a size e eb ea es =
     (subst (λ a. InMemory s.ram.base a i size) (sym ea) (subst (λ n. InMemory s.ram.base (access_at s.regs i) i n) (sym es) (stores_inside s t p i e)))
 
 -- marks move as behind an instruction that may fault
-moves : (s t : Hart) (p : List ℕ) (i : Instr) (m : PathMarks) → step_of s i ≡ Goes t p → moved s.ram.base (access_at s.regs i) i m ≡ after_instr s i m
+moves : (s t : Hart) (p : List ℕ) (i : Instr) (m : PathMarks) → step_of s i ≡ Goes t p → marks_after_access s.ram.base (access_at s.regs i) i m ≡ after_instr s i m
 moves s t p (Load op rd rs1 imm) m e =
     let a = (effect_in s (Load op rd rs1 imm)).addr in
     let f : load_fault s.ram a (size_of op) ≡ None = no_fault _ _ t p e in
@@ -167,14 +167,14 @@ piece_inside s t p q i from base at size e eq et ef eb es = λ n.
 
 -- marks that moved, and of which the bytes of a public piece are unmarked, are those behind the step
 pub marks_behind : (public : PublicStreams) (word : Option ℕ) (s t : Hart) (p q : List ℕ) (i : Instr) (m : PathMarks) (base a stream from at : ℕ) (regs : List WordMarks) (mid bytes : List Bool) →
-    Some i ≡ option_map decode word → step_of s i ≡ Goes t p → base ≡ s.ram.base → a ≡ access_at s.regs i → record { regs = regs; bytes = mid } ≡ moved base a i m →
+    Some i ≡ option_map decode word → step_of s i ≡ Goes t p → base ≡ s.ram.base → a ≡ access_at s.regs i → record { regs = regs; bytes = mid } ≡ marks_after_access base a i m →
     q ≡ p → stream ≡ reg s.regs 10 → at ≡ from - base → from ≡ reg s.regs 11 → bytes ≡ unmarked_at at (if public_in public stream then q else []) mid →
     record { regs = regs; bytes = bytes } ≡ after_step (public_in public) s (instr_at word) p m
 marks_behind public word s t p q i m base a stream from at regs mid bytes here e eb ea em eq es et ef ey =
     let unmark : PathMarks → ℕ → ℕ → PathMarks = λ n at stream. record n { bytes = unmarked_at at (if public_in public stream then p else []) n.bytes } in
     let place : at ≡ reg s.regs 11 - s.ram.base = et ∙ ap₂ (λ f b. f - b) ef eb in
     let put = ey ∙ ap (λ q. unmarked_at at (if public_in public stream then q else []) mid) eq in
-    let made : record { regs = regs; bytes = mid } ≡ after_instr s i m = em ∙ ap₂ (λ b a. moved b a i m) eb ea ∙ moves s t p i m e in
+    let made : record { regs = regs; bytes = mid } ≡ after_instr s i m = em ∙ ap₂ (λ b a. marks_after_access b a i m) eb ea ∙ moves s t p i m e in
     ap (λ b. record { regs = regs; bytes = b }) put
     ∙ ap₂ (unmark (record { regs = regs; bytes = mid })) place es
     ∙ ap (λ n. unmark n (reg s.regs 11 - s.ram.base) (reg s.regs 10)) made

@@ -13,7 +13,7 @@ use Rattle.isa_step.specs.declared.stepped.Stepped.TheVariants.{Next, Exit, Trap
 use Rattle.isa_step.proofs.Runs.{Rest, at_end, at_exit, at_next, at_start, at_trap, exits, goes, traps}
 use Rattle.window_model.specs.Fetch.{instr_at, kind_at}
 use Rattle.secret_marks.specs.declared.PublicStreams.{PublicStreams}
-use Rattle.secret_marks.specs.Published.{Public, published, published_in, then_published}
+use Rattle.secret_marks.specs.Published.{Public, public_piece, published_in, then_published}
 use Rattle.secret_marks.specs.Streams.{public_in}
 use Rattle.constant_time.specs.declared.FirstStep.{FirstStep}
 use Rattle.constant_time.specs.PathMarks.{PathMarks, after_step, first_behind, first_shown, shows}
@@ -51,12 +51,12 @@ hidden_is false kind e = refl
 
 -- how many bytes are published of a piece, by equal streams
 pub count_is : (p p2 : PublicStreams) (s : Hart) (stream : ℕ) (piece piece2 : List ℕ) (count : ℕ) → count ≡ length (if public_in p stream then piece else []) →
-    p ≡ p2 → stream ≡ reg s.regs 10 → piece ≡ piece2 → count ≡ length (published (public_in p2) s piece2)
+    p ≡ p2 → stream ≡ reg s.regs 10 → piece ≡ piece2 → count ≡ length (public_piece (public_in p2) s piece2)
 count_is p p2 s stream piece piece2 count h ep es eq =
     h
     ∙ ap (λ p. length (if public_in p stream then piece else [])) ep
     ∙ ap (λ t. length (if public_in p2 t then piece else [])) es
-    ∙ ap (λ q. length (published (public_in p2) s q)) eq
+    ∙ ap (λ q. length (public_piece (public_in p2) s q)) eq
 
 -- ---- a loop of n steps, behind i of them
 
@@ -131,14 +131,14 @@ module _ (n i : ℕ) (begin now : MarkedState) (count : ℕ) (l : Left n i begin
       -- a step that goes on leaves one step less
       pub left_next : (next : MarkedState) (p : List ℕ) → record { hart = next.hart; piece = p; stepped = Next } ≡ outcome now.hart (isa_step code now.hart) →
           next.marks ≡ after_step public now.hart (instr_at (code now.hart.pc)) p now.marks → next.code ≡ now.code → next.public ≡ now.public →
-          (more : ℕ) → more ≡ length (published public now.hart p) → more ≤ 1024 → (sum : ℕ) → sum ≡ count + more → Left n (i + 1) begin next sum
+          (more : ℕ) → more ≡ length (public_piece public now.hart p) → more ≤ 1024 → (sum : ℕ) → sum ≡ count + more → Left n (i + 1) begin next sum
       left_next next p eo em ec ep more is most sum es =
           let eg = goes now.hart next.hart p (isa_step code now.hart) eo in
           let same : next ≡ record { code = now.code; hart = next.hart; marks = after_step public now.hart (instr_at (code now.hart.pc)) p now.marks; public = now.public } =
           ap₂ (λ c q. record { code = c; hart = next.hart; marks = next.marks; public = q }) ec ep ∙ ap (λ m. record { code = now.code; hart = next.hart; marks = m; public = now.public }) em in
           let P : CodeText → Type 0 = λ c. Rest (run_of n begin) (isa (word_at c) next.hart (n - (i + 1))) (i + 1) in
           let rest = published_in public code (n - (i + 1)) next.hart in
-          let split = length-append (published public now.hart p) rest in
+          let split = length-append (public_piece public now.hart p) rest in
           let all = all_by (Goes next.hart p) eg in
           let others : published_of (n - (i + 1)) next ≡ length rest = ap (published_of (n - (i + 1))) same in
           let few = l.few in

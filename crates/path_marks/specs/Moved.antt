@@ -22,18 +22,18 @@ InMemory base a (instr.Store op rs1 rs2 imm) size = (a - base) + size_of op ≤ 
 InMemory base a i size = Unit {0}
 
 -- the marks behind an instruction that accesses memory with this base at this address, where it doesn't fault
-abbrev pub moved : ℕ → ℕ → Instr → PathMarks → PathMarks
-moved base a (instr.Load op rd rs1 imm) m =
+abbrev pub marks_after_access : ℕ → ℕ → Instr → PathMarks → PathMarks
+marks_after_access base a (instr.Load op rd rs1 imm) m =
     let w = loaded_marks op (λ b. get_or m.bytes (b - base) false) a in
     record m { regs = with_marks m.regs (unless_zero rd.number) w }
-moved base a (instr.Store op rs1 rs2 imm) m =
+marks_after_access base a (instr.Store op rs1 rs2 imm) m =
     record m { bytes = with_byte_marks m.bytes (a - base) (size_of op) (get_or m.regs rs2.number unmarked) }
-moved base a instr.Ecall m = record m { regs = slice_set m.regs 10 unmarked }
-moved base a i m =
+marks_after_access base a instr.Ecall m = record m { regs = slice_set m.regs 10 unmarked }
+marks_after_access base a i m =
     let w = result_marks i (first_mark (reads_of i) m.regs) (second_mark (reads_of i) m.regs) in
     record m { regs = with_marks m.regs (writes_of i) w }
 
 -- marks move as the next instruction does in this state, if there is one and what it stores lies in memory
 abbrev pub MovesAs : Option Instr → Hart → PathMarks → PathMarks → Type 0
 MovesAs next s m m2 =
-    (i : Instr) → Some i ≡ next → InMemory s.ram.base (access_at s.regs i) i (length m.bytes) → m2 ≡ moved s.ram.base (access_at s.regs i) i m
+    (i : Instr) → Some i ≡ next → InMemory s.ram.base (access_at s.regs i) i (length m.bytes) → m2 ≡ marks_after_access s.ram.base (access_at s.regs i) i m

@@ -4,7 +4,7 @@ ghost use Rattle.elf_loader.specs.inner.Code.{instr_at};
 ghost use Rattle.rv_types.specs.declared.Op.TheVariants.{Lw};
 ghost use Rattle.secret_marks.specs.Results.{loaded_marks, result_marks};
 ghost use Rattle.secret_marks.specs.Marks.{with_byte_marks};
-ghost use Rattle.path_marks.specs.Moved.{InMemory, MovesAs, access_at, moved};
+ghost use Rattle.path_marks.specs.Moved.{InMemory, MovesAs, access_at, marks_after_access};
 
 use crate::sources::access_at;
 use isa_step::Isa;
@@ -88,7 +88,8 @@ fn move_marks(
 )
     ensures marks { InMemory base (access_at values.now instr.now) instr.now (length bytes.old.items)
         → record { regs = regs.new; bytes = bytes.new.items }
-        ≡ moved base (access_at values.now instr.now) instr.now (record { regs = regs.old; bytes = bytes.old.items }) }
+        ≡ marks_after_access base (access_at values.now instr.now) instr.now
+        (record { regs = regs.old; bytes = bytes.old.items }) }
     ensures memory { length bytes.new.items ≡ length bytes.old.items }
 {
     match *instr {

@@ -4,7 +4,7 @@ use Rattle.std.specs.Coded.{Coded, code_by, coded×, coded_ℕ, coded_list, code
 use Rattle.machine_desc.specs.declared.Desc.{Desc}
 use Rattle.window_model.specs.contracts.Target as target
 use Rattle.window_model.specs.declared.Target.{Target}
-use Rattle.window_model.specs.Resolve.{index, moved}
+use Rattle.window_model.specs.Resolve.{index, counter_after_branch}
 
 -- the counters of branches and the targets of JALRs, as many as there are
 pub record Tables : Type 0 where
@@ -36,7 +36,7 @@ target_at t pc = target_if pc (slice_index_or t.targets (target_place t pc) None
 
 -- the counter at this place, after its branch went this way
 abbrev pub counter_after : Tables → ℕ → Bool → ℕ
-counter_after t place way = moved way (slice_index t.counters place)
+counter_after t place way = counter_after_branch way (slice_index t.counters place)
 
 -- there is a description that asks for so many counters and targets
 pub record IsAsked (counters targets : ℕ) : Type 0 where

@@ -1,6 +1,6 @@
 //! The counters and the targets.
 ghost use Rattle.std.specs.Prelude.{◌≡◌, ◌<◌, length, replicate, slice_set, IfOk, None, Some};
-ghost use Rattle.window_model.specs.Resolve.{moved};
+ghost use Rattle.window_model.specs.Resolve.{counter_after_branch};
 ghost use Rattle.window_model.specs.declared.Event.TheVariants as event;
 ghost use Rattle.predictor.specs.Tables.{IsAsked, target_place, is_taken, target_if, target_at, counter_after};
 
@@ -113,7 +113,7 @@ impl Predictor {
 
 // A counter after its branch went this way.
 fn moved(counter: u8, taken: bool) -> u8
-    ensures { result ≡ moved taken counter }
+    ensures { result ≡ counter_after_branch taken counter }
 {
     if !taken {
         return counter.saturating_sub(1);

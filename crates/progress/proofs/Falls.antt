@@ -14,7 +14,7 @@ use Rattle.window_model.specs.declared.Miss.{Miss}
 use Rattle.window_model.specs.declared.Progress.TheVariants.{Waiting, Done}
 use Rattle.window_model.specs.State.{Machine}
 use Rattle.window_model.specs.Order.{is_done}
-use Rattle.window_model.specs.Fill.{completed, completes}
+use Rattle.window_model.specs.Fill.{after_completion, completes}
 use Rattle.window_model.specs.Issue.{issue}
 use Rattle.window_model.specs.Rename.{rename, at_once, rename_one}
 use Rattle.window_model.specs.Fetch.{fetch, item_at}
@@ -98,17 +98,17 @@ entry_there d code e es x i l s t h =
     let x0 : Machine = record x { window = e ∷ es } in
     let a = before_resolve d x0 in
     let c = x.cycle + 1 in
-    let r = resolve_oldest d (completed c e) _ a in
+    let r = resolve_oldest d (after_completion c e) _ a in
     let parts : HasParts r.entry = (subst (Each HasParts) r.shape (sized_before_clear d x0 i s).parts).0 in
     let cleared : StaysCleared d r.entry = (subst (Each (StaysCleared d)) r.shape (timely_before_clear d x0 i t).cleared).0 in
-    let o = clear_goes d (completed c e) (before_clear d x0) r parts cleared in
+    let o = clear_goes d (after_completion c e) (before_clear d x0) r parts cleared in
     let b = at_retire d x0 in
     let b2 : Machine = record b { window = o.entry ∷ o.rest } in
     let same : b ≡ b2 = ap (λ w. let m : Machine = record b { window = w } in m) o.shape in
     let u : Timely d b2 = subst (Timely d) same (timely_at_retire d x0 i t) in
     let stuck : may_go o.entry ≡ false = subst Stuck o.shape h.stuck in
-    let waits : is_done (completed c e).state ≡ false = not_done (is_done (completed c e).state) (λ p. sym (o.goes p) ∙ stuck) in
-    let spare : completed c e ≡ e = spared (completes c e) e waits in
+    let waits : is_done (after_completion c e).state ≡ false = not_done (is_done (after_completion c e).state) (λ p. sym (o.goes p) ∙ stuck) in
+    let spare : after_completion c e ≡ e = spared (completes c e) e waits in
     let f = clear_resolves d a (before_clear d x0) (resolve_resolves d a) in
     let began : Began d x0 b2 = record { cycle = f.cycle; misses = f.misses; divider = f.divider } in
     let sizes : Sized d b2 = subst (Sized d) same (sized_at_retire d x0 i s) in

@@ -27,7 +27,7 @@ use Rattle.window_model.specs.Around.{Around, around, is_free}
 use Rattle.window_model.specs.declared.lookup.Lines.{Lines}
 use Rattle.window_model.specs.declared.lookup.Access.{Access}
 use Rattle.window_model.specs.declared.lookup.Access.TheVariants.{Faults, Forwards, Looks, Waits}
-use Rattle.window_model.specs.Access.{access_at, all_covered, any_store_hidden, looked_up, misses_after, prefetched, requests, unless_lacking}
+use Rattle.window_model.specs.Access.{access_at, all_covered, any_store_hidden, looked_up, misses_after, prefetch_request, requests, unless_lacking}
 use Rattle.window_model.specs.Retire.{op_of, byte_count}
 use Rattle.window_model.specs.MayIssue.{effect_of, may_issue_as}
 use Rattle.window_model.specs.Ports.{AddressPort, DataPort, DivPort, LoadPort, is_granted, may_at, ports, port_of, same_port}
@@ -132,7 +132,7 @@ module _ (d : Desc) (now : Around) (i : IsDesc d) (allows : Allows d now.ram) (o
   abbrev found : Lines
   found = looked_up d now a (size_of op)
 
-  by_room : (c : Bool) → nat_le (length now.misses + length (requests found)) d.cache_mshrs ≡ c → WaitsForSome now (if c then Looks found (prefetched d now found) else Waits)
+  by_room : (c : Bool) → nat_le (length now.misses + length (requests found)) d.cache_mshrs ≡ c → WaitsForSome now (if c then Looks found (prefetch_request d now found) else Waits)
   by_room true h = tt
   by_room false h =
       let few = requests_few found in

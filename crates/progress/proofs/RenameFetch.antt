@@ -10,7 +10,7 @@ use Rattle.machine_desc.specs.Ranges.{IsDesc}
 use Rattle.window_model.specs.declared.Entry.{Entry}
 use Rattle.window_model.specs.declared.Item.{Item}
 use Rattle.window_model.specs.State.{Machine}
-use Rattle.window_model.specs.Rename.{at_once, fits, fits_as, renamed, rename_one, rename_up_to, rename}
+use Rattle.window_model.specs.Rename.{at_once, fits, fits_as, entry_of_item, rename_one, rename_up_to, rename}
 use Rattle.window_model.specs.Fetch.{item_at, fetch_one, fetch_up_to, fetch}
 use Rattle.window_model.proofs.Walks.{rename_keep, by_renamed, by_fetched}
 use Rattle.window_model.proofs.Booleans.{is_below, or_true}
@@ -39,7 +39,7 @@ appends_then x y z p q = record {
 
 module _ (d : Desc) where
   one_renamed : (i : Item) (rest : List Item) (x : Machine) → Appends x (rename_one d i rest x).machine
-  one_renamed i rest x = record { cycle = refl; misses = refl; divider = refl; window = (renamed d x.next_serial i ∷ [], refl) }
+  one_renamed i rest x = record { cycle = refl; misses = refl; divider = refl; window = (entry_of_item d x.next_serial i ∷ [], refl) }
 
   -- however many items are renamed, entries only come behind the others
   renamed_up_to : (n : ℕ) (x : Machine) → Appends x (rename_up_to d n x).machine

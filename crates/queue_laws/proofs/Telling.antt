@@ -15,7 +15,7 @@ use Rattle.window_model.specs.Retire.{stored_of, byte_count}
 use Rattle.window_model.proofs.Booleans.{both}
 use Rattle.lsq.specs.declared.store.Span.{Span}
 use Rattle.lsq.specs.declared.store.Store.{Store}
-use Rattle.lsq.specs.Merging.{byte_in_span, byte_or_memory, forwarded}
+use Rattle.lsq.specs.Merging.{byte_in_span, byte_or_memory, forwarded_byte}
 use Rattle.queue_laws.specs.Window.{Area, Shown, StoresStandFor, area_in, area_of, shown_entry, shown_store, stores_in}
 use Rattle.queue_laws.specs.Laws.{BytesAsLoaded, CoveredAsAsked}
 use Rattle.queue_laws.proofs.Shown.{all_computed, all_have, computed_one, covers_shown, reaches_shown}
@@ -41,7 +41,7 @@ byte_known a None stored = refl
 byte_known a (Some k) None = refl
 byte_known a (Some k) (Some stored) = refl
 
-forwarded_known : (a : ℕ) (ss : List Store) → forwarded ss a ≡ forwarded_shown (map shown_store ss) a
+forwarded_known : (a : ℕ) (ss : List Store) → forwarded_byte ss a ≡ forwarded_shown (map shown_store ss) a
 forwarded_known a [] = refl
 forwarded_known a (s ∷ ss) = ap₂ option_or (byte_known a s.span s.stored) (forwarded_known a ss)
 
@@ -113,7 +113,7 @@ found_entries a (e ∷ before) t u =
 
 -- ---- a byte
 
-forwarded_is : (a : ℕ) (ss : List Store) (before : List Entry) → StoresStandFor ss before → list_all (gives a) before ≡ true → forwarded ss a ≡ option_map (byte_from a) (find (covers a) before)
+forwarded_is : (a : ℕ) (ss : List Store) (before : List Entry) → StoresStandFor ss before → list_all (gives a) before ≡ true → forwarded_byte ss a ≡ option_map (byte_from a) (find (covers a) before)
 forwarded_is a ss before h t =
     forwarded_known a ss ∙ ap (λ ws. forwarded_shown ws a) h ∙ found_entries a before t (all_have ss before h)
 

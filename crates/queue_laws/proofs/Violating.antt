@@ -18,7 +18,7 @@ use Rattle.lsq.specs.declared.load.Load.{Load}
 use Rattle.lsq.specs.declared.store.Span.{Span}
 use Rattle.lsq.specs.declared.store.Store.{Store}
 use Rattle.lsq.specs.Queues.{Queues}
-use Rattle.lsq.specs.Clearing.{is_violated, passed_wrongly, store_of, violated}
+use Rattle.lsq.specs.Clearing.{is_violated, passed_wrongly, store_of, violated_serial}
 use Rattle.queue_laws.specs.Window.{Area, Others, Reading, Shown, ShownClearing, ShownLoad, StandFor, Tracks, area_in, area_of, reading_of, readers_in, shown_cleared, shown_clearing, shown_entry, shown_load, shown_reader, shown_store, stores_in}
 use Rattle.queue_laws.specs.Laws.{Violates}
 use Rattle.queue_laws.proofs.Around.{others_older, store_alone, stores_around}
@@ -67,7 +67,7 @@ serial_reader (Some e) = refl
 
 -- the load that is found is the first of the window's that shows so
 violated_shown : (s : Store) (ls : List Load) (window : List Entry) → map shown_load ls ≡ readers_in window →
-    violated s ls ≡ option_map (λ e. e.serial) (find (λ e. is_load e.item.kind && wrong_shown (shown_store s) (shown_cleared s) (shown_reader e)) window)
+    violated_serial s ls ≡ option_map (λ e. e.serial) (find (λ e. is_load e.item.kind && wrong_shown (shown_store s) (shown_cleared s) (shown_reader e)) window)
 violated_shown s ls window h =
     let wrong = wrong_shown (shown_store s) (shown_cleared s) in
     ap (option_map (λ (l : Load). l.serial)) (find_same (is_violated s) (λ l. wrong (shown_load l)) (violated_known s) ls)
@@ -178,7 +178,7 @@ computed q before younger store s k =
 -- the queue's oldest load that a store violates is the one that the machine finds
 pub violates : Violates
 violates q before younger store s t r k =
-    by_own (λ o. option_and_then (λ s. violated s q.loads) o ≡ option_map (λ p. p.entry.serial) (first (λ between e. violates_entry store e) younger)) q before younger store s t r k
+    by_own (λ o. option_and_then (λ s. violated_serial s q.loads) o ≡ option_map (λ p. p.entry.serial) (first (λ between e. violates_entry store e) younger)) q before younger store s t r k
     (λ own_store o.
     let window = before ++ store ∷ younger in
     let reach = λ (a : ℕ). covers_shown a store k (computed q before younger store s k) in

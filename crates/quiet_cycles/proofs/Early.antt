@@ -15,7 +15,7 @@ use Rattle.window_model.specs.declared.Target.{Target}
 use Rattle.window_model.specs.declared.Way.TheVariants.{Jump}
 use Rattle.window_model.specs.State.{Machine, After, nothing}
 use Rattle.window_model.specs.Order.{Place, first, is_faulty}
-use Rattle.window_model.specs.Fill.{fill, is_due, lines, with_line, complete, completed, completes, completes_at}
+use Rattle.window_model.specs.Fill.{fill, is_due, lines, with_line, complete, after_completion, completes, completes_at}
 use Rattle.window_model.specs.SecondLevel.{second_with_line}
 use Rattle.window_model.specs.Resolve.{resolve, resolve_at, may_resolve, learn, learn_as, learn_target, next_of}
 use Rattle.machine_desc.specs.Questions.{loads_pass}
@@ -63,16 +63,16 @@ NoneDone cycle window = Lacks (completes cycle) window
 pub none_done : (x : Machine) → (complete x).events ≡ [] → NoneDone x.cycle x.window
 none_done x h = none_left (completes x.cycle) x.window (map_empty (λ (e : Entry). event.Done e.serial) _ h)
 
-stays_busy : (cycle : ℕ) (es : List Entry) → NoneDone cycle es → map (completed cycle) es ≡ es
+stays_busy : (cycle : ℕ) (es : List Entry) → NoneDone cycle es → map (after_completion cycle) es ≡ es
 stays_busy cycle [] h = refl
 stays_busy cycle (e ∷ es) h =
-    ap (λ b. (if b then record e { state = Done } else e) ∷ map (completed cycle) es) h.0 ∙ ap (λ w. e ∷ w) (stays_busy cycle es h.1)
+    ap (λ b. (if b then record e { state = Done } else e) ∷ map (after_completion cycle) es) h.0 ∙ ap (λ w. e ∷ w) (stays_busy cycle es h.1)
 
 -- where no entry becomes Done, Complete does nothing
 pub complete_nothing : (x : Machine) → NoneDone x.cycle x.window → complete x ≡ nothing x
 complete_nothing x h =
     let left : List Entry → List Entry → After = λ done window. record { machine = record x { window = window }; events = map (λ (e : Entry). event.Done e.serial) done } in
-    ap (λ done. left done (map (completed x.cycle) x.window)) (none_kept (completes x.cycle) x.window h) ∙ ap (left []) (stays_busy x.cycle x.window h)
+    ap (λ done. left done (map (after_completion x.cycle) x.window)) (none_kept (completes x.cycle) x.window h) ∙ ap (left []) (stays_busy x.cycle x.window h)
 
 not_done_now : (n before cycle : ℕ) (s : Progress) → NotDoneBefore n before s → before < cycle → cycle < n → completes_at cycle s ≡ false
 not_done_now n before cycle (Busy due) h l m = not_now n before cycle due h l m

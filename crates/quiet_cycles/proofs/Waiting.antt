@@ -20,7 +20,7 @@ use Rattle.window_model.specs.declared.lookup.Lines.{Lines}
 use Rattle.window_model.specs.declared.lookup.Request.{Request}
 use Rattle.window_model.specs.declared.lookup.Access.{Access}
 use Rattle.window_model.specs.declared.lookup.Access.TheVariants.{Waits}
-use Rattle.window_model.specs.Access.{cache_after, look_events, looked_up, misses_after, prefetched, second_after}
+use Rattle.window_model.specs.Access.{cache_after, look_events, looked_up, misses_after, prefetch_request, second_after}
 use Rattle.window_model.specs.MayIssue.{effect_of}
 use Rattle.window_model.specs.Ports.{AddressPort, DataPort, DivPort, LoadPort, port_of, ports, asking, is_granted, may_at}
 use Rattle.window_model.specs.Issue.{Begun, issue, issue_entry, issue_store, issue_whole, begin_as, if_granted, with_address, with_data, load_as, access_of, value_loaded, waits, after_load, divider_after}
@@ -63,7 +63,7 @@ lines_tell serial found ahead h = cc
 module _ (d : Desc) (now : Around) (before : List Entry) (e : Entry) where
   -- a load that is granted its port and has no event waits for a miss register
   load_waits : (f : Effect) (v : ℕ) → (load_as (access_of d now before e) d now e f v).events ≡ [] → access_of d now before e ≡ Waits
-  load_waits f v = by_load d now (λ a. (load_as a d now e f v).events ≡ [] → a ≡ Waits) (λ h. absurd (cc)) (λ a n some room h. absurd (lines_tell e.serial (looked_up d now a n) (prefetched d now (looked_up d now a n)) h))
+  load_waits f v = by_load d now (λ a. (load_as a d now e f v).events ≡ [] → a ≡ Waits) (λ h. absurd (cc)) (λ a n some room h. absurd (lines_tell e.serial (looked_up d now a n) (prefetch_request d now (looked_up d now a n)) h))
       (λ a n some full h. refl) (λ c h. absurd (cc)) before e
 
   -- an entry that begins nothing stays as it is

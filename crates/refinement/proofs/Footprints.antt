@@ -21,9 +21,9 @@ use Rattle.refinement.proofs.Serials.{goes_same}
 use Rattle.refinement.proofs.Waking.{Gives, Wakes, awaited_woken, gives_go, strike_each, woken, strike_nothing}
 use Rattle.refinement.proofs.Youngest.{root_without, unretired_in, unretired_out, unretired_roots, unretired_written}
 use Rattle.refinement.specs.Footprint.{Footprint, Found, StoreFootprint, Terms, footprint_by, footprint_of, load_footprint, look_back, store_footprint, unretired_sources, unretired_write}
-use Rattle.refinement.specs.Roots.{base_root, root_of_source, unretired, youngest_root}
+use Rattle.refinement.specs.Roots.{base_root, root_of_source, root_in_flight, youngest_root}
 use Rattle.refinement.specs.Stations.{GoesOn}
-use Rattle.refinement.specs.Waiters.{Hold, Waiter, awaited, awaited_of, gives_at, waiter_of, write_of}
+use Rattle.refinement.specs.Waiters.{Hold, Waiter, awaited_serial, awaited_of, gives_at, waiter_of, write_of}
 use Rattle.refinement.specs.Writers.{writer_of_source}
 
 -- ---- serials
@@ -114,7 +114,7 @@ look_woken h h2 ss b b2 e v =
     found_by (look_back h2 b2 e) (record (look_back h b e) { awaits = map (strike_each ss) (look_back h b e).awaits })
     (map_same (root_of_source b2) (root_of_source b) os (source_alike b b2 on))
     (map_same (writer_of_source b2) (writer_of_source b) os (writer_alike b b2 on))
-    (map_same (awaited h2 b2) (λ o. strike_each ss (awaited h b o)) os (awaited_woken h h2 ss b b2 v) ∙ sym (map_twice (strike_each ss) (awaited h b) os))
+    (map_same (awaited_serial h2 b2) (λ o. strike_each ss (awaited_serial h b o)) os (awaited_woken h h2 ss b b2 v) ∙ sym (map_twice (strike_each ss) (awaited_serial h b) os))
 
 -- no station awaits these serials any more
 abbrev pub wake : List ℕ → Footprint → Footprint
@@ -125,7 +125,7 @@ pub footprint_woken : (t : Terms) (h2 : Hold) (ss : List ℕ) (b b2 : List Entry
     footprint_of (record t { hold = h2 }) b2 e2 ≡ wake ss (footprint_of t b e)
 footprint_woken t h2 ss b b2 e e2 v w =
     let l = look_back t.hold b e in
-    ap (λ (i : Item). footprint_by t (record { roots = map (root_of_source b2) (two (reads_of i.instr)); writers = map (writer_of_source b2) (two (reads_of i.instr)); awaits = map (awaited h2 b2) (two (reads_of i.instr)) }) e2) w.gives.on.item
+    ap (λ (i : Item). footprint_by t (record { roots = map (root_of_source b2) (two (reads_of i.instr)); writers = map (writer_of_source b2) (two (reads_of i.instr)); awaits = map (awaited_serial h2 b2) (two (reads_of i.instr)) }) e2) w.gives.on.item
     ∙ w.same t (look_back h2 b2 e)
     ∙ ap (λ l. footprint_by t l e) (look_woken t.hold h2 ss b b2 e v)
     ∙ ap (λ w. record (footprint_by t l e) { waiter = w }) (if_mapped (woken ss) (is_waiting e.state) (waiter_of t.version l.awaits e))
@@ -148,21 +148,21 @@ gives_same h e = record { on = goes_same e; gives = sym (or_false (gives_at h e)
 -- ---- the oldest leaves
 
 writer_without : (f : ℕ) (before : List Entry) (h : Entry) → All (λ e. f ≤ e.serial) before → h.serial < f → (o : Option ℕ) →
-    unretired f (writer_of_source (before ++ h ∷ []) o) ≡ writer_of_source before o
+    root_in_flight f (writer_of_source (before ++ h ∷ []) o) ≡ writer_of_source before o
 writer_without f before h a lt None = refl
 writer_without f [] h a lt (Some r) = by_writes (writes r h)
   where
-    by_writes : (b : Bool) → unretired f (option_map (λ e. e.serial) (cond b (Some h) None)) ≡ None
+    by_writes : (b : Bool) → root_in_flight f (option_map (λ e. e.serial) (cond b (Some h) None)) ≡ None
     by_writes true = unretired_out f h.serial lt
     by_writes false = refl
 writer_without f (e ∷ before) h a lt (Some r) = by_writes (writes r e) (writer_without f before h (All-tail (λ e. f ≤ e.serial) e before a) lt (Some r))
   where
-    by_writes : (b : Bool) → unretired f (option_map (λ e. e.serial) (writer (before ++ h ∷ []) r)) ≡ option_map (λ e. e.serial) (writer before r) →
-        unretired f (option_map (λ e. e.serial) (cond b (Some e) (writer (before ++ h ∷ []) r))) ≡ option_map (λ e. e.serial) (cond b (Some e) (writer before r))
+    by_writes : (b : Bool) → root_in_flight f (option_map (λ e. e.serial) (writer (before ++ h ∷ []) r)) ≡ option_map (λ e. e.serial) (writer before r) →
+        root_in_flight f (option_map (λ e. e.serial) (cond b (Some e) (writer (before ++ h ∷ []) r))) ≡ option_map (λ e. e.serial) (cond b (Some e) (writer before r))
     by_writes true k = unretired_in f e.serial (All-head (λ e. f ≤ e.serial) e before a)
     by_writes false k = k
 
-awaited_without : (hold : Hold) (before : List Entry) (h : Entry) → gives_at hold h ≡ true → (o : Option ℕ) → awaited hold (before ++ h ∷ []) o ≡ awaited hold before o
+awaited_without : (hold : Hold) (before : List Entry) (h : Entry) → gives_at hold h ≡ true → (o : Option ℕ) → awaited_serial hold (before ++ h ∷ []) o ≡ awaited_serial hold before o
 awaited_without hold before h d None = refl
 awaited_without hold [] h d (Some r) = by_writes (writes r h)
   where
@@ -177,33 +177,33 @@ awaited_without hold (e ∷ before) h d (Some r) = by_writes (writes r e) (await
 
 -- only roots and writers from a serial on are told
 abbrev pub unretired_store : ℕ → StoreFootprint → StoreFootprint
-unretired_store oldest s = record s { root = unretired oldest s.root }
+unretired_store oldest s = record s { root = root_in_flight oldest s.root }
 
 -- a footprint, as far as its roots and writers are told
 abbrev pub footprint_unretired : ℕ → Footprint → Footprint
 footprint_unretired oldest k = record k { sources = unretired_sources oldest k.sources; write = option_map (unretired_write oldest) k.write; store = option_map (unretired_store oldest) k.store }
 
 -- of a pair of roots the first, where it is told
-pub first_shown : (f : ℕ) (rs : List (Option ℕ)) → base_root (map (unretired f) rs) ≡ unretired f (base_root rs)
+pub first_shown : (f : ℕ) (rs : List (Option ℕ)) → base_root (map (root_in_flight f) rs) ≡ root_in_flight f (base_root rs)
 first_shown f [] = refl
 first_shown f (r ∷ rs) = refl
 
 -- what an entry writes, where its sources' roots are told
-pub write_shown : (f : ℕ) (e : Entry) (rs : List (Option ℕ)) → f ≤ e.serial → write_of e (map (unretired f) rs) ≡ option_map (unretired_write f) (write_of e rs)
+pub write_shown : (f : ℕ) (e : Entry) (rs : List (Option ℕ)) → f ≤ e.serial → write_of e (map (root_in_flight f) rs) ≡ option_map (unretired_write f) (write_of e rs)
 write_shown f e rs le = by_write (writes_of e.item.instr)
   where
-    by_write : (o : Option ℕ) → option_map (λ r. record { serial = e.serial; register = r; root = root_written e.item.kind e.serial (map (unretired f) rs) }) o
+    by_write : (o : Option ℕ) → option_map (λ r. record { serial = e.serial; register = r; root = root_written e.item.kind e.serial (map (root_in_flight f) rs) }) o
         ≡ option_map (unretired_write f) (option_map (λ r. record { serial = e.serial; register = r; root = root_written e.item.kind e.serial rs }) o)
     by_write None = refl
     by_write (Some r) = ap (λ root. Some (record { serial = e.serial; register = r; root = root })) (sym (unretired_written f e.item.kind e.serial rs le))
 
 abbrev found_unretired : ℕ → Found → Found
-found_unretired oldest l = record l { roots = map (unretired oldest) l.roots; writers = map (unretired oldest) l.writers }
+found_unretired oldest l = record l { roots = map (root_in_flight oldest) l.roots; writers = map (root_in_flight oldest) l.writers }
 
 footprint_by_unretired : (t : Terms) (f : ℕ) (l : Found) (e : Entry) → f ≤ e.serial → footprint_by t (found_unretired f l) e ≡ footprint_unretired f (footprint_by t l e)
 footprint_by_unretired t f l e le =
-    let rs = map (unretired f) l.roots in
-    ap₂ (λ (w : Option Write) (s : Option StoreFootprint). record (footprint_by t l e) { sources = record { roots = map (unretired f) l.roots; writers = map (unretired f) l.writers }; write = w; store = s })
+    let rs = map (root_in_flight f) l.roots in
+    ap₂ (λ (w : Option Write) (s : Option StoreFootprint). record (footprint_by t l e) { sources = record { roots = map (root_in_flight f) l.roots; writers = map (root_in_flight f) l.writers }; write = w; store = s })
     (write_shown f e l.roots le)
     (ap (λ root. if is_store e.item.kind then Some (store_footprint t root e) else None) (first_shown f l.roots) ∙ if_mapped (unretired_store f) (is_store e.item.kind) (store_footprint t (base_root l.roots) e))
 
@@ -215,8 +215,8 @@ footprint_without t f before h e a lt g le =
     ap (λ l. footprint_by t l e)
     (found_by (look_back t.hold before e) (found_unretired f (look_back t.hold old e))
     (sym (unretired_roots f before old os (root_without f before h a lt)))
-    (sym (map_twice (unretired f) (writer_of_source old) os ∙ map_same (λ o. unretired f (writer_of_source old o)) (writer_of_source before) os (writer_without f before h a lt)))
-    (sym (map_same (awaited t.hold old) (awaited t.hold before) os (awaited_without t.hold before h g))))
+    (sym (map_twice (root_in_flight f) (writer_of_source old) os ∙ map_same (λ o. root_in_flight f (writer_of_source old o)) (writer_of_source before) os (writer_without f before h a lt)))
+    (sym (map_same (awaited_serial t.hold old) (awaited_serial t.hold before) os (awaited_without t.hold before h g))))
     ∙ footprint_by_unretired t f (look_back t.hold old e) e le
 
 -- what the entries look back on is without the oldest

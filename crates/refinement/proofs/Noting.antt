@@ -34,7 +34,7 @@ use Rattle.refinement.specs.Refines.{Columns, footprints, parts, terms}
 use Rattle.refinement.specs.Roots.{base_root, root_of_source, source_roots}
 use Rattle.refinement.specs.Stations.{GoesOn, left_held, station_of}
 use Rattle.refinement.specs.Steps.{ClearsAt, IssuesAt, with_cleared, with_issued}
-use Rattle.refinement.specs.Waiters.{Hold, Waiter, awaited, gives_at, oldest_of, waiter_in, waiter_of, wants_of}
+use Rattle.refinement.specs.Waiters.{Hold, Waiter, awaited_serial, gives_at, oldest_of, waiter_in, waiter_of, wants_of}
 use Rattle.refinement.specs.Writers.{writer_of_source}
 use Rattle.refinement.specs.Noted as queues
 
@@ -229,7 +229,7 @@ refines_issued p i e e2 w s h waits issued on_so tracks_so =
     let at : slice_get ks i ≡ Some k = each_at (footprint_of t) [] p.window i e h in
     let x = waiter_of t.version (look_back t.hold b e).awaits e in
     let rises = footprint_rise t [] p.window s.rise in
-    let noted = queues.noted w e2 p.queues in
+    let noted = queues.queues_with_parts w e2 p.queues in
     let reads = p.tracked && has_read e2 in
     record {
       rise = rise_on p.window new go s.rise;
@@ -241,7 +241,7 @@ refines_issued p i e e2 w s h waits issued on_so tracks_so =
             writes = s.columns.writes ∙ frame_at (unretired_write f) (λ k. k.write) ks i k k2 at
                 (ap₂ (λ (n : ℕ) (i : Item). option_map (λ r. record { serial = n; register = r; root = root_written i.kind n (map (root_of_source b) (two (reads_of i.instr))) }) (writes_of i.instr)) on.serial on.item);
             waiters = waiters_left t p.version p.held ks (station_of i p.window) i k x e2 k2 (station_place t p.window i) s.columns.waiters at (ap (λ b. if b then Some x else None) waits)
-                (ap₂ (λ (n : ℕ) (i : Item). if is_waiting e2.state then Some (record { serial = n; awaits = map (awaited t.hold b) (two (reads_of i.instr)); wants = wants_of p.version e2 }) else None) on.serial on.item);
+                (ap₂ (λ (n : ℕ) (i : Item). if is_waiting e2.state then Some (record { serial = n; awaits = map (awaited_serial t.hold b) (two (reads_of i.instr)); wants = wants_of p.version e2 }) else None) on.serial on.item);
             loads = ap (map (load_in t)) (loads_of_read reads w e2 noted)
                 ∙ loads_issued p.tracked (is_load e2.item.kind) (is_some e2.issued) t p.queues.loads ks i k k2 w e e2 refl refl (loads_numbered t [] p.window) rises at refl on.serial
                 (ap (λ (i : Item). if is_load i.kind then Some (load_footprint t e) else None) (sym on.item)) refl

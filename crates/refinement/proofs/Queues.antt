@@ -28,7 +28,7 @@ use Rattle.refinement.proofs.Visible.{operands_told, told}
 use Rattle.refinement.proofs.Youngest.{retired_shown, unretired_in}
 use Rattle.refinement.specs.Footprint.{Footprint, StoreFootprint, Terms, column, footprint_of, load_in, store_footprint, store_in}
 use Rattle.refinement.specs.Refines.{footprints, terms}
-use Rattle.refinement.specs.Roots.{base_root, source_roots, unretired}
+use Rattle.refinement.specs.Roots.{base_root, source_roots, root_in_flight}
 use Rattle.refinement.specs.Waiters.{oldest_of}
 use Rattle.refinement.specs.Telling.{QueuesStand, QueuesTrack, TellsEachStore}
 
@@ -112,7 +112,7 @@ pub base_hidden : (point : Point) (b : List Entry) (e : Entry) → Behind (Tells
 base_hidden point b e u v =
     sym (base_told point.serial (source_roots b e)) ∙ (operands_told point 0 b e (source_roots b e) u v (λ s lt. absurd (omega (arith, lt))) (same (source_roots b e))).base
   where
-    same : (os : List (Option ℕ)) → map (unretired 0) os ≡ os
+    same : (os : List (Option ℕ)) → map (root_in_flight 0) os ≡ os
     same [] = refl
     same (None ∷ os) = ap (λ os. None ∷ os) (same os)
     same (Some n ∷ os) = ap₂ (λ o os. o ∷ os) (unretired_in 0 n (omega arith)) (same os)

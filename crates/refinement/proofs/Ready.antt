@@ -24,7 +24,7 @@ use Rattle.refinement.specs.InFlight.{InFlight, hold_in}
 use Rattle.refinement.specs.Refines.{Refines}
 use Rattle.refinement.specs.Stations.{station_of}
 use Rattle.refinement.specs.Telling.{has_sources, hold_of, own_of, TellsReady, TellsAble, TellsPart, MovedBy}
-use Rattle.refinement.specs.Waiters.{Hold, Waiter, awaited, awaited_of, awaits_of, gives_at, waiter_in, wants_of}
+use Rattle.refinement.specs.Waiters.{Hold, Waiter, awaited_serial, awaited_of, awaits_of, gives_at, waiter_in, wants_of}
 use Rattle.stations.specs.declared.wants.Part.TheVariants as part
 use Rattle.stations.specs.declared.wants.Wants.TheVariants as wants
 
@@ -59,7 +59,7 @@ module _ (d : Desc) (hold : Hold) where
       by_writer true h = by_given (gives_at hold e) ∙ k.0
       by_writer false h = h
 
-  ready_by : (before : List Entry) (rs : List ℕ) → Behind (GivesAlike d hold) before → length rs ≤ 2 → list_all is_none (map (awaited hold before) (two rs)) ≡ list_all (is_known d before) rs
+  ready_by : (before : List Entry) (rs : List ℕ) → Behind (GivesAlike d hold) before → length rs ≤ 2 → list_all is_none (map (awaited_serial hold before) (two rs)) ≡ list_all (is_known d before) rs
   ready_by before [] k le = refl
   ready_by before (a ∷ []) k le = ap (λ b. b && true) (none_awaited before a k)
   ready_by before (a ∷ b ∷ []) k le = ap₂ (λ p q. p && (q && true)) (none_awaited before a k) (none_awaited before b k)
@@ -75,7 +75,7 @@ module _ (d : Desc) (hold : Hold) where
 
   -- what a part of a store awaits, by its own source
   part_by : (part : Part) (before : List Entry) (rs : List ℕ) → Behind (GivesAlike d hold) before → length rs ≤ 2 →
-      nothing_at (source_of part) (map (awaited hold before) (two rs)) ≡ all_known d before (own_of part rs)
+      nothing_at (source_of part) (map (awaited_serial hold before) (two rs)) ≡ all_known d before (own_of part rs)
   part_by part.Address before [] k le = refl
   part_by part.Data before [] k le = refl
   part_by part.Address before (a ∷ []) k le = one_known before a k
@@ -89,14 +89,14 @@ module _ (d : Desc) (hold : Hold) where
   or_none false b = or_false b
 
   either_by : (before : List Entry) (rs : List ℕ) → Behind (GivesAlike d hold) before → length rs ≤ 2 →
-      list_any is_none (map (awaited hold before) (two rs)) ≡ (all_known d before (base_of rs) || all_known d before (others_of rs))
+      list_any is_none (map (awaited_serial hold before) (two rs)) ≡ (all_known d before (base_of rs) || all_known d before (others_of rs))
   either_by before [] k le = refl
-  either_by before (a ∷ []) k le = or_none (is_none (awaited hold before (Some a))) true ∙ ap (λ b. b || true) (one_known before a k)
+  either_by before (a ∷ []) k le = or_none (is_none (awaited_serial hold before (Some a))) true ∙ ap (λ b. b || true) (one_known before a k)
   either_by before (a ∷ b ∷ []) k le =
-      or_none (is_none (awaited hold before (Some a))) (is_none (awaited hold before (Some b))) ∙ ap₂ (λ p q. p || q) (one_known before a k) (one_known before b k)
+      or_none (is_none (awaited_serial hold before (Some a))) (is_none (awaited_serial hold before (Some b))) ∙ ap₂ (λ p q. p || q) (one_known before a k) (one_known before b k)
   either_by before (a ∷ b ∷ c ∷ rs) k le = absurd (omega (arith, le))
 
-  able_by : (w : Wants) (before : List Entry) (e : Entry) → Behind (GivesAlike d hold) before → able_as w (map (awaited hold before) (two (sources e))) ≡ has_sources w d before e
+  able_by : (w : Wants) (before : List Entry) (e : Entry) → Behind (GivesAlike d hold) before → able_as w (map (awaited_serial hold before) (two (sources e))) ≡ has_sources w d before e
   able_by wants.Whole before e k = ready_by before (sources e) k (few_reads e.item.instr)
   able_by wants.Either before e k = either_by before (sources e) k (few_reads e.item.instr)
   able_by wants.Address before e k = part_by part.Address before (sources e) k (few_reads e.item.instr)

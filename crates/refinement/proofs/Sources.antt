@@ -11,7 +11,7 @@ use Rattle.refinement.proofs.Lists.{map_twice}
 use Rattle.refinement.specs.Footprint.{Footprint, Terms, column, footprint_of, unretired_sources}
 use Rattle.refinement.specs.InFlight.{InFlight}
 use Rattle.refinement.specs.Refines.{Refines, footprints, terms}
-use Rattle.refinement.specs.Roots.{source_roots, unretired}
+use Rattle.refinement.specs.Roots.{source_roots, root_in_flight}
 use Rattle.refinement.specs.Waiters.{oldest_of}
 use Rattle.refinement.specs.Writers.{source_writers}
 
@@ -40,8 +40,8 @@ roots_kept t b [] = refl
 roots_kept t b (e ∷ es) = ap (λ rs. source_roots b e ∷ rs) (roots_kept t (e ∷ b) es)
 
 -- by position the roots of all entries' sources, where they haven't retired
-pub roots_are : (p : InFlight) → Refines p → map (map (unretired (oldest_of p.next p.window))) (each_roots p.sources) ≡ each_from source_roots [] p.window
+pub roots_are : (p : InFlight) → Refines p → map (map (root_in_flight (oldest_of p.next p.window))) (each_roots p.sources) ≡ each_from source_roots [] p.window
 roots_are p s =
     let f = oldest_of p.next p.window in
-    map_twice (map (unretired f)) (λ (x : Sources). x.roots) p.sources ∙ sym (map_twice (λ (x : Sources). x.roots) (unretired_sources f) p.sources)
+    map_twice (map (root_in_flight f)) (λ (x : Sources). x.roots) p.sources ∙ sym (map_twice (λ (x : Sources). x.roots) (unretired_sources f) p.sources)
     ∙ ap (map (λ (x : Sources). x.roots)) s.columns.sources ∙ roots_kept (terms p) [] p.window

@@ -39,12 +39,12 @@ use Rattle.refinement.specs.Footprint.{Footprint, StoreFootprint, Terms, column,
 use Rattle.refinement.specs.InFlight.{InFlight, hold_in}
 use Rattle.refinement.specs.Points.{PointStands}
 use Rattle.refinement.specs.Refines.{Columns, Parts, Refines, footprints, parts, terms}
-use Rattle.refinement.specs.Roots.{base_root, root_of_source, source_roots, unretired}
-use Rattle.refinement.specs.Stations.{GoesOn, released, struck_each}
-use Rattle.refinement.specs.Steps.{CompletesAt, DropsFrom, OpensEmpty, PointMoves, PointStops, RenamesIn, ResolvesAt, RetiresHead, below_serial, queued, with_entry, without_head}
+use Rattle.refinement.specs.Roots.{base_root, root_of_source, source_roots, root_in_flight}
+use Rattle.refinement.specs.Stations.{GoesOn, serials_let_go, struck_each}
+use Rattle.refinement.specs.Steps.{CompletesAt, DropsFrom, OpensEmpty, PointMoves, PointStops, RenamesIn, ResolvesAt, RetiresHead, below_serial, queues_with_entry, with_entry, without_head}
 use Rattle.refinement.specs.Telling.{source_by}
 use Rattle.refinement.specs.Waiters.{Hold, Waiter, gives_at, oldest_of, waiter_in, waiter_of, wants_of, write_of}
-use Rattle.refinement.specs.Writers.{named, serial_in, source_writers, writer_of_source}
+use Rattle.refinement.specs.Writers.{writer_serial, serial_in, source_writers, writer_of_source}
 
 -- empty parts refine the empty window with which a run begins
 pub refines_empty : OpensEmpty
@@ -58,35 +58,35 @@ refines_empty d = record {
 -- ---- an entry is renamed
 
 -- what the table names for a source
-roots_told : (p : InFlight) → Refines p → (os : List (Option ℕ)) → map (unretired (oldest_of p.next p.window)) (map (root_at p.writes) os) ≡ map (root_of_source (reverse p.window)) os
+roots_told : (p : InFlight) → Refines p → (os : List (Option ℕ)) → map (root_in_flight (oldest_of p.next p.window)) (map (root_at p.writes) os) ≡ map (root_of_source (reverse p.window)) os
 roots_told p s os =
-    map_twice (unretired (oldest_of p.next p.window)) (root_at p.writes) os ∙ map_same (λ o. unretired (oldest_of p.next p.window) (root_at p.writes o)) (root_of_source (reverse p.window)) os one
+    map_twice (root_in_flight (oldest_of p.next p.window)) (root_at p.writes) os ∙ map_same (λ o. root_in_flight (oldest_of p.next p.window) (root_at p.writes o)) (root_of_source (reverse p.window)) os one
   where
-    one : (o : Option ℕ) → unretired (oldest_of p.next p.window) (root_at p.writes o) ≡ root_of_source (reverse p.window) o
+    one : (o : Option ℕ) → root_in_flight (oldest_of p.next p.window) (root_at p.writes o) ≡ root_of_source (reverse p.window) o
     one None = refl
     one (Some r) = names_root p r s
 
-writers_told : (p : InFlight) → Refines p → (os : List (Option ℕ)) → map (unretired (oldest_of p.next p.window)) (map (named p.writes) os) ≡ map (writer_of_source (reverse p.window)) os
+writers_told : (p : InFlight) → Refines p → (os : List (Option ℕ)) → map (root_in_flight (oldest_of p.next p.window)) (map (writer_serial p.writes) os) ≡ map (writer_of_source (reverse p.window)) os
 writers_told p s os =
-    map_twice (unretired (oldest_of p.next p.window)) (named p.writes) os ∙ map_same (λ o. unretired (oldest_of p.next p.window) (named p.writes o)) (writer_of_source (reverse p.window)) os one
+    map_twice (root_in_flight (oldest_of p.next p.window)) (writer_serial p.writes) os ∙ map_same (λ o. root_in_flight (oldest_of p.next p.window) (writer_serial p.writes o)) (writer_of_source (reverse p.window)) os one
   where
-    by_writer : (r : ℕ) (o : Option Entry) → writer (reverse p.window) r ≡ o → unretired (oldest_of p.next p.window) (serial_in (source_by o)) ≡ option_map (λ e. e.serial) o
+    by_writer : (r : ℕ) (o : Option Entry) → writer (reverse p.window) r ≡ o → root_in_flight (oldest_of p.next p.window) (serial_in (source_by o)) ≡ option_map (λ e. e.serial) o
     by_writer r None h = refl
     by_writer r (Some w) h =
         unretired_in (oldest_of p.next p.window) w.serial
         (all_at (λ e. oldest_of p.next p.window ≤ e.serial) p.window (length (below w.serial p.window)) w (oldest_least p.next p.window s.rise) (writer_place r w p.window s.rise h))
 
-    one : (o : Option ℕ) → unretired (oldest_of p.next p.window) (named p.writes o) ≡ writer_of_source (reverse p.window) o
+    one : (o : Option ℕ) → root_in_flight (oldest_of p.next p.window) (writer_serial p.writes o) ≡ writer_of_source (reverse p.window) o
     one None = refl
-    one (Some r) = ap (λ o. unretired (oldest_of p.next p.window) (serial_in o)) (names_writer p r s) ∙ by_writer r (writer (reverse p.window) r) refl
+    one (Some r) = ap (λ o. root_in_flight (oldest_of p.next p.window) (serial_in o)) (names_writer p r s) ∙ by_writer r (writer (reverse p.window) r) refl
 
-loads_queued : (k : Kind) (n : ℕ) (root : Option ℕ) (q : Queues) → (queued k n root q).loads ≡ (if is_load k then q.loads ++ record { serial = n; access = None } ∷ [] else q.loads)
+loads_queued : (k : Kind) (n : ℕ) (root : Option ℕ) (q : Queues) → (queues_with_entry k n root q).loads ≡ (if is_load k then q.loads ++ record { serial = n; access = None } ∷ [] else q.loads)
 loads_queued Load n root q = refl
 loads_queued Store n root q = refl
 loads_queued _ n root q = refl
 
 stores_queued : (k : Kind) (n : ℕ) (root : Option ℕ) (q : Queues) →
-    (queued k n root q).stores ≡ (if is_store k then q.stores ++ record { serial = n; root = root; span = None; stored = None; cleared = false } ∷ [] else q.stores)
+    (queues_with_entry k n root q).stores ≡ (if is_store k then q.stores ++ record { serial = n; root = root; span = None; stored = None; cleared = false } ∷ [] else q.stores)
 stores_queued Load n root q = refl
 stores_queued Store n root q = refl
 stores_queued _ n root q = refl
@@ -116,10 +116,10 @@ refines_renamed p e s awaits place h fresh rs ws aw =
     let is = fresh.serial in
     let first = oldest_first p.next p.window h.next in
     let young : f ≤ e.serial = omega (arith, is, first) in
-    let own : map (unretired f) s.roots ≡ source_roots (reverse p.window) e = ap (map (unretired f)) rs ∙ roots_told p h (two (sources e)) in
-    let theirs : map (unretired f) s.writers ≡ source_writers (reverse p.window) e = ap (map (unretired f)) ws ∙ writers_told p h (two (sources e)) in
+    let own : map (root_in_flight f) s.roots ≡ source_roots (reverse p.window) e = ap (map (root_in_flight f)) rs ∙ roots_told p h (two (sources e)) in
+    let theirs : map (root_in_flight f) s.writers ≡ source_writers (reverse p.window) e = ap (map (root_in_flight f)) ws ∙ writers_told p h (two (sources e)) in
     let write : option_map (unretired_write f) (write_of e s.roots) ≡ write_of e (source_roots (reverse p.window) e) = sym (write_shown f e s.roots young) ∙ ap (write_of e) own in
-    let root : unretired f (base_root s.roots) ≡ base_root (source_roots (reverse p.window) e) = sym (first_shown f s.roots) ∙ ap base_root own in
+    let root : root_in_flight f (base_root s.roots) ≡ base_root (source_roots (reverse p.window) e) = sym (first_shown f s.roots) ∙ ap base_root own in
     record {
       rise = rise_push p.window e h.rise (subst (λ n. All (λ b. b.serial < n) p.window) (sym fresh.serial) h.next);
       next = All-push (λ b. b.serial < p.next + 1) p.window e (All-weaker (λ b. b.serial < p.next) (λ b. b.serial < p.next + 1) (λ b lt. omega (arith, lt)) p.window h.next) (omega (arith, is));
@@ -194,7 +194,7 @@ pub refines_moved : PointMoves
 refines_moved p s =
     let moved = moved_over p.window p.point in
     let h2 : Hold = record { holds = p.holds; point = moved.serial } in
-    wakes_on p moved (released (hold_in p) h2 p.window) p.window s
+    wakes_on p moved (serials_let_go (hold_in p) h2 p.window) p.window s
     (wakes_moved (hold_in p) h2 p.window (record { holds = refl; on = point_moves_on p.point p.next p.window s.point s.rise }) s.rise)
     (point_advances p.point p.next p.window s.point s.rise s.next)
 

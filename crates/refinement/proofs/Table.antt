@@ -14,7 +14,7 @@ use Rattle.refinement.proofs.Writers.{found, within}
 use Rattle.refinement.proofs.Youngest.{written_by}
 use Rattle.refinement.specs.Footprint.{Terms, column, footprint_of, unretired_write}
 use Rattle.refinement.specs.InFlight.{hold_in}
-use Rattle.refinement.specs.Roots.{source_roots, unretired, youngest_root}
+use Rattle.refinement.specs.Roots.{source_roots, root_in_flight, youngest_root}
 use Rattle.refinement.specs.Telling.{entry_of, source_by, NamesWriter, NamesRoot, FindsWriter, FindsAwaited, NamesEntry}
 use Rattle.refinement.specs.Waiters.{awaited_of, oldest_of, write_of}
 
@@ -77,10 +77,10 @@ found_aged f r (w ∷ ws) = by_test (w.register == r) (found_aged f r ws)
 last_aged : (f r : ℕ) (ws : List Write) → last_write (map (unretired_write f) ws) r ≡ option_map (unretired_write f) (last_write ws r)
 last_aged f r ws = ap (find (λ w. w.register == r)) (sym (map_back (unretired_write f) ws [])) ∙ found_aged f r (reverse ws)
 
-root_aged : (f r : ℕ) (ws : List Write) → unretired f (root_of ws r) ≡ root_of (map (unretired_write f) ws) r
+root_aged : (f r : ℕ) (ws : List Write) → root_in_flight f (root_of ws r) ≡ root_of (map (unretired_write f) ws) r
 root_aged f r ws = of (last_write ws r) ∙ ap root_from (sym (last_aged f r ws))
   where
-    of : (o : Option Write) → unretired f (root_from o) ≡ root_from (option_map (unretired_write f) o)
+    of : (o : Option Write) → root_in_flight f (root_from o) ≡ root_from (option_map (unretired_write f) o)
     of None = refl
     of (Some w) = refl
 

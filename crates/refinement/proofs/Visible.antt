@@ -16,7 +16,7 @@ use Rattle.window_model.specs.Taint.{tainted, visible}
 use Rattle.window_model.specs.declared.Entry.{Entry}
 use Rattle.refinement.proofs.Sources.{sources_are}
 use Rattle.refinement.proofs.Youngest.{few_reads, retired_shown, root_tells}
-use Rattle.refinement.specs.Roots.{root_of_source, source_roots, unretired, youngest_root}
+use Rattle.refinement.specs.Roots.{root_of_source, source_roots, root_in_flight, youngest_root}
 use Rattle.refinement.specs.Telling.{OperandsTold, TellsVisible, TellsOperands, TellsGiven, TellsTaint}
 use Rattle.refinement.specs.Waiters.{oldest_of, gives_at}
 use Rattle.window_model.specs.Ready.{holds}
@@ -56,7 +56,7 @@ tells_given d p i e b h =
     ∙ ap (λ v. not (holds d.stt_defence && is_load e.item.kind && not v) && is_done e.state) (tells_visible p.point p.window i e b.advanced h ∙ ap (λ m. visible m (before_at p.window i)) b.model)
 
 -- of an entry's roots, where the older entries are known
-any_shown : (point f : ℕ) (os : List (Option ℕ)) → ((s : ℕ) → s < f → s ≤ point) → list_any (is_hidden point) os ≡ list_any (is_hidden point) (map (unretired f) os)
+any_shown : (point f : ℕ) (os : List (Option ℕ)) → ((s : ℕ) → s < f → s ≤ point) → list_any (is_hidden point) os ≡ list_any (is_hidden point) (map (root_in_flight f) os)
 any_shown point f [] h = refl
 any_shown point f (o ∷ os) h = ap₂ (λ a b. a || b) (retired_shown point f o h) (any_shown point f os h)
 
@@ -68,13 +68,13 @@ any_two p before (a ∷ []) le h = (ap (λ b. b || false) (h a), ap (λ b. b || 
 any_two p before (a ∷ b ∷ []) le h = (ap₂ (λ p q. p || (q || false)) (h a) (h b), ap (λ b. b || false) (h a))
 any_two p before (a ∷ b ∷ c ∷ rs) le h = absurd (omega (arith, le))
 
-take_shown : (f : ℕ) (os : List (Option ℕ)) → take 1 (map (unretired f) os) ≡ map (unretired f) (take 1 os)
+take_shown : (f : ℕ) (os : List (Option ℕ)) → take 1 (map (root_in_flight f) os) ≡ map (root_in_flight f) (take 1 os)
 take_shown f [] = refl
 take_shown f (o ∷ os) = refl
 
 -- an entry's roots tell which of its operands are tainted, where the older entries are known
 pub operands_told : (p : Point) (f : ℕ) (before : List Entry) (e : Entry) (roots : List (Option ℕ)) → Behind (Tells p) before → Behind Falls before → ((s : ℕ) → s < f → s ≤ p.serial) →
-    map (unretired f) roots ≡ source_roots before e → OperandsTold p before e roots
+    map (root_in_flight f) roots ≡ source_roots before e → OperandsTold p before e roots
 operands_told p f before e roots t u old k =
     let a = any_two p before (sources e) (few_reads e.item.instr) (root_tells p before t u) in
     record {
@@ -86,7 +86,7 @@ operands_told p f before e roots t u old k =
 pub tells_operands : TellsOperands
 tells_operands p i e x s m h k = by_window p.window s.rise m h (ap (λ (x : Sources). x.roots) (sources_are p i e x s h k))
   where
-    by_window : (es : List Entry) → Rise es → HasAdvanced p.point es → slice_get es i ≡ Some e → map (unretired (oldest_of p.next es)) x.roots ≡ source_roots (before_at es i) e → OperandsTold p.point (before_at es i) e x.roots
+    by_window : (es : List Entry) → Rise es → HasAdvanced p.point es → slice_get es i ≡ Some e → map (root_in_flight (oldest_of p.next es)) x.roots ≡ source_roots (before_at es i) e → OperandsTold p.point (before_at es i) e x.roots
     by_window [] r m h k = absurd (cc)
     by_window (d ∷ es) r m h k =
         let t = told p.point p.next d es r m in
@@ -100,7 +100,7 @@ tells_taint p r s m = by_window p.window s.rise m (counts_writes p s) (names_roo
     none [] le = refl
     none (w ∷ ws) le = absurd (omega (arith, le))
 
-    by_window : (es : List Entry) → Rise es → HasAdvanced p.point es → length p.writes ≤ length es → unretired (oldest_of p.next es) (root_of p.writes r) ≡ youngest_root (reverse es) r →
+    by_window : (es : List Entry) → Rise es → HasAdvanced p.point es → length p.writes ≤ length es → root_in_flight (oldest_of p.next es) (root_of p.writes r) ≡ youngest_root (reverse es) r →
         is_hidden p.point.serial (root_of p.writes r) ≡ tainted p.point.model (reverse es) r
     by_window [] ri m le k = none p.writes le
     by_window (e ∷ es) ri m le k =

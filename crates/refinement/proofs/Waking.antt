@@ -17,8 +17,8 @@ use Rattle.window_model.specs.declared.Progress.TheVariants.{Done}
 use Rattle.refinement.proofs.Lists.{map_same, map_twice, map_id}
 use Rattle.refinement.proofs.Serials.{goes_same}
 use Rattle.refinement.specs.Footprint.{Found, Terms, footprint_by}
-use Rattle.refinement.specs.Stations.{GoesOn, MovesOn, released, struck_each, struck_if_given}
-use Rattle.refinement.specs.Waiters.{Hold, Waiter, awaited, awaited_of, gives_at, waiter_in, waiter_of}
+use Rattle.refinement.specs.Stations.{GoesOn, MovesOn, serials_let_go, struck_each, struck_if_given}
+use Rattle.refinement.specs.Waiters.{Hold, Waiter, awaited_serial, awaited_of, gives_at, waiter_in, waiter_of}
 
 -- ---- serials that are struck
 
@@ -69,7 +69,7 @@ gives_go h h2 ss (e ∷ es) [] v = absurd v
 gives_go h h2 ss (e ∷ es) (e2 ∷ es2) v = (v.0.on, gives_go h h2 ss es es2 v.1)
 
 -- what a source awaits is struck where its writer comes to give its value
-pub awaited_woken : (h h2 : Hold) (ss : List ℕ) (b b2 : List Entry) → AllZip (Gives h h2 ss) b b2 → (o : Option ℕ) → awaited h2 b2 o ≡ strike_each ss (awaited h b o)
+pub awaited_woken : (h h2 : Hold) (ss : List ℕ) (b b2 : List Entry) → AllZip (Gives h h2 ss) b b2 → (o : Option ℕ) → awaited_serial h2 b2 o ≡ strike_each ss (awaited_serial h b o)
 awaited_woken h h2 ss b b2 v None = sym (strike_none ss)
 awaited_woken h h2 ss [] [] v (Some r) = sym (strike_none ss)
 awaited_woken h h2 ss [] (e2 ∷ b2) v (Some r) = absurd v
@@ -176,25 +176,25 @@ abbrev pub is_new : Hold → Hold → Entry → Bool
 is_new h h2 e = not (gives_at h e) && gives_at h2 e
 
 -- none of these has the serial
-none_among : (h h2 : Hold) (n : ℕ) (es : List Entry) → All (λ d. n < d.serial) es → among n (released h h2 es) ≡ false
+none_among : (h h2 : Hold) (n : ℕ) (es : List Entry) → All (λ d. n < d.serial) es → among n (serials_let_go h h2 es) ≡ false
 none_among h h2 n [] a = refl
 none_among h h2 n (e ∷ es) a =
     let lt = All-head (λ d. n < d.serial) e es a in
     let f : (n == e.serial) ≡ false = grind (arith, nat_tests) in
     by_new (is_new h h2 e) (none_among h h2 n es (All-tail (λ d. n < d.serial) e es a)) f
   where
-    by_new : (b : Bool) → among n (released h h2 es) ≡ false → (n == e.serial) ≡ false →
+    by_new : (b : Bool) → among n (serials_let_go h h2 es) ≡ false → (n == e.serial) ≡ false →
         among n (map (λ e. e.serial) (cond b (e ∷ filter (is_new h h2) es) (filter (is_new h h2) es))) ≡ false
     by_new true k f = ap₂ (λ a b. a || b) f k
     by_new false k f = k
 
 -- the oldest's serial is one of those that are released exactly where the oldest is new
-among_head : (h h2 : Hold) (e : Entry) (es : List Entry) → Rise (e ∷ es) → among e.serial (released h h2 (e ∷ es)) ≡ is_new h h2 e
+among_head : (h h2 : Hold) (e : Entry) (es : List Entry) → Rise (e ∷ es) → among e.serial (serials_let_go h h2 (e ∷ es)) ≡ is_new h h2 e
 among_head h h2 e es r = by_new (is_new h h2 e) (none_among h h2 e.serial es (rise_head e es r))
   where
-    by_new : (b : Bool) → among e.serial (released h h2 es) ≡ false →
+    by_new : (b : Bool) → among e.serial (serials_let_go h h2 es) ≡ false →
         among e.serial (map (λ e. e.serial) (cond b (e ∷ filter (is_new h h2) es) (filter (is_new h h2) es))) ≡ b
-    by_new true k = let t : (e.serial == e.serial) ≡ true = grind (arith, nat_tests) in ap (λ c. c || among e.serial (released h h2 es)) t
+    by_new true k = let t : (e.serial == e.serial) ≡ true = grind (arith, nat_tests) in ap (λ c. c || among e.serial (serials_let_go h h2 es)) t
     by_new false k = k
 
 -- an entry's serial is one of these exactly where the entry is new
@@ -213,7 +213,7 @@ past_each h h2 x rest (e ∷ es) a k b =
     by_new true f = ap (λ c. c || among e.serial (map (λ (e : Entry). e.serial) rest)) f
     by_new false f = refl
 
-released_tell : (h h2 : Hold) (es : List Entry) → Rise es → Each (Tells h h2 (released h h2 es)) es
+released_tell : (h h2 : Hold) (es : List Entry) → Rise es → Each (Tells h h2 (serials_let_go h h2 es)) es
 released_tell h h2 [] r = tt
 released_tell h h2 (e ∷ es) r =
     (among_head h h2 e es r, past_each h h2 e (filter (is_new h h2) es) es (rise_head e es r) (released_tell h h2 es (rise_tail e es r)) (is_new h h2 e))
@@ -253,5 +253,5 @@ to_wakes h h2 ss (e ∷ es) m k = (
 )
 
 -- as the point moves on, entries wake with the serials that are released
-pub wakes_moved : (h h2 : Hold) (es : List Entry) → MovesOn h h2 → Rise es → AllZip (Wakes h h2 (released h h2 es)) es es
-wakes_moved h h2 es m r = to_wakes h h2 (released h h2 es) es m (released_tell h h2 es r)
+pub wakes_moved : (h h2 : Hold) (es : List Entry) → MovesOn h h2 → Rise es → AllZip (Wakes h h2 (serials_let_go h h2 es)) es es
+wakes_moved h h2 es m r = to_wakes h h2 (serials_let_go h h2 es) es m (released_tell h h2 es r)

@@ -16,7 +16,7 @@ use Rattle.window_model.specs.Serials.{Rise}
 use Rattle.window_model.specs.declared.Entry.{Entry}
 use Rattle.refinement.proofs.Serials.{oldest_least}
 use Rattle.refinement.proofs.Sources.{sources_are}
-use Rattle.refinement.specs.Roots.{unretired}
+use Rattle.refinement.specs.Roots.{root_in_flight}
 use Rattle.refinement.specs.Telling.{entry_of, source_by, TellsWriters}
 use Rattle.refinement.specs.Waiters.{oldest_of}
 use Rattle.refinement.specs.Writers.{if_serial, in_flight, writer_of, writer_of_source}
@@ -76,7 +76,7 @@ module _ (next : ℕ) (es : List Entry) (rise : Rise es) (i : ℕ) where
   none_named None h = refl
   none_named (Some e) h = absurd (cc)
 
-  one : (ws o : Option ℕ) → unretired (oldest_of next es) ws ≡ writer_of_source (before_at es i) o → in_flight es ws ≡ writer_of (before_at es i) o
+  one : (ws o : Option ℕ) → root_in_flight (oldest_of next es) ws ≡ writer_of_source (before_at es i) o → in_flight es ws ≡ writer_of (before_at es i) o
   one None None h = refl
   one None (Some r) h = none_named (writer (before_at es i) r) h
   one (Some s) o h = by_age (nat_le (oldest_of next es) s) refl o h
@@ -92,7 +92,7 @@ module _ (next : ℕ) (es : List Entry) (rise : Rise es) (i : ℕ) where
       by_age false q (Some r) h = let lt : s < oldest_of next es = grind (arith, nat_tests) in old_serial next s es rise lt ∙ none_named (writer (before_at es i) r) h
 
   -- pairs of serials of writers, some of which may have retired, find the writers
-  pub pairs : (ws os : List (Option ℕ)) → map (unretired (oldest_of next es)) ws ≡ map (writer_of_source (before_at es i)) os → map (in_flight es) ws ≡ map (writer_of (before_at es i)) os
+  pub pairs : (ws os : List (Option ℕ)) → map (root_in_flight (oldest_of next es)) ws ≡ map (writer_of_source (before_at es i)) os → map (in_flight es) ws ≡ map (writer_of (before_at es i)) os
   pairs [] [] h = refl
   pairs [] (o ∷ os) h = absurd (cc)
   pairs (w ∷ ws) [] h = absurd (cc)

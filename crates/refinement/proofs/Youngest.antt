@@ -20,20 +20,20 @@ use Rattle.window_model.specs.Order.{is_load, sources, writes}
 use Rattle.window_model.specs.Taint.{any_tainted, tainted, visible}
 use Rattle.window_model.specs.declared.Entry.{Entry}
 use Rattle.refinement.proofs.Lists.{map_same, map_twice}
-use Rattle.refinement.specs.Roots.{root_of_source, source_roots, unretired, youngest_root}
+use Rattle.refinement.specs.Roots.{root_of_source, source_roots, root_in_flight, youngest_root}
 use Rattle.rv_types.specs.declared.Instr.TheVariants as instr
 
 -- ---- what has not retired
 
 -- a serial from the oldest on is told
-pub unretired_in : (f s : ℕ) → f ≤ s → unretired f (Some s) ≡ Some s
+pub unretired_in : (f s : ℕ) → f ≤ s → root_in_flight f (Some s) ≡ Some s
 unretired_in f s le = let t : nat_le f s ≡ true = grind (arith, nat_tests) in ap (λ b. if b then Some s else None) t
 
 -- a serial below the oldest isn't told
-pub unretired_out : (f s : ℕ) → s < f → unretired f (Some s) ≡ None
+pub unretired_out : (f s : ℕ) → s < f → root_in_flight f (Some s) ≡ None
 unretired_out f s lt = let t : nat_le f s ≡ false = grind (arith, nat_tests) in ap (λ b. if b then Some s else None) t
 
-unretired_later : (f : ℕ) (a b : Option ℕ) → unretired f (later a b) ≡ later (unretired f a) (unretired f b)
+unretired_later : (f : ℕ) (a b : Option ℕ) → root_in_flight f (later a b) ≡ later (root_in_flight f a) (root_in_flight f b)
 unretired_later f None b = refl
 unretired_later f (Some a) None = by_a (nat_le f a)
   where
@@ -54,26 +54,26 @@ unretired_later f (Some a) (Some b) =
     (cases_lt b f))
     (cases_lt a f)
 
-unretired_latest : (f : ℕ) (os : List (Option ℕ)) → unretired f (latest os) ≡ latest (map (unretired f) os)
+unretired_latest : (f : ℕ) (os : List (Option ℕ)) → root_in_flight f (latest os) ≡ latest (map (root_in_flight f) os)
 unretired_latest f [] = refl
-unretired_latest f (o ∷ os) = unretired_later f o (latest os) ∙ ap (later (unretired f o)) (unretired_latest f os)
+unretired_latest f (o ∷ os) = unretired_later f o (latest os) ∙ ap (later (root_in_flight f o)) (unretired_latest f os)
 
 -- what an entry that has not retired writes
-pub unretired_written : (f : ℕ) (k : Kind) (s : ℕ) (os : List (Option ℕ)) → f ≤ s → unretired f (root_written k s os) ≡ root_written k s (map (unretired f) os)
+pub unretired_written : (f : ℕ) (k : Kind) (s : ℕ) (os : List (Option ℕ)) → f ≤ s → root_in_flight f (root_written k s os) ≡ root_written k s (map (root_in_flight f) os)
 unretired_written f Load s os le = unretired_in f s le
 unretired_written f _ s os le = unretired_latest f os
 
 -- what is told where the oldest is older is no more than what is told now
-pub unretired_twice : (f g : ℕ) (o : Option ℕ) → f ≤ g → unretired g (unretired f o) ≡ unretired g o
+pub unretired_twice : (f g : ℕ) (o : Option ℕ) → f ≤ g → root_in_flight g (root_in_flight f o) ≡ root_in_flight g o
 unretired_twice f g None le = refl
 unretired_twice f g (Some s) le = by_f (nat_le f s) refl
   where
-    by_f : (b : Bool) → nat_le f s ≡ b → unretired g (if b then Some s else None) ≡ unretired g (Some s)
+    by_f : (b : Bool) → nat_le f s ≡ b → root_in_flight g (if b then Some s else None) ≡ root_in_flight g (Some s)
     by_f true e = refl
     by_f false e = let t : nat_le g s ≡ false = grind (arith, nat_tests) in ap (λ b. if b then Some s else None) (sym t)
 
 -- serials of which those that have retired are taken off twice
-pub unretired_all_twice : (f g : ℕ) (os : List (Option ℕ)) → f ≤ g → map (unretired g) (map (unretired f) os) ≡ map (unretired g) os
+pub unretired_all_twice : (f g : ℕ) (os : List (Option ℕ)) → f ≤ g → map (root_in_flight g) (map (root_in_flight f) os) ≡ map (root_in_flight g) os
 unretired_all_twice f g [] le = refl
 unretired_all_twice f g (o ∷ os) le = ap₂ (λ o os. o ∷ os) (unretired_twice f g o le) (unretired_all_twice f g os le)
 
@@ -112,37 +112,37 @@ written_by before e = written_two e.item.kind e.serial before (sources e) (few_r
 -- ---- the oldest entry retires
 
 -- roots of sources where those of registers are the others' unretired ones
-pub unretired_roots : (f : ℕ) (before older : List Entry) (os : List (Option ℕ)) → ((r : ℕ) → unretired f (youngest_root older r) ≡ youngest_root before r) →
-    map (unretired f) (map (root_of_source older) os) ≡ map (root_of_source before) os
-unretired_roots f before older os h = map_twice (unretired f) (root_of_source older) os ∙ map_same (λ o. unretired f (root_of_source older o)) (root_of_source before) os each
+pub unretired_roots : (f : ℕ) (before older : List Entry) (os : List (Option ℕ)) → ((r : ℕ) → root_in_flight f (youngest_root older r) ≡ youngest_root before r) →
+    map (root_in_flight f) (map (root_of_source older) os) ≡ map (root_of_source before) os
+unretired_roots f before older os h = map_twice (root_in_flight f) (root_of_source older) os ∙ map_same (λ o. root_in_flight f (root_of_source older o)) (root_of_source before) os each
   where
-    each : (o : Option ℕ) → unretired f (root_of_source older o) ≡ root_of_source before o
+    each : (o : Option ℕ) → root_in_flight f (root_of_source older o) ≡ root_of_source before o
     each None = refl
     each (Some r) = h r
 
 -- the youngest root without the oldest entry
-pub root_without : (f : ℕ) (before : List Entry) (h : Entry) → All (λ e. f ≤ e.serial) before → h.serial < f → (r : ℕ) → unretired f (youngest_root (before ++ h ∷ []) r) ≡ youngest_root before r
+pub root_without : (f : ℕ) (before : List Entry) (h : Entry) → All (λ e. f ≤ e.serial) before → h.serial < f → (r : ℕ) → root_in_flight f (youngest_root (before ++ h ∷ []) r) ≡ youngest_root before r
 root_without f [] h a lt r = by_writes (writes r h)
   where
     none : (rs : List ℕ) → latest (map (youngest_root []) rs) ≡ None
     none [] = refl
     none (r ∷ rs) = none rs
 
-    by_kind : (k : Kind) → unretired f (root_written k h.serial (map (youngest_root []) (sources h))) ≡ None
+    by_kind : (k : Kind) → root_in_flight f (root_written k h.serial (map (youngest_root []) (sources h))) ≡ None
     by_kind Load = unretired_out f h.serial lt
-    by_kind _ = ap (unretired f) (none (sources h))
+    by_kind _ = ap (root_in_flight f) (none (sources h))
 
-    by_writes : (w : Bool) → unretired f (if w then root_written h.item.kind h.serial (map (youngest_root []) (sources h)) else None) ≡ None
+    by_writes : (w : Bool) → root_in_flight f (if w then root_written h.item.kind h.serial (map (youngest_root []) (sources h)) else None) ≡ None
     by_writes true = by_kind h.item.kind
     by_writes false = refl
 root_without f (e ∷ before) h a lt r = by_writes (writes r e) (root_without f before h (All-tail (λ e. f ≤ e.serial) e before a) lt)
   where
-    by_writes : (w : Bool) → ((r : ℕ) → unretired f (youngest_root (before ++ h ∷ []) r) ≡ youngest_root before r) →
-        unretired f (if w then root_written e.item.kind e.serial (map (youngest_root (before ++ h ∷ [])) (sources e)) else youngest_root (before ++ h ∷ []) r)
+    by_writes : (w : Bool) → ((r : ℕ) → root_in_flight f (youngest_root (before ++ h ∷ []) r) ≡ youngest_root before r) →
+        root_in_flight f (if w then root_written e.item.kind e.serial (map (youngest_root (before ++ h ∷ [])) (sources e)) else youngest_root (before ++ h ∷ []) r)
         ≡ (if w then root_written e.item.kind e.serial (map (youngest_root before) (sources e)) else youngest_root before r)
     by_writes true k =
         unretired_written f e.item.kind e.serial (map (youngest_root (before ++ h ∷ [])) (sources e)) (All-head (λ e. f ≤ e.serial) e before a)
-        ∙ ap (root_written e.item.kind e.serial) (map_twice (unretired f) (youngest_root (before ++ h ∷ [])) (sources e) ∙ map_same (λ r. unretired f (youngest_root (before ++ h ∷ []) r)) (youngest_root before) (sources e) k)
+        ∙ ap (root_written e.item.kind e.serial) (map_twice (root_in_flight f) (youngest_root (before ++ h ∷ [])) (sources e) ∙ map_same (λ r. root_in_flight f (youngest_root (before ++ h ∷ []) r)) (youngest_root before) (sources e) k)
     by_writes false k = k r
 
 -- ---- the youngest root tells what is tainted
@@ -203,7 +203,7 @@ root_tells p (e ∷ before) t f r = by_writes (writes r e) (root_tells p before 
     by_writes false h = h r
 
 -- a root that has retired is not hidden
-pub retired_shown : (point f : ℕ) (o : Option ℕ) → ((s : ℕ) → s < f → s ≤ point) → is_hidden point o ≡ is_hidden point (unretired f o)
+pub retired_shown : (point f : ℕ) (o : Option ℕ) → ((s : ℕ) → s < f → s ≤ point) → is_hidden point o ≡ is_hidden point (root_in_flight f o)
 retired_shown point f None h = refl
 retired_shown point f (Some s) h = by_kept (nat_le f s) refl
   where

@@ -13,7 +13,7 @@ use Rattle.lsq.specs.declared.load.Load.{Load}
 use Rattle.lsq.specs.declared.store.Span.{Span}
 use Rattle.lsq.specs.declared.store.Store.{Store}
 use Rattle.queue_laws.specs.Window.{Area, ShownLoad, area_in, area_of, reading_of, shown_reader}
-use Rattle.refinement.specs.Roots.{base_root, source_roots, unretired}
+use Rattle.refinement.specs.Roots.{base_root, source_roots, root_in_flight}
 use Rattle.refinement.specs.Waiters.{Hold, Waiter, awaits_of, waiter_footprint, write_of}
 use Rattle.refinement.specs.Writers.{source_writers}
 
@@ -100,11 +100,11 @@ column field (k ∷ ks) = cons_option (field k) (column field ks)
 
 -- sources, with the roots and writers that haven't retired
 abbrev pub unretired_sources : ℕ → Sources → Sources
-unretired_sources oldest s = record { roots = map (unretired oldest) s.roots; writers = map (unretired oldest) s.writers }
+unretired_sources oldest s = record { roots = map (root_in_flight oldest) s.roots; writers = map (root_in_flight oldest) s.writers }
 
 -- a write of the table, with its root if that hasn't retired
 abbrev pub unretired_write : ℕ → Write → Write
-unretired_write oldest w = record w { root = unretired oldest w.root }
+unretired_write oldest w = record w { root = root_in_flight oldest w.root }
 
 -- a load in the queue
 abbrev pub load_in : Terms → Load → ShownLoad
@@ -114,7 +114,7 @@ load_in t l = record { serial = l.serial; reading = if t.tracked then option_map
 abbrev pub store_in : Terms → ℕ → Store → StoreFootprint
 store_in t oldest s = record {
   serial = s.serial;
-  root = unretired oldest s.root;
+  root = root_in_flight oldest s.root;
   span = option_map area_of s.span;
   known_from = option_map (λ (k : Span). k.known_from) s.span;
   stored = s.stored;

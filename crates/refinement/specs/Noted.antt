@@ -32,8 +32,8 @@ abbrev pub with_stored : Bool → Entry → List Store → List Store
 with_stored noted e stores = if noted then map (filled_at e.serial (stored_of e.outcome)) stores else stores
 
 -- the queues once the parts that an entry has are noted, if it is a store
-abbrev pub noted : Width → Entry → Queues → Queues
-noted w e q = record q { stores = if is_store e.item.kind then with_stored (has_data e) e (with_span (has_address e) w e q.stores) else q.stores }
+abbrev pub queues_with_parts : Width → Entry → Queues → Queues
+queues_with_parts w e q = record q { stores = if is_store e.item.kind then with_stored (has_data e) e (with_span (has_address e) w e q.stores) else q.stores }
 
 -- a load that has issued
 abbrev pub has_read : Entry → Bool

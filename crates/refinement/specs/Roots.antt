@@ -22,9 +22,9 @@ abbrev pub source_roots : List Entry → Entry → List (Option ℕ)
 source_roots before e = map (root_of_source before) (two (sources e))
 
 -- a root that has not retired: its serial is not below the oldest in flight
-abbrev pub unretired : ℕ → Option ℕ → Option ℕ
-unretired oldest None = None
-unretired oldest (Some root) = if nat_le oldest root then Some root else None
+abbrev pub root_in_flight : ℕ → Option ℕ → Option ℕ
+root_in_flight oldest None = None
+root_in_flight oldest (Some root) = if nat_le oldest root then Some root else None
 
 -- the root of the base register, by those of an entry's sources
 abbrev pub base_root : List (Option ℕ) → Option ℕ

@@ -7,8 +7,8 @@ use Rattle.stations.specs.Stations.{Station, left_wanting, struck}
 use Rattle.refinement.specs.Waiters.{Hold, gives_at, wants_of}
 
 -- a station more, in some place, where the entry waits
-abbrev pub seated : ℕ → ℕ → List (Option ℕ) → Entry → List Station → List Station
-seated version place awaits e held =
+abbrev pub stations_with_entry : ℕ → ℕ → List (Option ℕ) → Entry → List Station → List Station
+stations_with_entry version place awaits e held =
     if is_waiting e.state then held ++ record { serial = e.serial; awaits = awaits; place = place; wants = wants_of version e } ∷ [] else held
 
 -- an entry that goes on in its place: the same instruction, with the same serial
@@ -44,12 +44,12 @@ abbrev pub struck_if_given : Hold → Entry → List Station → List Station
 struck_if_given h e held = if gives_at h e then map (struck e.serial) held else held
 
 -- the serials of the entries that give their values by the second, and didn't by the first
-abbrev pub released : Hold → Hold → List Entry → List ℕ
-released old new window = map (λ e. e.serial) (filter (λ e. not (gives_at old e) && gives_at new e) window)
+abbrev pub serials_let_go : Hold → Hold → List Entry → List ℕ
+serials_let_go old new window = map (λ e. e.serial) (filter (λ e. not (gives_at old e) && gives_at new e) window)
 
 -- the stations once the point has moved: none awaits an entry that then gives its value
 abbrev pub struck_by_move : Hold → Hold → List Entry → List Station → List Station
-struck_by_move old new window held = struck_each (released old new window) held
+struck_by_move old new window held = struck_each (serials_let_go old new window) held
 
 -- the point moves on, and holds what it held
 pub record MovesOn (old new : Hold) : Type 0 where

@@ -20,12 +20,12 @@ use Rattle.rob_ring.specs.declared.beside.Sources.{Sources}
 use Rattle.rename_taint.specs.Writes.{before_serial, root_at, without_retired}
 use Rattle.lsq.specs.Queues as queues
 use Rattle.lsq.specs.Queues.{Queues, cut_at, without}
-use Rattle.refinement.specs.Noted.{PartsGoOn, TracksOn, cleared_in, noted, noted_load}
+use Rattle.refinement.specs.Noted.{PartsGoOn, TracksOn, cleared_in, queues_with_parts, noted_load}
 use Rattle.visibility.specs.Point.{NotPast, first_point, moved_over}
 use Rattle.refinement.specs.Waiters.{awaits_of, gives_at, write_of}
 use Rattle.refinement.specs.Roots.{base_root}
-use Rattle.refinement.specs.Stations.{Issues, left_held, seated, station_of, struck_by_move, struck_if_given}
-use Rattle.refinement.specs.Writers.{named}
+use Rattle.refinement.specs.Stations.{Issues, left_held, stations_with_entry, station_of, struck_by_move, struck_if_given}
+use Rattle.refinement.specs.Writers.{writer_serial}
 use Rattle.refinement.specs.InFlight.{InFlight, hold_in}
 use Rattle.refinement.specs.Refines.{Refines}
 
@@ -41,10 +41,10 @@ OpensEmpty = (d : Desc) → Refines (empty d)
 -- ---- an entry is renamed
 
 -- the queues with a load or store more, with the youngest root of its address
-abbrev pub queued : Kind → ℕ → Option ℕ → Queues → Queues
-queued Load serial root q = record q { loads = q.loads ++ record { serial = serial; access = None } ∷ [] }
-queued Store serial root q = record q { stores = q.stores ++ record { serial = serial; root = root; span = None; stored = None; cleared = false } ∷ [] }
-queued _ serial root q = q
+abbrev pub queues_with_entry : Kind → ℕ → Option ℕ → Queues → Queues
+queues_with_entry Load serial root q = record q { loads = q.loads ++ record { serial = serial; access = None } ∷ [] }
+queues_with_entry Store serial root q = record q { stores = q.stores ++ record { serial = serial; root = root; span = None; stored = None; cleared = false } ∷ [] }
+queues_with_entry _ serial root q = q
 
 -- an entry is renamed, with what the table names for its sources, what they await, and a place for its station
 abbrev pub with_entry : ℕ → Sources → List (Option ℕ) → Entry → InFlight → InFlight
@@ -53,8 +53,8 @@ with_entry place s awaits e p = record p {
   window = p.window ++ e ∷ [];
   sources = p.sources ++ s ∷ [];
   writes = p.writes ++ option_to_list (write_of e s.roots);
-  held = seated p.version place awaits e p.held;
-  queues = queued e.item.kind e.serial (base_root s.roots) p.queues;
+  held = stations_with_entry p.version place awaits e p.held;
+  queues = queues_with_entry e.item.kind e.serial (base_root s.roots) p.queues;
 }
 
 -- an entry with the next serial that isn't resolved, of which no part has issued, and which isn't cleared if it is a
@@ -69,7 +69,7 @@ pub record Fresh (p : InFlight) (e : Entry) : Type 0 where
 
 abbrev pub RenamesIn : Type 0
 RenamesIn = (p : InFlight) (e : Entry) (s : Sources) (awaits : List (Option ℕ)) (place : ℕ) → Refines p → Fresh p e → s.roots ≡ map (root_at p.writes) (two (sources e)) →
-    s.writers ≡ map (named p.writes) (two (sources e)) → awaits ≡ awaits_of (hold_in p) (reverse p.window) e → Refines (with_entry place s awaits e p)
+    s.writers ≡ map (writer_serial p.writes) (two (sources e)) → awaits ≡ awaits_of (hold_in p) (reverse p.window) e → Refines (with_entry place s awaits e p)
 
 -- ---- the entry at a position goes on
 
@@ -79,7 +79,7 @@ abbrev pub with_issued : ℕ → Width → Entry → InFlight → InFlight
 with_issued i w e p = record p {
   window = slice_set p.window i e;
   held = left_held p.version (station_of i p.window) e p.held;
-  queues = noted_load p.tracked w e (noted w e p.queues);
+  queues = noted_load p.tracked w e (queues_with_parts w e p.queues);
 }
 
 abbrev pub IssuesAt : Type 0

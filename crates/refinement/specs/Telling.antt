@@ -23,8 +23,8 @@ use Rattle.queue_laws.specs.Window.{StandFor, Tracks, hides, tainted_stores}
 use Rattle.visibility.specs.Point.{Point, HasAdvanced, is_hidden}
 use Rattle.refinement.specs.InFlight.{InFlight, hold_in}
 use Rattle.refinement.specs.Refines.{Refines}
-use Rattle.refinement.specs.Roots.{youngest_root, unretired}
-use Rattle.refinement.specs.Waiters.{Hold, awaited, awaited_of, awaits_of, gives_at, oldest_of, waiter_in, waiter_of, waiters_from, wants_of}
+use Rattle.refinement.specs.Roots.{youngest_root, root_in_flight}
+use Rattle.refinement.specs.Waiters.{Hold, awaited_serial, awaited_of, awaits_of, gives_at, oldest_of, waiter_in, waiter_of, waiters_from, wants_of}
 use Rattle.refinement.specs.Writers.{in_flight, writer_of}
 use Rattle.refinement.specs.Stations.{station_of}
 
@@ -75,7 +75,7 @@ FindsWriter = (p : InFlight) (r : ℕ) → Refines p → entry_of p.window (sour
 
 -- what a source of the next entry awaits is found by the serial that the table names
 abbrev pub FindsAwaited : Type 0
-FindsAwaited = (p : InFlight) (r : ℕ) → Refines p → awaited_of (hold_in p) (entry_of p.window (source_of p.writes r)) ≡ awaited (hold_in p) (reverse p.window) (Some r)
+FindsAwaited = (p : InFlight) (r : ℕ) → Refines p → awaited_of (hold_in p) (entry_of p.window (source_of p.writes r)) ≡ awaited_serial (hold_in p) (reverse p.window) (Some r)
 
 -- by the serials at an entry's position its sources' writers are found
 abbrev pub TellsWriters : Type 0
@@ -164,7 +164,7 @@ TellsVisible = (point : Point) (window : List Entry) (i : ℕ) (e : Entry) → H
 
 -- the table names each register's youngest root, or one that has retired where it has none
 abbrev pub NamesRoot : Type 0
-NamesRoot = (p : InFlight) (r : ℕ) → Refines p → unretired (oldest_of p.next p.window) (root_of p.writes r) ≡ youngest_root (reverse p.window) r
+NamesRoot = (p : InFlight) (r : ℕ) → Refines p → root_in_flight (oldest_of p.next p.window) (root_of p.writes r) ≡ youngest_root (reverse p.window) r
 
 -- once the point has advanced the root that the table names tells what is tainted
 abbrev pub TellsTaint : Type 0

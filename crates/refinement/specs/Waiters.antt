@@ -42,13 +42,13 @@ awaited_of h None = None
 awaited_of h (Some e) = if gives_at h e then None else Some e.serial
 
 -- the serial that a source awaits, if there is one
-abbrev pub awaited : Hold → List Entry → Option ℕ → Option ℕ
-awaited h before None = None
-awaited h before (Some r) = awaited_of h (writer before r)
+abbrev pub awaited_serial : Hold → List Entry → Option ℕ → Option ℕ
+awaited_serial h before None = None
+awaited_serial h before (Some r) = awaited_of h (writer before r)
 
 -- the serials that an entry's first and second source await
 abbrev pub awaits_of : Hold → List Entry → Entry → List (Option ℕ)
-awaits_of h before e = map (awaited h before) (two (sources e))
+awaits_of h before e = map (awaited_serial h before) (two (sources e))
 
 -- what a store wants whose address and data part have issued or not
 abbrev pub wants_by : Bool → Bool → Wants

@@ -45,6 +45,6 @@ serial_in source.Committed = None
 serial_in (source.Entry serial) = Some serial
 
 -- the serial of the writer that the table names for a source, if there is a source and it names one
-abbrev pub named : List Write → Option ℕ → Option ℕ
-named writes None = None
-named writes (Some r) = serial_in (source_of writes r)
+abbrev pub writer_serial : List Write → Option ℕ → Option ℕ
+writer_serial writes None = None
+writer_serial writes (Some r) = serial_in (source_of writes r)

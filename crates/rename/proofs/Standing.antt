@@ -10,7 +10,7 @@ use Rattle.window_model.specs.declared.Entry.{Entry}
 use Rattle.window_model.specs.declared.Item.{Item}
 use Rattle.machine_desc.specs.Questions.{loads_pass}
 use Rattle.window_model.specs.Order.{is_load, is_store, sources}
-use Rattle.window_model.specs.Rename.{at_once, renamed}
+use Rattle.window_model.specs.Rename.{at_once, entry_of_item}
 use Rattle.machine_facts.proofs.SizedPhases.{rename_item}
 use Rattle.rob_ring.specs.Ring.{Ring}
 use Rattle.rob_ring.specs.declared.beside.Sources.{Sources}
@@ -24,13 +24,13 @@ use Rattle.refinement.proofs.Queues.{queues_stand}
 use Rattle.refinement.proofs.Room.{counts_held, counts_writes}
 use Rattle.refinement.proofs.Steps.{refines_renamed}
 use Rattle.refinement.specs.Roots.{base_root}
-use Rattle.refinement.specs.Stations.{seated}
-use Rattle.refinement.specs.Steps.{Fresh, queued}
+use Rattle.refinement.specs.Stations.{stations_with_entry}
+use Rattle.refinement.specs.Steps.{Fresh, queues_with_entry}
 use Rattle.refinement.specs.Telling.{hold_of}
 use Rattle.refinement.specs.Waiters.{awaits_of, write_of}
 use Rattle.core_parts.proofs.Lending.{each_has_sources}
 use Rattle.core_parts.specs.Described.{Described}
-use Rattle.core_parts.specs.Held.{Held, Sizes, Whole, described, in_flight, machine_of, sizes}
+use Rattle.core_parts.specs.Held.{Held, Sizes, Whole, described_of, in_flight, machine_of, sizes}
 use Rattle.rename.specs.Entering.{awaited_of_writer, with_station, with_write, write_by}
 use Rattle.rename.proofs.Awaiting.{awaits_are, writers_at}
 use Rattle.rename.specs.Fitting.{Counted, fitting, next_item, with_oldest}
@@ -56,7 +56,7 @@ pub record HasRoomFor (h : Held) (e : Entry) : Type 0 where
   pub load : is_load e.item.kind ≡ true → length h.queues.loads < h.queues.max_loads
   pub store : is_store e.item.kind ≡ true → length h.queues.stores < h.queues.max_stores
 
-pub room_for : (h : Held) (item : Item) → Whole h → fitting h.desc h.rob.entries (slice_get h.fetch_unit.queue 0) ≡ Some item → HasRoomFor h (renamed h.desc h.next_serial item)
+pub room_for : (h : Held) (item : Item) → Whole h → fitting h.desc h.rob.entries (slice_get h.fetch_unit.queue 0) ≡ Some item → HasRoomFor h (entry_of_item h.desc h.next_serial item)
 room_for h item w q =
     let f = fits_all h.desc h.rob.entries item (fitting_is h.desc h.rob.entries (slice_get h.fetch_unit.queue 0) item q).1 in
     let c = counts_writes (in_flight h) w.refines in
@@ -94,19 +94,19 @@ pub record Entered (e : Entry) (h : Held) (rob : Ring) (beside : Buffer Sources)
   pub sources : beside ≡ buffer (h.sources.items ++ sources_at h.writes e ∷ []) h.sources.capacity
   pub table : writes ≡ h.writes ++ option_to_list (write_of e (roots_at h.writes e))
   pub same_room : room ≡ h.table_room
-  pub places : (place : ℕ) × (stations ≡ record (h.stations) { held = seated h.desc.version place (awaits_of (hold_of h.desc h.point) (reverse h.rob.entries) e) e h.stations.held })
-  pub loads_and_stores : q ≡ queued e.item.kind e.serial (base_root (roots_at h.writes e)) h.queues
+  pub places : (place : ℕ) × (stations ≡ record (h.stations) { held = stations_with_entry h.desc.version place (awaits_of (hold_of h.desc h.point) (reverse h.rob.entries) e) e h.stations.held })
+  pub loads_and_stores : q ≡ queues_with_entry e.item.kind e.serial (base_root (roots_at h.writes e)) h.queues
   pub fetched : fetch_unit ≡ record (h.fetch_unit) { queue = drop 1 h.fetch_unit.queue }
 
 -- what the phase makes of each part is that
 pub entered_by : (h : Held) (item : Item) (s : Sources) (awaits : List (Option ℕ)) (rob : Ring) (beside : Buffer Sources) (writes : List Write) (room : ℕ) (stations : Stations) (q : Queues) (fetch_unit : FetchUnit) →
-    Whole h → s.writers ≡ writers_at h.writes (renamed h.desc h.next_serial item) → s.roots ≡ roots_at h.writes (renamed h.desc h.next_serial item) →
-    awaits ≡ map (awaited_of_writer (hold_of h.desc h.point) h.rob.entries) s.writers → rob ≡ record (h.rob) { entries = h.rob.entries ++ renamed h.desc h.next_serial item ∷ [] } →
+    Whole h → s.writers ≡ writers_at h.writes (entry_of_item h.desc h.next_serial item) → s.roots ≡ roots_at h.writes (entry_of_item h.desc h.next_serial item) →
+    awaits ≡ map (awaited_of_writer (hold_of h.desc h.point) h.rob.entries) s.writers → rob ≡ record (h.rob) { entries = h.rob.entries ++ entry_of_item h.desc h.next_serial item ∷ [] } →
     beside ≡ buffer (h.sources.items ++ s ∷ []) h.sources.capacity → writes ≡ with_write (write_by h.next_serial item s.roots) h.writes → room ≡ h.table_room →
-    (place : ℕ) × (stations ≡ with_station h.desc.version place awaits (renamed h.desc h.next_serial item) h.stations) → q ≡ queued item.kind h.next_serial (base_root s.roots) h.queues →
-    fetch_unit ≡ record (h.fetch_unit) { queue = drop 1 h.fetch_unit.queue } → Entered (renamed h.desc h.next_serial item) h rob beside writes room stations q fetch_unit
+    (place : ℕ) × (stations ≡ with_station h.desc.version place awaits (entry_of_item h.desc h.next_serial item) h.stations) → q ≡ queues_with_entry item.kind h.next_serial (base_root s.roots) h.queues →
+    fetch_unit ≡ record (h.fetch_unit) { queue = drop 1 h.fetch_unit.queue } → Entered (entry_of_item h.desc h.next_serial item) h rob beside writes room stations q fetch_unit
 entered_by h item s awaits rob beside writes room stations q fetch_unit w are_writers are_roots are_awaits come pushed written same placed added taken =
-    let e = renamed h.desc h.next_serial item in
+    let e = entry_of_item h.desc h.next_serial item in
     let awaited = are_awaits ∙ ap (map (awaited_of_writer (hold_of h.desc h.point) h.rob.entries)) are_writers ∙ awaits_are (in_flight h) e w.refines in
     record {
       window = come;
@@ -114,7 +114,7 @@ entered_by h item s awaits rob beside writes room stations q fetch_unit w are_wr
       table = written ∙ ap (λ rs. with_write (write_by h.next_serial item rs) h.writes) are_roots;
       same_room = same;
       places = (placed.0, placed.1 ∙ ap (λ awaits. with_station h.desc.version placed.0 awaits e h.stations) awaited);
-      loads_and_stores = added ∙ ap (λ rs. queued item.kind h.next_serial (base_root rs) h.queues) are_roots;
+      loads_and_stores = added ∙ ap (λ rs. queues_with_entry item.kind h.next_serial (base_root rs) h.queues) are_roots;
       fetched = taken;
     }
 
@@ -124,19 +124,19 @@ entered place e h = record h {
   rob = record (h.rob) { entries = h.rob.entries ++ e ∷ [] };
   sources = buffer (h.sources.items ++ sources_at h.writes e ∷ []) h.sources.capacity;
   writes = h.writes ++ option_to_list (write_of e (roots_at h.writes e));
-  stations = record (h.stations) { held = seated h.desc.version place (awaits_of (hold_of h.desc h.point) (reverse h.rob.entries) e) e h.stations.held };
-  queues = queued e.item.kind e.serial (base_root (roots_at h.writes e)) h.queues;
+  stations = record (h.stations) { held = stations_with_entry h.desc.version place (awaits_of (hold_of h.desc h.point) (reverse h.rob.entries) e) e h.stations.held };
+  queues = queues_with_entry e.item.kind e.serial (base_root (roots_at h.writes e)) h.queues;
   fetch_unit = record (h.fetch_unit) { queue = drop 1 h.fetch_unit.queue };
   next_serial = h.next_serial + 1;
 }
 
 -- an entry that comes in leaves the room of the queues as it is
-keeps_loads : (k : Kind) (serial : ℕ) (root : Option ℕ) (q : Queues) → (queued k serial root q).max_loads ≡ q.max_loads
+keeps_loads : (k : Kind) (serial : ℕ) (root : Option ℕ) (q : Queues) → (queues_with_entry k serial root q).max_loads ≡ q.max_loads
 keeps_loads Load serial root q = refl
 keeps_loads Store serial root q = refl
 keeps_loads _ serial root q = refl
 
-keeps_stores : (k : Kind) (serial : ℕ) (root : Option ℕ) (q : Queues) → (queued k serial root q).max_stores ≡ q.max_stores
+keeps_stores : (k : Kind) (serial : ℕ) (root : Option ℕ) (q : Queues) → (queues_with_entry k serial root q).max_stores ≡ q.max_stores
 keeps_stores Load serial root q = refl
 keeps_stores Store serial root q = refl
 keeps_stores _ serial root q = refl
@@ -157,7 +157,7 @@ starts_uncleared true true p s = refl
 starts_uncleared true false p s = absurd (cc)
 starts_uncleared false store p s = absurd (cc)
 
-fresh : (h : Held) (item : Item) → Fresh (in_flight h) (renamed h.desc h.next_serial item)
+fresh : (h : Held) (item : Item) → Fresh (in_flight h) (entry_of_item h.desc h.next_serial item)
 fresh h item = record {
   serial = refl;
   unresolved = refl;
@@ -167,9 +167,9 @@ fresh h item = record {
   uncleared = starts_uncleared (loads_pass h.desc) (is_store item.kind);
 }
 
-entered_whole : (h : Held) (item : Item) (place : ℕ) → Whole h → fitting h.desc h.rob.entries (slice_get h.fetch_unit.queue 0) ≡ Some item → Whole (entered place (renamed h.desc h.next_serial item) h)
+entered_whole : (h : Held) (item : Item) (place : ℕ) → Whole h → fitting h.desc h.rob.entries (slice_get h.fetch_unit.queue 0) ≡ Some item → Whole (entered place (entry_of_item h.desc h.next_serial item) h)
 entered_whole h item place w q =
-    let e = renamed h.desc h.next_serial item in
+    let e = entry_of_item h.desc h.next_serial item in
     let found = fitting_is h.desc h.rob.entries (slice_get h.fetch_unit.queue 0) item q in
     record {
       sized = rename_item h.desc (machine_of h) item (drop 1 h.fetch_unit.queue) (first_rest h.fetch_unit.queue item found.0) found.1 w.sized;
@@ -181,8 +181,8 @@ one_item : (o : Option Item) (a b : Item) → o ≡ Some a → o ≡ Some b → 
 one_item o a b p q = cc
 
 module _ (h : Held) (item : Item) (rob : Ring) (beside : Buffer Sources) (writes : List Write) (room : ℕ) (stations : Stations) (q : Queues) (fetch_unit : FetchUnit) (next : ℕ) (w : Whole h)
-    (g : Entered (renamed h.desc h.next_serial item) h rob beside writes room stations q fetch_unit) (n : next ≡ h.next_serial + 1) where
-  are : record h { rob = rob; sources = beside; writes = writes; table_room = room; stations = stations; queues = q; fetch_unit = fetch_unit; next_serial = next } ≡ entered g.places.0 (renamed h.desc h.next_serial item) h
+    (g : Entered (entry_of_item h.desc h.next_serial item) h rob beside writes room stations q fetch_unit) (n : next ≡ h.next_serial + 1) where
+  are : record h { rob = rob; sources = beside; writes = writes; table_room = room; stations = stations; queues = q; fetch_unit = fetch_unit; next_serial = next } ≡ entered g.places.0 (entry_of_item h.desc h.next_serial item) h
   are =
       let e1 = g.window in
       let e2 = g.sources in
@@ -197,10 +197,10 @@ module _ (h : Held) (item : Item) (rob : Ring) (beside : Buffer Sources) (writes
       Whole (record h { rob = rob; sources = beside; writes = writes; table_room = room; stations = stations; queues = q; fetch_unit = fetch_unit; next_serial = next })
   enter_whole f = subst Whole (sym are) (entered_whole h item g.places.0 w f)
 
-  pub enter_shown : fitting h.desc h.rob.entries (slice_get h.fetch_unit.queue 0) ≡ Some item → (v : Described) → described h ≡ v → (i : Item) → next_item v.desc v.machine ≡ Some i →
-      described (record h { rob = rob; sources = beside; writes = writes; table_room = room; stations = stations; queues = q; fetch_unit = fetch_unit; next_serial = next })
+  pub enter_shown : fitting h.desc h.rob.entries (slice_get h.fetch_unit.queue 0) ≡ Some item → (v : Described) → described_of h ≡ v → (i : Item) → next_item v.desc v.machine ≡ Some i →
+      described_of (record h { rob = rob; sources = beside; writes = writes; table_room = room; stations = stations; queues = q; fetch_unit = fetch_unit; next_serial = next })
       ≡ record v { machine = with_oldest v.desc i v.machine }
   enter_shown f v s i k =
       let told : next_item h.desc (machine_of h) ≡ Some i = ap (λ (v : Described). next_item v.desc v.machine) s ∙ k in
-      ap described are ∙ ap (λ (v : Described). record v { machine = with_oldest v.desc item v.machine }) s
+      ap described_of are ∙ ap (λ (v : Described). record v { machine = with_oldest v.desc item v.machine }) s
       ∙ ap (λ i. record v { machine = with_oldest v.desc i v.machine }) (one_item _ item i f told)

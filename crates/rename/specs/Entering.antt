@@ -13,7 +13,7 @@ use Rattle.rename_taint.specs.Writes.{root_written}
 use Rattle.stations.specs.Stations.{Stations}
 use Rattle.visibility.specs.Point.{Point}
 use Rattle.refinement.specs.Waiters.{Hold, awaited_of}
-use Rattle.refinement.specs.Stations.{seated}
+use Rattle.refinement.specs.Stations.{stations_with_entry}
 
 -- what holds results back under a defence, up to a point
 abbrev pub held_by : Defence → Point → Hold
@@ -39,4 +39,4 @@ with_write write writes = writes ++ option_to_list write
 
 -- the stations, with one more in some place where the entry waits, for what it wants in this version of the machine
 abbrev pub with_station : ℕ → ℕ → List (Option ℕ) → Entry → Stations → Stations
-with_station version place awaits e s = record s { held = seated version place awaits e s.held }
+with_station version place awaits e s = record s { held = stations_with_entry version place awaits e s.held }

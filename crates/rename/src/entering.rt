@@ -4,11 +4,11 @@ ghost use Rattle.std.specs.List.{All};
 ghost use Rattle.circular_buffer.specs.Buffer.{buffer};
 ghost use Rattle.machine_desc.specs.Questions.{stores_in_one};
 ghost use Rattle.window_model.specs.Dependence.{needs_clearing};
-ghost use Rattle.window_model.specs.Rename.{at_once, renamed};
+ghost use Rattle.window_model.specs.Rename.{at_once, entry_of_item};
 ghost use Rattle.window_model.specs.Order.{is_load, is_store};
 ghost use Rattle.stations.specs.declared.wants.Wants.TheVariants as wants;
 ghost use Rattle.refinement.specs.Roots.{base_root};
-ghost use Rattle.refinement.specs.Steps.{queued};
+ghost use Rattle.refinement.specs.Steps.{queues_with_entry};
 ghost use Rattle.rename.specs.Entering.{with_station, with_write, write_by};
 
 use crate::room::is_at_once;
@@ -25,7 +25,7 @@ use window_model::{Entry, Item, Progress};
 pub(crate) fn add_entry(serial: u64, item: &Item, desc: &Desc, rob: &mut RobRing)
     requires { length rob.old.entries < rob.old.room }
     ensures { rob.new
-        ≡ record rob.old { entries = rob.old.entries ++ renamed desc.now serial item.now ∷ [] } }
+        ≡ record rob.old { entries = rob.old.entries ++ entry_of_item desc.now serial item.now ∷ [] } }
 {
     rob.push(renamed(serial, item, desc));
 }
@@ -42,7 +42,7 @@ fn needs_clearing(kind: Kind, desc: &Desc) -> bool
 
 // The item as an entry.
 fn renamed(serial: u64, item: &Item, desc: &Desc) -> Entry
-    ensures { result ≡ renamed desc.now serial item.now }
+    ensures { result ≡ entry_of_item desc.now serial item.now }
 {
     let state = if is_at_once(item.kind) {
         Progress::Done
@@ -101,7 +101,7 @@ pub(crate) fn add_station(
     requires room { at_once item.now.kind ≡ false → length stations.old.held < stations.old.room }
     requires youngest { All (λ s. s.serial < serial) stations.old.held }
     ensures { (place : ℕ) × (stations.new
-        ≡ with_station desc.now.version place awaits (renamed desc.now serial item.now) stations.old) }
+        ≡ with_station desc.now.version place awaits (entry_of_item desc.now serial item.now) stations.old) }
 {
     if !is_at_once(item.kind) {
         stations.insert(serial, wants_of(desc, item.kind), awaits);
@@ -112,7 +112,7 @@ pub(crate) fn add_station(
 pub(crate) fn add_access(serial: u64, kind: Kind, sources: [Option<u64>; 2], lsq: &mut Lsq)
     requires load { is_load kind ≡ true → length lsq.old.loads < lsq.old.max_loads }
     requires store { is_store kind ≡ true → length lsq.old.stores < lsq.old.max_stores }
-    ensures { lsq.new ≡ queued kind serial (base_root sources) lsq.old }
+    ensures { lsq.new ≡ queues_with_entry kind serial (base_root sources) lsq.old }
 {
     let [base, _] = sources;
     match kind {

@@ -10,7 +10,7 @@ use Rattle.rename_taint.specs.declared.Write.{Write}
 use Rattle.rename_taint.specs.declared.slots.Slot.{Slot}
 use Rattle.rename_taint.specs.declared.slots.Undo.{Undo}
 use Rattle.rename_taint.specs.Writes.{last_write, source_of, root_of, without_retired}
-use Rattle.rename_taint.specs.Table.{writes_of, slot_of, empty, last_of, forgotten, held, oldest_of, oldest_in, is_first, is_last, Linked, IsTable, Table}
+use Rattle.rename_taint.specs.Table.{writes_of, slot_of, empty, last_of, slot_after_retirement, slot_unless_retired, oldest_of, oldest_in, is_first, is_last, EachIsLinked, IsTable, Table}
 use Rattle.rename_taint.proofs.UndoList.{LeadsBack, Falls, leads_back, falls_from, linked_from, oldest_push, held_last, leads_drop, falls_drop, falls_front, undo_keeps, write_keeps, retire_keeps}
 
 -- what is left of a list at a place
@@ -63,12 +63,12 @@ pub table_append : (slots : List Slot) (us : List Undo) (w : Write) → Table sl
 table_append slots us w t lt young =
     let u : Undo = record { write = w; previous = get_or slots w.register empty } in
     let f = falls_from (reverse us) t.linked in
-    let back : held (oldest_in (reverse us)) (get_or slots w.register empty) ≡ slot_of (last_of w.register (reverse us)) = ap (held (oldest_in (reverse us))) (t.cells w.register lt) ∙ held_last (reverse us) w.register f in
-    let l : Linked (u ∷ reverse us) = linked_from (u ∷ reverse us) (back, lt, leads_back (reverse us) t.linked) (all_reverse (λ v. v.write.serial < w.serial) us (all_of_map (λ v. v.serial < w.serial) us young), f) in
+    let back : slot_unless_retired (oldest_in (reverse us)) (get_or slots w.register empty) ≡ slot_of (last_of w.register (reverse us)) = ap (slot_unless_retired (oldest_in (reverse us))) (t.cells w.register lt) ∙ held_last (reverse us) w.register f in
+    let l : EachIsLinked (u ∷ reverse us) = linked_from (u ∷ reverse us) (back, lt, leads_back (reverse us) t.linked) (all_reverse (λ v. v.write.serial < w.serial) us (all_of_map (λ v. v.serial < w.serial) us young), f) in
     record {
       registers = length-set slots w.register _ ∙ t.registers;
       cells = subst (IsTable (set slots w.register (slot_of (Some w)))) (sym (reverse_push us u)) (write_keeps slots w (get_or slots w.register empty) (reverse us) t.registers lt t.cells);
-      linked = subst Linked (sym (reverse_push us u)) l;
+      linked = subst EachIsLinked (sym (reverse_push us u)) l;
     }
 
 -- ---- the oldest write goes
@@ -84,10 +84,10 @@ all_registers (u ∷ older) l = All-cons (λ u. u.write.register < 32) u older l
 pub registers_below : (slots : List Slot) (us : List Undo) → Table slots us → All (λ u. u.write.register < 32) us
 registers_below slots us t = all_back (λ u. u.write.register < 32) us (all_registers (reverse us) (leads_back (reverse us) t.linked))
 
-pop_front_at : (slots : List Slot) (u : Undo) (us : List Undo) → Table slots (u ∷ us) → Table (set slots u.write.register (forgotten u.write.serial (get_or slots u.write.register empty))) us
+pop_front_at : (slots : List Slot) (u : Undo) (us : List Undo) → Table slots (u ∷ us) → Table (set slots u.write.register (slot_after_retirement u.write.serial (get_or slots u.write.register empty))) us
 pop_front_at slots u us t =
     let r : reverse (u ∷ us) ≡ reverse us ++ u ∷ [] = reverse-append (u ∷ []) us in
-    let l : Linked (reverse us ++ u ∷ []) = subst Linked r t.linked in
+    let l : EachIsLinked (reverse us ++ u ∷ []) = subst EachIsLinked r t.linked in
     let f = falls_from (reverse us ++ u ∷ []) l in
     let b = leads_back (reverse us ++ u ∷ []) l in
     let lt = All-head (λ u. u.write.register < 32) u us (registers_below slots (u ∷ us) t) in
@@ -99,11 +99,11 @@ pop_front_at slots u us t =
     }
 
 pub pop_front_keeps : (slots slots2 : List Slot) (us us2 : List Undo) (u : Undo) → Table slots us → Some u ≡ slice_get us 0 → us2 ≡ drop 1 us →
-    slots2 ≡ set slots u.write.register (forgotten u.write.serial (get_or slots u.write.register empty)) → Table slots2 us2
+    slots2 ≡ set slots u.write.register (slot_after_retirement u.write.serial (get_or slots u.write.register empty)) → Table slots2 us2
 pop_front_keeps slots slots2 [] us2 u t h e f = absurd (cc)
 pop_front_keeps slots slots2 (x ∷ us) us2 u t h e f =
     let i : x ≡ u = cc in
-    let p = subst (λ (u : Undo). Table (set slots u.write.register (forgotten u.write.serial (get_or slots u.write.register empty))) us) i (pop_front_at slots x us t) in
+    let p = subst (λ (u : Undo). Table (set slots u.write.register (slot_after_retirement u.write.serial (get_or slots u.write.register empty))) us) i (pop_front_at slots x us t) in
     rw (f) (rw e p)
 
 -- ---- the youngest write goes
@@ -117,14 +117,14 @@ last_split us u h =
     ap reverse all ∙ reverse_push (take n us) u
 
 pub pop_back_keeps : (slots : List Slot) (us us2 : List Undo) (u : Undo) (v : Slot) → Table slots us → Some u ≡ slice_get us (length us - 1) → us2 ≡ take (length us - 1) us →
-    v ≡ held (oldest_of us2) u.previous → Table (set slots u.write.register v) us2
+    v ≡ slot_unless_retired (oldest_of us2) u.previous → Table (set slots u.write.register v) us2
 pop_back_keeps slots us us2 u v t h e f =
     let r : reverse us ≡ u ∷ reverse us2 = last_split us u h ∙ ap (λ us. u ∷ reverse us) (sym e) in
-    let l : Linked (u ∷ reverse us2) = subst Linked r t.linked in
+    let l : EachIsLinked (u ∷ reverse us2) = subst EachIsLinked r t.linked in
     let b = leads_back (u ∷ reverse us2) l in
     let g = falls_from (u ∷ reverse us2) l in
     let k = undo_keeps slots u (reverse us2) t.registers b (subst (IsTable slots) r t.cells) in
-    let w : held (oldest_in (reverse us2)) u.previous ≡ v = ap (λ o. held o u.previous) (oldest_same us2) ∙ sym f in
+    let w : slot_unless_retired (oldest_in (reverse us2)) u.previous ≡ v = ap (λ o. slot_unless_retired o u.previous) (oldest_same us2) ∙ sym f in
     record {
       registers = length-set slots u.write.register v ∙ t.registers;
       cells = subst (λ v. IsTable (set slots u.write.register v) (reverse us2)) w k;
@@ -156,7 +156,7 @@ pub kept_end : (slots : List Slot) (serial : ℕ) (us : List Undo) → Table slo
 kept_end slots serial [] t h = refl
 kept_end slots serial (u ∷ us) t h =
     let lt : serial < u.write.serial = grind (arith, nat_tests) in
-    let f = falls_front (reverse us) u (falls_from (reverse us ++ u ∷ []) (subst Linked (reverse-append (u ∷ []) us) t.linked)) in
+    let f = falls_front (reverse us) u (falls_from (reverse us ++ u ∷ []) (subst EachIsLinked (reverse-append (u ∷ []) us) t.linked)) in
     let a = all_back (λ v. u.write.serial < v.write.serial) us f.1 in
     filter_all (λ w. nat_lt serial w.serial) (writes_of (u ∷ us))
     (all_map (λ w. nat_lt serial w.serial ≡ true) (u ∷ us)
@@ -232,7 +232,7 @@ held_on serial i us u h lt r =
     let e = ap (λ us. list_any (λ w. w.serial == serial) (writes_of us)) (drop_here us i u h) in
     cc
 
-pub held_at : (serial i : ℕ) (us : List Undo) (u : Undo) → Linked (reverse us) → slice_get us i ≡ Some u → serial ≤ u.write.serial → list_any (λ w. w.serial == serial) (writes_of (drop i us)) ≡ list_any (λ w. w.serial == serial) (writes_of us) →
+pub held_at : (serial i : ℕ) (us : List Undo) (u : Undo) → EachIsLinked (reverse us) → slice_get us i ≡ Some u → serial ≤ u.write.serial → list_any (λ w. w.serial == serial) (writes_of (drop i us)) ≡ list_any (λ w. w.serial == serial) (writes_of us) →
     (u.write.serial == serial) ≡ list_any (λ w. w.serial == serial) (writes_of us)
 held_at serial i us u l h le r =
     let s : suc i ≡ i + 1 = omega arith in

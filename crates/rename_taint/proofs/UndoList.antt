@@ -11,27 +11,27 @@ use Rattle.rename_taint.specs.declared.Source.{Source}
 use Rattle.rename_taint.specs.declared.Source.TheVariants.{Committed, Entry}
 use Rattle.rename_taint.specs.declared.slots.Slot.{Slot}
 use Rattle.rename_taint.specs.declared.slots.Undo.{Undo}
-use Rattle.rename_taint.specs.Table.{slot_of, empty, names_from, forgotten, last_of, held, oldest_in, Linked, IsTable}
+use Rattle.rename_taint.specs.Table.{slot_of, empty, names_from, slot_after_retirement, last_of, slot_unless_retired, oldest_in, EachIsLinked, IsTable}
 
 -- ---- links, one entry after another
 
 abbrev pub LeadsBack : List Undo → Type 0
 LeadsBack [] = Unit {0}
-LeadsBack (u ∷ older) = (held (oldest_in older) u.previous ≡ slot_of (last_of u.write.register older)) × (u.write.register < 32) × LeadsBack older
+LeadsBack (u ∷ older) = (slot_unless_retired (oldest_in older) u.previous ≡ slot_of (last_of u.write.register older)) × (u.write.register < 32) × LeadsBack older
 
 abbrev pub Falls : List Undo → Type 0
 Falls [] = Unit {0}
 Falls (u ∷ older) = All (λ v. v.write.serial < u.write.serial) older × Falls older
 
-pub leads_back : (us : List Undo) → Linked us → LeadsBack us
+pub leads_back : (us : List Undo) → EachIsLinked us → LeadsBack us
 leads_back [] h = tt
 leads_back (u ∷ older) h = let l = h 0 u (omega arith) in (l.0, l.1, leads_back older (λ i d lt. h (suc i) d (omega arith)))
 
-pub falls_from : (us : List Undo) → Linked us → Falls us
+pub falls_from : (us : List Undo) → EachIsLinked us → Falls us
 falls_from [] h = tt
 falls_from (u ∷ older) h = ((h 0 u (omega arith)).2, falls_from older (λ i d lt. h (suc i) d (omega arith)))
 
-pub linked_from : (us : List Undo) → LeadsBack us → Falls us → Linked us
+pub linked_from : (us : List Undo) → LeadsBack us → Falls us → EachIsLinked us
 linked_from [] l f i d lt = absurd (omega arith)
 linked_from (u ∷ older) l f zero d lt = (l.0, l.1, f.0)
 linked_from (u ∷ older) l f (suc i) d lt = linked_from older l.2 f.1 i d (omega arith)
@@ -95,7 +95,7 @@ falls_front (u ∷ us) x f =
 
 -- ---- what is still held of a slot
 
-held_found : (n r : ℕ) (us : List Undo) → All (λ u. n ≤ u.write.serial) us → held (Some n) (slot_of (last_of r us)) ≡ slot_of (last_of r us)
+held_found : (n r : ℕ) (us : List Undo) → All (λ u. n ≤ u.write.serial) us → slot_unless_retired (Some n) (slot_of (last_of r us)) ≡ slot_of (last_of r us)
 held_found n r [] a = refl
 held_found n r (u ∷ older) a =
     by_register (u.write.register == r) (held_found n r older (All-tail (λ u. n ≤ u.write.serial) u older a))
@@ -103,24 +103,24 @@ held_found n r (u ∷ older) a =
     le : nat_le n u.write.serial ≡ true
     le = let l = All-head (λ u. n ≤ u.write.serial) u older a in grind (arith, nat_tests)
 
-    by_register : (b : Bool) → held (Some n) (slot_of (last_of r older)) ≡ slot_of (last_of r older) → held (Some n) (slot_of (cond b (Some u.write) (last_of r older))) ≡ slot_of (cond b (Some u.write) (last_of r older))
+    by_register : (b : Bool) → slot_unless_retired (Some n) (slot_of (last_of r older)) ≡ slot_of (last_of r older) → slot_unless_retired (Some n) (slot_of (cond b (Some u.write) (last_of r older))) ≡ slot_of (cond b (Some u.write) (last_of r older))
     by_register true h = ap (λ b. if b then slot_of (Some u.write) else empty) le
     by_register false h = h
 
 -- the last write of a register is held
-pub held_last : (us : List Undo) (r : ℕ) → Falls us → held (oldest_in us) (slot_of (last_of r us)) ≡ slot_of (last_of r us)
+pub held_last : (us : List Undo) (r : ℕ) → Falls us → slot_unless_retired (oldest_in us) (slot_of (last_of r us)) ≡ slot_of (last_of r us)
 held_last [] r f = refl
 held_last (u ∷ older) r f =
     let s = oldest_some u older in
-    ap (λ o. held o (slot_of (last_of r (u ∷ older)))) s.1 ∙ held_found s.0 r (u ∷ older) (least (u ∷ older) s.0 f s.1)
+    ap (λ o. slot_unless_retired o (slot_of (last_of r (u ∷ older)))) s.1 ∙ held_found s.0 r (u ∷ older) (least (u ∷ older) s.0 f s.1)
 
-held_tail : (n r : ℕ) (us : List Undo) (x : Undo) → All (λ u. n ≤ u.write.serial) us → x.write.serial < n → held (Some n) (slot_of (last_of r (us ++ x ∷ []))) ≡ slot_of (last_of r us)
+held_tail : (n r : ℕ) (us : List Undo) (x : Undo) → All (λ u. n ≤ u.write.serial) us → x.write.serial < n → slot_unless_retired (Some n) (slot_of (last_of r (us ++ x ∷ []))) ≡ slot_of (last_of r us)
 held_tail n r [] x a lt = by_register (x.write.register == r)
   where
     gt : nat_le n x.write.serial ≡ false
     gt = grind (arith, nat_tests)
 
-    by_register : (b : Bool) → held (Some n) (slot_of (cond b (Some x.write) None)) ≡ empty
+    by_register : (b : Bool) → slot_unless_retired (Some n) (slot_of (cond b (Some x.write) None)) ≡ empty
     by_register true = ap (λ b. if b then slot_of (Some x.write) else empty) gt
     by_register false = refl
 held_tail n r (u ∷ us) x a lt =
@@ -129,16 +129,16 @@ held_tail n r (u ∷ us) x a lt =
     le : nat_le n u.write.serial ≡ true
     le = let l = All-head (λ u. n ≤ u.write.serial) u us a in grind (arith, nat_tests)
 
-    by_register : (b : Bool) → held (Some n) (slot_of (last_of r (us ++ x ∷ []))) ≡ slot_of (last_of r us) →
-        held (Some n) (slot_of (cond b (Some u.write) (last_of r (us ++ x ∷ [])))) ≡ slot_of (cond b (Some u.write) (last_of r us))
+    by_register : (b : Bool) → slot_unless_retired (Some n) (slot_of (last_of r (us ++ x ∷ []))) ≡ slot_of (last_of r us) →
+        slot_unless_retired (Some n) (slot_of (cond b (Some u.write) (last_of r (us ++ x ∷ [])))) ≡ slot_of (cond b (Some u.write) (last_of r us))
     by_register true h = ap (λ b. if b then slot_of (Some u.write) else empty) le
     by_register false h = h
 
 -- where the oldest goes, a slot that named it is cleared
-forget_last : (us : List Undo) (x : Undo) (r : ℕ) → Falls (us ++ x ∷ []) → (x.write.register == r) ≡ true → forgotten x.write.serial (slot_of (last_of r (us ++ x ∷ []))) ≡ slot_of (last_of r us)
+forget_last : (us : List Undo) (x : Undo) (r : ℕ) → Falls (us ++ x ∷ []) → (x.write.register == r) ≡ true → slot_after_retirement x.write.serial (slot_of (last_of r (us ++ x ∷ []))) ≡ slot_of (last_of r us)
 forget_last [] x r f q =
     let e : (x.write.serial == x.write.serial) ≡ true = grind (arith, nat_tests) in
-    ap (λ b. forgotten x.write.serial (slot_of (cond b (Some x.write) None))) q ∙ ap (λ b. if b then empty else slot_of (Some x.write)) e
+    ap (λ b. slot_after_retirement x.write.serial (slot_of (cond b (Some x.write) None))) q ∙ ap (λ b. if b then empty else slot_of (Some x.write)) e
 forget_last (u ∷ us) x r f q =
     by_register (u.write.register == r) (forget_last us x r f.1 q)
   where
@@ -148,8 +148,8 @@ forget_last (u ∷ us) x r f q =
         let lt : x.write.serial < u.write.serial = All-head (λ u. x.write.serial < u.write.serial) u us g.1 in
         grind (arith, nat_tests)
 
-    by_register : (b : Bool) → forgotten x.write.serial (slot_of (last_of r (us ++ x ∷ []))) ≡ slot_of (last_of r us) →
-        forgotten x.write.serial (slot_of (cond b (Some u.write) (last_of r (us ++ x ∷ [])))) ≡ slot_of (cond b (Some u.write) (last_of r us))
+    by_register : (b : Bool) → slot_after_retirement x.write.serial (slot_of (last_of r (us ++ x ∷ []))) ≡ slot_of (last_of r us) →
+        slot_after_retirement x.write.serial (slot_of (cond b (Some u.write) (last_of r (us ++ x ∷ [])))) ≡ slot_of (cond b (Some u.write) (last_of r us))
     by_register true h = ap (λ b. if b then empty else slot_of (Some u.write)) other
     by_register false h = h
 
@@ -158,25 +158,25 @@ earlier : (m n : ℕ) (s : Source) → m ≤ n → names_from m s ≡ false → 
 earlier m n Committed le h = refl
 earlier m n (Entry writer) le h = grind (arith, nat_tests)
 
-held_twice : (m n : ℕ) (s : Slot) → m ≤ n → held (Some n) (held (Some m) s) ≡ held (Some n) s
+held_twice : (m n : ℕ) (s : Slot) → m ≤ n → slot_unless_retired (Some n) (slot_unless_retired (Some m) s) ≡ slot_unless_retired (Some n) s
 held_twice m n s le = by_m (names_from m s.source) refl
   where
-    by_m : (b : Bool) → names_from m s.source ≡ b → held (Some n) (if b then s else empty) ≡ held (Some n) s
+    by_m : (b : Bool) → names_from m s.source ≡ b → slot_unless_retired (Some n) (if b then s else empty) ≡ slot_unless_retired (Some n) s
     by_m true e = refl
     by_m false e = ap (λ b. if b then s else empty) (sym (earlier m n s.source le e))
 
 -- ---- the undo list without its oldest
 
-back_drop : (us : List Undo) (x : Undo) (r : ℕ) (p : Slot) → Falls (us ++ x ∷ []) → held (oldest_in (us ++ x ∷ [])) p ≡ slot_of (last_of r (us ++ x ∷ [])) → held (oldest_in us) p ≡ slot_of (last_of r us)
+back_drop : (us : List Undo) (x : Undo) (r : ℕ) (p : Slot) → Falls (us ++ x ∷ []) → slot_unless_retired (oldest_in (us ++ x ∷ [])) p ≡ slot_of (last_of r (us ++ x ∷ [])) → slot_unless_retired (oldest_in us) p ≡ slot_of (last_of r us)
 back_drop [] x r p f h = refl
 back_drop (u ∷ us) x r p f h =
     let s = oldest_some u us in
     let g = falls_front (u ∷ us) x f in
     let lt : x.write.serial < s.0 = oldest_has (λ n. x.write.serial < n) (u ∷ us) s.0 g.1 s.1 in
-    ap (λ o. held o p) s.1
+    ap (λ o. slot_unless_retired o p) s.1
     ∙ sym (held_twice x.write.serial s.0 p (omega arith))
-    ∙ ap (λ o. held (Some s.0) (held o p)) (sym (oldest_push (u ∷ us) x))
-    ∙ ap (held (Some s.0)) h
+    ∙ ap (λ o. slot_unless_retired (Some s.0) (slot_unless_retired o p)) (sym (oldest_push (u ∷ us) x))
+    ∙ ap (slot_unless_retired (Some s.0)) h
     ∙ held_tail s.0 r (u ∷ us) x (least (u ∷ us) s.0 g.0 s.1) lt
 
 pub leads_drop : (us : List Undo) (x : Undo) → Falls (us ++ x ∷ []) → LeadsBack (us ++ x ∷ []) → LeadsBack us
@@ -203,9 +203,9 @@ by_register slots reg r v t n lt false q p o =
     get_or-set_other slots reg r v empty e ∙ o refl
 
 -- the slots stand for the older writes once the youngest is undone
-pub undo_keeps : (slots : List Slot) (u : Undo) (older : List Undo) → length slots ≡ 32 → LeadsBack (u ∷ older) → IsTable slots (u ∷ older) → IsTable (set slots u.write.register (held (oldest_in older) u.previous)) older
+pub undo_keeps : (slots : List Slot) (u : Undo) (older : List Undo) → length slots ≡ 32 → LeadsBack (u ∷ older) → IsTable slots (u ∷ older) → IsTable (set slots u.write.register (slot_unless_retired (oldest_in older) u.previous)) older
 undo_keeps slots u older n l t r lt =
-    by_register slots u.write.register r (held (oldest_in older) u.previous) (slot_of (last_of r older)) n l.1 (u.write.register == r) refl
+    by_register slots u.write.register r (slot_unless_retired (oldest_in older) u.previous) (slot_of (last_of r older)) n l.1 (u.write.register == r) refl
     (λ q. let e : u.write.register ≡ r = grind (arith, nat_tests) in l.0 ∙ ap (λ r. slot_of (last_of r older)) e)
     (λ q. t r lt ∙ ap (λ b. slot_of (cond b (Some u.write) (last_of r older))) q)
 
@@ -219,10 +219,10 @@ write_keeps slots w p older n lt t r rt =
 
 -- the slots stand for the younger writes once the oldest has retired
 pub retire_keeps : (slots : List Slot) (us : List Undo) (x : Undo) → length slots ≡ 32 → x.write.register < 32 → Falls (us ++ x ∷ []) → IsTable slots (us ++ x ∷ []) →
-    IsTable (set slots x.write.register (forgotten x.write.serial (get_or slots x.write.register empty))) us
+    IsTable (set slots x.write.register (slot_after_retirement x.write.serial (get_or slots x.write.register empty))) us
 retire_keeps slots us x n lt f t r rt =
     by_register slots x.write.register r _ (slot_of (last_of r us)) n lt (x.write.register == r) refl
     (λ q.
     let e : x.write.register ≡ r = grind (arith, nat_tests) in
-    ap (forgotten x.write.serial) (ap (λ r. get_or slots r empty) e ∙ t r rt) ∙ forget_last us x r f q)
+    ap (slot_after_retirement x.write.serial) (ap (λ r. get_or slots r empty) e ∙ t r rt) ∙ forget_last us x r f q)
     (λ q. t r rt ∙ ap slot_of (last_other us x r q))

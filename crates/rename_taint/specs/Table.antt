@@ -40,8 +40,8 @@ names serial Committed = false
 names serial (Entry writer) = writer == serial
 
 -- what a slot says once this entry has retired
-abbrev pub forgotten : ℕ → Slot → Slot
-forgotten serial s = if names serial s.source then empty else s
+abbrev pub slot_after_retirement : ℕ → Slot → Slot
+slot_after_retirement serial s = if names serial s.source then empty else s
 
 -- a value stands with an entry from this serial on
 abbrev pub names_from : ℕ → Source → Bool
@@ -49,9 +49,9 @@ names_from oldest Committed = false
 names_from oldest (Entry writer) = nat_le oldest writer
 
 -- what a slot still says where this is the oldest serial that is held: nothing of a writer that has retired
-abbrev pub held : Option ℕ → Slot → Slot
-held None s = empty
-held (Some oldest) s = if names_from oldest s.source then s else empty
+abbrev pub slot_unless_retired : Option ℕ → Slot → Slot
+slot_unless_retired None s = empty
+slot_unless_retired (Some oldest) s = if names_from oldest s.source then s else empty
 
 -- ---- the undo list from its youngest on
 
@@ -67,11 +67,11 @@ oldest_in (u ∷ older) = option_or (oldest_in older) (Some u.write.serial)
 -- an undo entry restores the last write of its register among the older ones, and is younger than they are
 abbrev pub LinkedTo : List Undo → Undo → Type 0
 LinkedTo older u =
-    (held (oldest_in older) u.previous ≡ slot_of (last_of u.write.register older)) × (u.write.register < 32) × All (λ v. v.write.serial < u.write.serial) older
+    (slot_unless_retired (oldest_in older) u.previous ≡ slot_of (last_of u.write.register older)) × (u.write.register < 32) × All (λ v. v.write.serial < u.write.serial) older
 
 -- for an undo list, youngest first: every write is linked to the older ones
-abbrev pub Linked : List Undo → Type 0
-Linked undo = (i : ℕ) (d : Undo) → i < length undo → LinkedTo (drop (suc i) undo) (get_or undo i d)
+abbrev pub EachIsLinked : List Undo → Type 0
+EachIsLinked undo = (i : ℕ) (d : Undo) → i < length undo → LinkedTo (drop (suc i) undo) (get_or undo i d)
 
 -- a register's slot says what the last write of the register does
 abbrev pub IsTable : List Slot → List Undo → Type 0
@@ -81,4 +81,4 @@ IsTable slots undo = (r : ℕ) → r < 32 → slice_index_or slots r empty ≡ s
 pub record Table (slots : List Slot) (undo : List Undo) : Type 0 where
   pub registers : length slots ≡ 32
   pub cells : IsTable slots (reverse undo)
-  pub linked : Linked (reverse undo)
+  pub linked : EachIsLinked (reverse undo)

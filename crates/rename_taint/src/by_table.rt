@@ -9,7 +9,7 @@ ghost use Rattle.std.specs.Prelude.{◌≡◌, ◌-◌, ◌<◌, ◌∷◌, ◌+
 ghost use Rattle.std.specs.List.{filter, list_any, All};
 ghost use Rattle.circular_buffer.specs.Buffer.{buffer};
 ghost use Rattle.rename_taint.specs.Writes.{before_serial, without_retired};
-ghost use Rattle.rename_taint.specs.Table.{Table, Linked, writes_of, empty, names, forgotten, held, oldest_of, is_first, is_last};
+ghost use Rattle.rename_taint.specs.Table.{Table, EachIsLinked, writes_of, empty, names, slot_after_retirement, slot_unless_retired, oldest_of, is_first, is_last};
 
 use crate::slots::{EMPTY, Slot, Undo};
 use crate::{RenameTaint, Source, Write};
@@ -102,7 +102,7 @@ fn push_within(undo: &mut HeapCircularBuffer<Undo>, entry: Undo)
 // Whether a write with this serial is held. Serials rise along the list, so the search ends at the first that isn't
 // smaller: that of a head that retires is the first.
 fn is_held(undo: &HeapCircularBuffer<Undo>, serial: u64) -> bool
-    requires { Linked (reverse undo.now.items) }
+    requires { EachIsLinked (reverse undo.now.items) }
     ensures { result ≡ list_any (λ w. w.serial == serial) (writes_of undo.now.items) }
 {
     for i in 0..undo.len() {
@@ -116,7 +116,7 @@ fn is_held(undo: &HeapCircularBuffer<Undo>, serial: u64) -> bool
 
 // What a slot's content says, where these writes are held: nothing of a writer that has retired.
 fn still_held(undo: &HeapCircularBuffer<Undo>, slot: Slot) -> Slot
-    ensures { result ≡ held (oldest_of undo.now.items) slot }
+    ensures { result ≡ slot_unless_retired (oldest_of undo.now.items) slot }
 {
     let Some(oldest) = undo.front().copied() else {
         return EMPTY;
@@ -129,7 +129,7 @@ fn still_held(undo: &HeapCircularBuffer<Undo>, slot: Slot) -> Slot
 
 // What the slot held before a write, where these older writes are held.
 fn restored(undo: &HeapCircularBuffer<Undo>, youngest: &Undo) -> Slot
-    ensures { result ≡ held (oldest_of undo.now.items) youngest.now.previous }
+    ensures { result ≡ slot_unless_retired (oldest_of undo.now.items) youngest.now.previous }
 {
     still_held(undo, youngest.previous)
 }
@@ -147,7 +147,8 @@ fn names(source: Source, serial: u64) -> bool
 // Clears the register's slot, where it names this entry.
 fn forget(slots: &mut [Slot], register: u8, serial: u64)
     requires { register < length slots.old }
-    ensures { slots.new ≡ slice_set slots.old register (forgotten serial (slice_index_or slots.old register empty)) }
+    ensures { slots.new ≡ slice_set slots.old register
+        (slot_after_retirement serial (slice_index_or slots.old register empty)) }
 {
     if names(slots[register as usize].source, serial) {
         slots[register as usize] = EMPTY;

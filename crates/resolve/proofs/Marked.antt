@@ -31,13 +31,13 @@ use Rattle.predictor.specs.Tables.{Tables}
 use Rattle.history_pred.specs.Past as histories
 use Rattle.history_pred.specs.Past.{Past}
 use Rattle.visibility.specs.Point.{HasAdvanced, NotPast}
-use Rattle.branch_resolve.specs.Effect.{resolution_of, taught, told}
+use Rattle.branch_resolve.specs.Effect.{resolution_of, tables_after_learning, learn_events}
 use Rattle.branch_resolve.specs.declared.effect.Resolution.TheVariants.{Right}
 use Rattle.visibility.specs.Pick.{pick_from}
 use Rattle.resolve.proofs.Picking.{picks_first}
 use Rattle.rob_ring.specs.Beside.{each_roots}
 use Rattle.core_parts.specs.Described.{Described}
-use Rattle.core_parts.specs.Held.{Held, Sizes, Whole, described, in_flight, machine_of, sizes}
+use Rattle.core_parts.specs.Held.{Held, Sizes, Whole, described_of, in_flight, machine_of, sizes}
 use Rattle.core_parts.specs.Dropped.{StopsBelow, count_from, cut_from}
 use Rattle.core_parts.proofs.Sizes.{each_set, evolves_set}
 use Rattle.refinement.proofs.Steps.{refines_resolved, stops_at}
@@ -49,7 +49,7 @@ use Rattle.resolve.proofs.Picked.{Taken, picked, inside, taken}
 
 -- ---- which entry is picked
 
-pub picks : (h : Held) (v : Described) (o : Option ℕ) → Whole h → described h ≡ v → HasAdvanced v.point v.machine.window → o ≡ pick_from h.desc h.point.serial 0 h.rob.entries (each_roots h.sources.items) → o ≡ resolving v.desc v.machine.window
+pub picks : (h : Held) (v : Described) (o : Option ℕ) → Whole h → described_of h ≡ v → HasAdvanced v.point v.machine.window → o ≡ pick_from h.desc h.point.serial 0 h.rob.entries (each_roots h.sources.items) → o ≡ resolving v.desc v.machine.window
 picks h v o w s a e =
     let here : HasAdvanced h.point h.rob.entries = subst (λ (v : Described). HasAdvanced v.point v.machine.window) (sym s) a in
     e ∙ picks_first h.desc (in_flight h) w.refines here (ap (λ (s : Sizes). s.model) w.made) ∙ ap (λ (v : Described). resolving v.desc v.machine.window) s
@@ -68,7 +68,7 @@ none_shown v h = ap (λ (a : After). record v { machine = a.machine }) (sym (non
 pub none_row : (v : Described) (row : Row) → None ≡ resolving v.desc v.machine.window → row ≡ record row { events = row.events ++ (resolve v.desc v.machine).events }
 none_row v row h = ap (λ es. record row { events = es }) (sym (append-nil row.events)) ∙ ap (λ (a : After). record row { events = row.events ++ a.events }) (sym (none_is v.desc v.machine h))
 
-pub is_inside : (h : Held) (v : Described) (i : ℕ) → Whole h → described h ≡ v → Some i ≡ resolving v.desc v.machine.window → i < length h.rob.entries
+pub is_inside : (h : Held) (v : Described) (i : ℕ) → Whole h → described_of h ≡ v → Some i ≡ resolving v.desc v.machine.window → i < length h.rob.entries
 is_inside h v i w s p = subst (λ (v : Described). i < length v.machine.window) (sym s) (inside v.desc v.machine.window i (picked v.desc v.machine.window i p))
 
 -- what holds in each machine that asks for a predictor of these sizes
@@ -125,18 +125,18 @@ unsettled _ resolved cleared c h = absurd (cc)
 takes : (d : Desc) (w : List Entry) (i : ℕ) (e : Entry) (k : Taken d w i e) → MayResolve d k.before e
 takes d w i e k = resolve_parts d k.before e (found (may_resolve d) [] w (record { before = k.before; entry = e; younger = k.younger }) k.is).has
 
-module _ (h : Held) (v : Described) (i : ℕ) (e : Entry) (rob : Ring) (tables : Tables) (w : Whole h) (s : described h ≡ v) (p : Some i ≡ resolving v.desc v.machine.window) (here : slice_get h.rob.entries i ≡ Some e)
-    (marks : rob ≡ record (h.rob) { entries = slice_set h.rob.entries i (as_resolved e) }) (teaches : Taught h (λ d. tables ≡ taught d h.tables e)) where
+module _ (h : Held) (v : Described) (i : ℕ) (e : Entry) (rob : Ring) (tables : Tables) (w : Whole h) (s : described_of h ≡ v) (p : Some i ≡ resolving v.desc v.machine.window) (here : slice_get h.rob.entries i ≡ Some e)
+    (marks : rob ≡ record (h.rob) { entries = slice_set h.rob.entries i (as_resolved e) }) (teaches : Taught h (λ d. tables ≡ tables_after_learning d h.tables e)) where
   there : slice_get v.machine.window i ≡ Some e
   there = subst (λ (v : Described). slice_get v.machine.window i ≡ Some e) s here
 
   may : MayResolve h.desc (taken h.desc h.rob.entries i e (subst (λ (v : Described). Some i ≡ resolving v.desc v.machine.window) (sym s) p) here).before e
   may = takes h.desc h.rob.entries i e (taken h.desc h.rob.entries i e (subst (λ (v : Described). Some i ≡ resolving v.desc v.machine.window) (sym s) p) here)
 
-  are : record h { rob = rob; tables = tables } ≡ record h { rob = record (h.rob) { entries = slice_set h.rob.entries i (as_resolved e) }; tables = taught h.desc h.tables e }
-  are = ap₂ (λ (r : Ring) (t : Tables). record h { rob = r; tables = t }) marks (taught_here h (λ d. tables ≡ taught d h.tables e) w teaches)
+  are : record h { rob = rob; tables = tables } ≡ record h { rob = record (h.rob) { entries = slice_set h.rob.entries i (as_resolved e) }; tables = tables_after_learning h.desc h.tables e }
+  are = ap₂ (λ (r : Ring) (t : Tables). record h { rob = r; tables = t }) marks (taught_here h (λ d. tables ≡ tables_after_learning d h.tables e) w teaches)
 
-  machine_is : machine_of (record h { rob = record (h.rob) { entries = slice_set h.rob.entries i (as_resolved e) }; tables = taught h.desc h.tables e }) ≡ marked h.desc i e (machine_of h)
+  machine_is : machine_of (record h { rob = record (h.rob) { entries = slice_set h.rob.entries i (as_resolved e) }; tables = tables_after_learning h.desc h.tables e }) ≡ marked h.desc i e (machine_of h)
   machine_is = refl
 
   pub marked_whole : Whole (record h { rob = rob; tables = tables })
@@ -146,9 +146,9 @@ module _ (h : Held) (v : Described) (i : ℕ) (e : Entry) (rob : Ring) (tables :
     made = w.made;
   })
 
-  pub marked_shown : described (record h { rob = rob; tables = tables }) ≡ record v { machine = marked v.desc i e v.machine }
+  pub marked_shown : described_of (record h { rob = rob; tables = tables }) ≡ record v { machine = marked v.desc i e v.machine }
   marked_shown =
-      ap described are
+      ap described_of are
       ∙ ap (λ x. record { desc = h.desc; code = h.code; machine = x; point = h.point }) machine_is
       ∙ ap (λ (v : Described). record v { machine = marked v.desc i e v.machine }) s
 
@@ -169,19 +169,19 @@ module _ (h : Held) (v : Described) (i : ℕ) (e : Entry) (rob : Ring) (tables :
       remembered_here h (λ d. past ≡ record (h.past) { checkpoint = true_checkpoint d then }) w m
       ∙ ap (λ (e : Entry). record (h.past) { checkpoint = true_checkpoint h.desc e }) (some_of then (as_resolved e) (sym at ∙ marked_here))
 
-  told_is : told h.desc h.tables e ≡ (learn v.desc e v.machine.counters v.machine.targets).events
+  told_is : learn_events h.desc h.tables e ≡ (learn v.desc e v.machine.counters v.machine.targets).events
   told_is = ap (λ (v : Described). (learn v.desc e v.machine.counters v.machine.targets).events) s
 
-  row_is : (old new : Row) → Taught h (λ d. new ≡ record old { events = old.events ++ told d h.tables e }) → new ≡ record old { events = old.events ++ told h.desc h.tables e }
-  row_is old new = taught_here h (λ d. new ≡ record old { events = old.events ++ told d h.tables e }) w
+  row_is : (old new : Row) → Taught h (λ d. new ≡ record old { events = old.events ++ learn_events d h.tables e }) → new ≡ record old { events = old.events ++ learn_events h.desc h.tables e }
+  row_is old new = taught_here h (λ d. new ≡ record old { events = old.events ++ learn_events d h.tables e }) w
 
   -- ---- the entry was rightly predicted
 
   module _ (right : resolution_of e ≡ Right) where
-    pub right_shown : described (record h { rob = rob; tables = tables }) ≡ record v { machine = (resolve v.desc v.machine).machine }
+    pub right_shown : described_of (record h { rob = rob; tables = tables }) ≡ record v { machine = (resolve v.desc v.machine).machine }
     right_shown = marked_shown ∙ ap (λ (a : After). record v { machine = a.machine }) (sym (right_is v.desc v.machine i e p there right))
 
-    pub right_row : (old new : Row) → Taught h (λ d. new ≡ record old { events = old.events ++ told d h.tables e }) → new ≡ record old { events = old.events ++ (resolve v.desc v.machine).events }
+    pub right_row : (old new : Row) → Taught h (λ d. new ≡ record old { events = old.events ++ learn_events d h.tables e }) → new ≡ record old { events = old.events ++ (resolve v.desc v.machine).events }
     right_row old new t = row_is old new t ∙ ap (λ es. record old { events = old.events ++ es }) (told_is ∙ sym (ap (λ (a : After). a.events) (right_is v.desc v.machine i e p there right)))
 
   -- ---- the entry was not rightly predicted
@@ -197,9 +197,9 @@ module _ (h : Held) (v : Described) (i : ℕ) (e : Entry) (rob : Ring) (tables :
       made = ap (λ (p : Past). sizes (record h { rob = rob; tables = tables; past = p })) remembers ∙ marked_whole.made;
     }
 
-    recalled_shown : described (record h { rob = rob; tables = tables; past = past }) ≡ record v { machine = recalled v.desc i e v.machine }
+    recalled_shown : described_of (record h { rob = rob; tables = tables; past = past }) ≡ record v { machine = recalled v.desc i e v.machine }
     recalled_shown =
-        ap (λ m. let d = described (record h { rob = rob; tables = tables }) in record d { machine = record (d.machine) { checkpoint = m } }) checkpoint_is
+        ap (λ m. let d = described_of (record h { rob = rob; tables = tables }) in record d { machine = record (d.machine) { checkpoint = m } }) checkpoint_is
         ∙ ap (λ (d : Described). record d { machine = record (d.machine) { checkpoint = true_checkpoint h.desc e } }) marked_shown
         ∙ ap (λ (d : Described). record v { machine = record (marked v.desc i e v.machine) { checkpoint = true_checkpoint d.desc e } }) s
 
@@ -215,21 +215,21 @@ module _ (h : Held) (v : Described) (i : ℕ) (e : Entry) (rob : Ring) (tables :
       all = wrong_is v.desc v.machine i e p there wrong rises
 
       pub wrong_shown : (last : Described) (next : Option ℕ) → next ≡ true_next (resolution_of e) →
-          last ≡ (let d = described (record h { rob = rob; tables = tables; past = past }) in record d { machine = cut_from (e.serial + 1) next d.machine }) → last ≡ record v { machine = (resolve v.desc v.machine).machine }
+          last ≡ (let d = described_of (record h { rob = rob; tables = tables; past = past }) in record d { machine = cut_from (e.serial + 1) next d.machine }) → last ≡ record v { machine = (resolve v.desc v.machine).machine }
       wrong_shown last next n l =
           l
           ∙ ap (λ (d : Described). record d { machine = cut_from (e.serial + 1) next d.machine }) recalled_shown
           ∙ ap (λ next. record v { machine = cut_from (e.serial + 1) next (recalled v.desc i e v.machine) }) n
           ∙ ap (λ (a : After). record v { machine = a.machine }) (sym all)
 
-      pub wrong_row : (old then new : Row) (n : ℕ) → Taught h (λ d. then ≡ record old { events = old.events ++ told d h.tables e }) →
-          n ≡ (let d = described (record h { rob = rob; tables = tables; past = past }) in count_from (e.serial + 1) d.machine) →
+      pub wrong_row : (old then new : Row) (n : ℕ) → Taught h (λ d. then ≡ record old { events = old.events ++ learn_events d h.tables e }) →
+          n ≡ (let d = described_of (record h { rob = rob; tables = tables; past = past }) in count_from (e.serial + 1) d.machine) →
           new ≡ record then { events = then.events ++ event.Sq n ∷ [] } → new ≡ record old { events = old.events ++ (resolve v.desc v.machine).events }
       wrong_row old then new n t d r =
           r
           ∙ ap (λ n. record then { events = then.events ++ event.Sq n ∷ [] }) (d ∙ ap (λ (d : Described). count_from (e.serial + 1) d.machine) recalled_shown)
           ∙ ap (λ (r : Row). record r { events = r.events ++ event.Sq (count_from (e.serial + 1) (recalled v.desc i e v.machine)) ∷ [] }) (row_is old then t)
-          ∙ ap (λ es. record old { events = es }) (append_assoc old.events (told h.desc h.tables e) (event.Sq (count_from (e.serial + 1) (recalled v.desc i e v.machine)) ∷ []))
+          ∙ ap (λ es. record old { events = es }) (append_assoc old.events (learn_events h.desc h.tables e) (event.Sq (count_from (e.serial + 1) (recalled v.desc i e v.machine)) ∷ []))
           ∙ ap (λ es. record old { events = old.events ++ (es ++ event.Sq (count_from (e.serial + 1) (recalled v.desc i e v.machine)) ∷ []) }) told_is
           ∙ ap (λ (a : After). record old { events = old.events ++ a.events }) (sym all)
 

@@ -18,18 +18,18 @@ use Rattle.visibility.proofs.Moving.{Tells}
 use Rattle.visibility.proofs.Showing.{shown_by_point}
 use Rattle.refinement.proofs.Sources.{roots_are}
 use Rattle.refinement.proofs.Visible.{operands_told, told}
-use Rattle.refinement.specs.Roots.{source_roots, unretired}
+use Rattle.refinement.specs.Roots.{source_roots, root_in_flight}
 use Rattle.refinement.specs.Waiters.{oldest_of}
 use Rattle.resolve.specs.Taken.{PicksFirst}
 
 pick_by : (d : Desc) (point : Point) (f : ℕ) (before es : List Entry) (roots : List (List (Option ℕ))) → point.model ≡ d.stt_model → ((s : ℕ) → s < f → s ≤ point.serial) →
-    Behind (Tells point) before → Behind Falls before → Along (Tells point) before es → Along Falls before es → map (map (unretired f)) roots ≡ each_from source_roots before es →
+    Behind (Tells point) before → Behind Falls before → Along (Tells point) before es → Along Falls before es → map (map (root_in_flight f)) roots ≡ each_from source_roots before es →
     pick_from d point.serial (length before) es roots ≡ option_map (λ (p : Place). length p.before) (first_from (may_resolve d) before es)
 pick_by d point f before [] roots q old t u a b s = refl
 pick_by d point f before (e ∷ es) [] q old t u a b s = absurd (cc)
 pick_by d point f before (e ∷ es) (rs ∷ roots) q old t u a b s =
-    let own : map (unretired f) rs ≡ source_roots before e = cc in
-    let rest : map (map (unretired f)) roots ≡ each_from source_roots (e ∷ before) es = cc in
+    let own : map (root_in_flight f) rs ≡ source_roots before e = cc in
+    let rest : map (map (root_in_flight f)) roots ≡ each_from source_roots (e ∷ before) es = cc in
     let o = operands_told point f before e rs t u old own in
     let clean : list_any (is_hidden point.serial) rs ≡ any_tainted d.stt_model before e = o.any ∙ ap (λ m. any_tainted m before e) q in
     let same : can_resolve d point.serial e rs ≡ may_resolve d before e =
@@ -47,7 +47,7 @@ pick_by d point f before (e ∷ es) (rs ∷ roots) q old t u a b s =
 pub picks_first : PicksFirst
 picks_first d p s m q = by_window p.window s.rise m (roots_are p s)
   where
-    by_window : (es : List Entry) → Rise es → HasAdvanced p.point es → map (map (unretired (oldest_of p.next es))) (each_roots p.sources) ≡ each_from source_roots [] es →
+    by_window : (es : List Entry) → Rise es → HasAdvanced p.point es → map (map (root_in_flight (oldest_of p.next es))) (each_roots p.sources) ≡ each_from source_roots [] es →
         pick_from d p.point.serial 0 es (each_roots p.sources) ≡ option_map (λ (q : Place). length q.before) (first_from (may_resolve d) [] es)
     by_window [] r m s = refl
     by_window (e ∷ es) r m s = let t = told p.point p.next e es r m in pick_by d p.point e.serial [] (e ∷ es) (each_roots p.sources) q t.retired tt tt t.tells t.falls s

@@ -28,9 +28,9 @@ use Rattle.rename_taint.specs.Writes.{without_retired}
 use Rattle.lsq.specs.Queues.{Queues, without}
 use Rattle.cache_tags.specs.Sets.{Cache}
 use Rattle.retire.specs.declared.turn.Turn.TheVariants.{Waits, Traps}
-use Rattle.retire.specs.Parts.{IsLeft, PrintsHead, TakesStore, TellsHead, with_effects, with_parts, counted, head_retires, head_told, lines_moved, retires}
+use Rattle.retire.specs.Parts.{IsLeft, PrintsHead, TakesStore, TellsHead, with_effects, with_parts, with_more_retired, head_retires, head_told, lines_moved, retires}
 use Rattle.retire.specs.Turn.{Goes, turn_at}
-use Rattle.retire.specs.Gone.{gone, MayRetire, without_each, popped}
+use Rattle.retire.specs.Gone.{leaving_entries, MayRetire, without_each, queues_without}
 use Rattle.retire.proofs.Quiet.{quiet}
 use Rattle.retire.proofs.Turns.{head_at, ended, waits, traps, leaves}
 
@@ -50,7 +50,7 @@ pub record Parts : Type 0 where
 
 -- a machine with these parts, of which n more have retired
 abbrev pub standing : Parts → ℕ → Option End → Machine → Machine
-standing s n end x = counted n (with_parts s.rob s.tags s.ram s.regs s.pc end x)
+standing s n end x = with_more_retired n (with_parts s.rob s.tags s.ram s.regs s.pc end x)
 
 -- what turns leave, with their events and bytes behind those so far
 abbrev pub behind : Parts → Retired → Retired
@@ -67,7 +67,7 @@ pub record Left (s0 : Parts) (s : Parts) (went : List Entry) : Type 0 where
   pub room : s.rob.room ≡ s0.rob.room
   pub table : s.writes ≡ without_each went s0.writes
   pub table_room : s.table_room ≡ s0.table_room
-  pub queues : s.queues ≡ popped went s0.queues
+  pub queues : s.queues ≡ queues_without went s0.queues
   pub desc : s.tags.desc ≡ s0.tags.desc
   pub cycle : s.row.cycle ≡ s0.row.cycle
 
@@ -110,7 +110,7 @@ without_more : (went : List Entry) (e : Entry) (writes : List Write) → without
 without_more [] e writes = refl
 without_more (w ∷ went) e writes = without_more went e (without_retired w.serial writes)
 
-popped_more : (went : List Entry) (e : Entry) (q : Queues) → popped (went ++ e ∷ []) q ≡ without e.serial (popped went q)
+popped_more : (went : List Entry) (e : Entry) (q : Queues) → queues_without (went ++ e ∷ []) q ≡ without e.serial (queues_without went q)
 popped_more [] e q = refl
 popped_more (w ∷ went) e q = popped_more went e (without w.serial q)
 
@@ -275,7 +275,7 @@ pub record Over (d : Desc) (s0 : Parts) (end : Option End) (s : Parts) : Type 0 
   pub state : (x : Machine) → standing s (length s0.rob.entries - length s.rob.entries) end x ≡ (phase d s0 x).machine
   pub row : (x : Machine) → s.row ≡ record s0.row { events = s0.row.events ++ (phase d s0 x).events }
   pub piece : (x : Machine) → s.piece ≡ (phase d s0 x).piece
-  pub left : Left s0 s (gone s0.rob s.rob)
+  pub left : Left s0 s (leaving_entries s0.rob s.rob)
   pub few : length s.row.events ≤ length s0.row.events + most_retired
 
 as_many : (went w rest : List Entry) → w ≡ went ++ rest → length w - length rest ≡ length went

@@ -9,8 +9,8 @@ use Rattle.rename_taint.specs.Writes.{without_retired}
 use Rattle.lsq.specs.Queues.{Queues, without}
 
 -- the entries that left: the oldest that there were, as many as there are fewer now
-abbrev pub gone : Ring → Ring → List Entry
-gone old new = take (length old.entries - length new.entries) old.entries
+abbrev pub leaving_entries : Ring → Ring → List Entry
+leaving_entries old new = take (length old.entries - length new.entries) old.entries
 
 -- the entry may retire, ends no run as a trap, and is cleared if it is a store
 abbrev pub MayRetire : Entry → Type 0
@@ -22,6 +22,6 @@ without_each [] writes = writes
 without_each (e ∷ es) writes = without_each es (without_retired e.serial writes)
 
 -- the queues without the loads and stores of these entries
-abbrev pub popped : List Entry → Queues → Queues
-popped [] q = q
-popped (e ∷ es) q = popped es (without e.serial q)
+abbrev pub queues_without : List Entry → Queues → Queues
+queues_without [] q = q
+queues_without (e ∷ es) q = queues_without es (without e.serial q)

@@ -10,7 +10,7 @@ use Rattle.window_model.specs.declared.Entry.{Entry}
 use Rattle.window_model.specs.declared.Event.{Event}
 use Rattle.window_model.specs.declared.Event.TheVariants as event
 use Rattle.window_model.specs.Order.{is_done, is_store, fault_of}
-use Rattle.window_model.specs.Retire.{Retired, addr_of, has_line, head_leaves, lines_in, retire, touched, byte_count}
+use Rattle.window_model.specs.Retire.{Retired, addr_of, has_line, head_leaves, lines_in, retire, with_line_touched, byte_count}
 use Rattle.window_model.specs.Row.{Row}
 use Rattle.window_model.specs.inner.Row.{with_events}
 use Rattle.window_model.specs.State.{Machine}
@@ -26,8 +26,8 @@ abbrev pub with_parts : Ring → Cache → Ram → List ℕ → ℕ → Option E
 with_parts rob tags ram regs pc end x = record (with_effects tags ram regs pc end x) { window = rob.entries }
 
 -- a machine of which n more have retired
-abbrev pub counted : ℕ → Machine → Machine
-counted n x = record x { retired = x.retired + n }
+abbrev pub with_more_retired : ℕ → Machine → Machine
+with_more_retired n x = record x { retired = x.retired + n }
 
 -- phase Retire of a machine with these parts, whose run hasn't ended
 abbrev pub retires : Desc → Ring → Cache → Ram → List ℕ → ℕ → Machine → Retired
@@ -59,7 +59,7 @@ PrintsHead head piece = (x : Machine) (rest : List Entry) → piece ≡ (head x 
 
 -- the cache once each of these lines has moved to the front of its set, where the cache has it
 abbrev pub with_touched : Desc → List ℕ → Cache → Cache
-with_touched d lines tags = record tags { sets = fold (touched d) tags.sets lines }
+with_touched d lines tags = record tags { sets = fold (with_line_touched d) tags.sets lines }
 
 -- the cache once the head has retired: the lines of a store move
 abbrev pub lines_moved : Kind → Desc → Entry → Cache → Cache

@@ -5,9 +5,9 @@ ghost use Rattle.window_model.specs.inner.Row.{HasRoom, IsLonger, most_retired};
 ghost use Rattle.window_model.specs.State.{Machine};
 ghost use Rattle.rename_taint.specs.Writes.{without_retired};
 ghost use Rattle.window_model.specs.Rename.{CallAlone};
-ghost use Rattle.retire.specs.Parts.{TakesStore, Tells, with_parts, counted, retires};
+ghost use Rattle.retire.specs.Parts.{TakesStore, Tells, with_parts, with_more_retired, retires};
 ghost use Rattle.lsq.specs.Queues.{without};
-ghost use Rattle.retire.specs.Gone.{gone, MayRetire, without_each, popped};
+ghost use Rattle.retire.specs.Gone.{leaving_entries, MayRetire, without_each, queues_without};
 
 use crate::commit::{commit, tell};
 use crate::turn::{Turn, has_stored, turn_at};
@@ -46,17 +46,17 @@ pub fn retire<R: RenameTaint>(
     requires call_alone { CallAlone rob.old.entries }
     requires stores_fit { Each (TakesStore ram.old) rob.old.entries }
     ensures state { (x : Machine) →
-        counted (length rob.old.entries - length rob.new.entries)
+        with_more_retired (length rob.old.entries - length rob.new.entries)
         (with_parts rob.new tags.new ram.new regs.new pc.new result x)
         ≡ (retires desc.now rob.old tags.old ram.old regs.old pc.old x).machine }
     ensures row { Tells (retires desc.now rob.old tags.old ram.old regs.old pc.old) row.old row.new }
     ensures piece { (x : Machine) → piece.new ≡ (retires desc.now rob.old tags.old ram.old regs.old pc.old x).piece }
-    ensures left { rob.old.entries ≡ gone rob.old rob.new ++ rob.new.entries }
-    ensures may_retire { Each MayRetire (gone rob.old rob.new) }
+    ensures left { rob.old.entries ≡ leaving_entries rob.old rob.new ++ rob.new.entries }
+    ensures may_retire { Each MayRetire (leaving_entries rob.old rob.new) }
     ensures same_room { rob.new.room ≡ rob.old.room }
-    ensures table { R.writes table.new ≡ without_each (gone rob.old rob.new) (R.writes table.old) }
+    ensures table { R.writes table.new ≡ without_each (leaving_entries rob.old rob.new) (R.writes table.old) }
     ensures same_table_room { R.room table.new ≡ R.room table.old }
-    ensures lsq { lsq.new ≡ popped (gone rob.old rob.new) lsq.old }
+    ensures lsq { lsq.new ≡ queues_without (leaving_entries rob.old rob.new) lsq.old }
     ensures desc { tags.new.desc ≡ tags.old.desc }
     ensures few { IsLonger most_retired row.old row.new }
 {

@@ -12,7 +12,7 @@ use Rattle.elf_loader.specs.declared.faults.ElfFault.{ElfFault}
 use Rattle.elf_loader.specs.declared.loading.Image.{Image}
 use Rattle.elf_loader.specs.inner.Code.{word_at}
 use Rattle.elf_loader.specs.declared.faults.ElfFault.TheVariants as elf
-use Rattle.run_inputs.specs.Loaded.{loaded}
+use Rattle.run_inputs.specs.Loaded.{image_text}
 use Rattle.run_inputs.specs.declared.refusal.Which.{Which}
 use Rattle.run_inputs.specs.declared.refusal.Refusal.{Refusal}
 use Rattle.run_inputs.specs.inner.Input.{refusal_of, LoadRefused}
@@ -35,7 +35,7 @@ same_image e e' c c' m m' p q r = ap (λ x. image x c m) p ∙ (ap (λ x. image 
 -- with no fault, the image is what was loaded
 pub loads : (file s : List ℕ) (base size : ℕ) (misaligned : Bool) (ram : Ram) (i : Image) → s ≡ file → header_fault file ≡ None → ram ≡ empty base size misaligned
     → ram_fault s ram ≡ None → i.ram ≡ ram_after s ram → i.entry ≡ entry_of s → word_at i.code ≡ code_of s (ram_after s ram)
-    → image_of file base size misaligned ≡ Ok (loaded i)
+    → image_of file base size misaligned ≡ Ok (image_text i)
 unfolding image
 loads file s base size misaligned ram i q h r f m e c =
     let m' : ram_after file (empty base size misaligned) ≡ i.ram = sym (ap₂ ram_after q r) ∙ sym m in
@@ -80,11 +80,11 @@ image_stays file base size misaligned i e =
 
 -- if an image is loaded, its memory begins at the base that was asked for; below, it has the size
 pub loaded_base : (file : List ℕ) (base size : ℕ) (misaligned : Bool) (r : Result Image Refusal) (Q : Refusal → Type 0)
-    → MatchResult r (λ i. image_of file base size misaligned ≡ Ok (loaded i)) Q → IfOk r (λ i. i.ram.base ≡ base)
-loaded_base file base size misaligned (Ok i) Q h = (image_stays file base size misaligned (loaded i) h).base_is
+    → MatchResult r (λ i. image_of file base size misaligned ≡ Ok (image_text i)) Q → IfOk r (λ i. i.ram.base ≡ base)
+loaded_base file base size misaligned (Ok i) Q h = (image_stays file base size misaligned (image_text i) h).base_is
 loaded_base file base size misaligned (Err e) Q h = tt
 
 pub loaded_size : (file : List ℕ) (base size : ℕ) (misaligned : Bool) (r : Result Image Refusal) (Q : Refusal → Type 0)
-    → MatchResult r (λ i. image_of file base size misaligned ≡ Ok (loaded i)) Q → IfOk r (λ i. length i.ram.bytes ≡ size)
-loaded_size file base size misaligned (Ok i) Q h = (image_stays file base size misaligned (loaded i) h).size_is
+    → MatchResult r (λ i. image_of file base size misaligned ≡ Ok (image_text i)) Q → IfOk r (λ i. length i.ram.bytes ≡ size)
+loaded_size file base size misaligned (Ok i) Q h = (image_stays file base size misaligned (image_text i) h).size_is
 loaded_size file base size misaligned (Err e) Q h = tt

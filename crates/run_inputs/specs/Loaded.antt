@@ -7,8 +7,8 @@ use Rattle.elf_loader.specs.declared.loading.Image.{Image}
 use Rattle.machine_desc.specs.declared.Desc.{Desc}
 
 -- an image in memory, as definitions see it
-abbrev pub loaded : Image → ImageText
-loaded i = record { entry = i.entry; code = word_at i.code; ram = i.ram }
+abbrev pub image_text : Image → ImageText
+image_text i = record { entry = i.entry; code = word_at i.code; ram = i.ram }
 
 -- a memory is the one of a description
 pub record Fits (d : Desc) (ram : Ram) : Type 0 where

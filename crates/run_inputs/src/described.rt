@@ -1,7 +1,7 @@
 //! A description, and then an image in its memory.
 ghost use Rattle.std.specs.Prelude.{◌∷◌, [], Some, MatchResult, IfOk};
 ghost use Rattle.tool_io.specs.Outside.{SameContents};
-ghost use Rattle.run_inputs.specs.Loaded.{Fits, loaded};
+ghost use Rattle.run_inputs.specs.Loaded.{Fits, image_text};
 ghost use Rattle.run_inputs.specs.Input.{IsRead, Refuses};
 ghost use Rattle.run_inputs.specs.inner.Input.{image_from};
 
@@ -30,7 +30,7 @@ pub fn read_described<F: Files>(
 ) -> Result<Described, Refusal>
     ensures answer { MatchResult result
         (λ i. IsRead (F.shelf files.old) (F.shelf files.new) (Some description.now) (image_from source.entry ∷ [])
-        (Some i.desc) (loaded i.image ∷ []))
+        (Some i.desc) (image_text i.image ∷ []))
         (λ e. Refuses (Some description.now) (image_from source.entry ∷ []) (F.shelf files.old) (F.shelf files.new) e) }
     ensures fits { IfOk result (λ i. Fits i.desc i.image.ram) }
     ensures stays { SameContents (F.shelf files.old) (F.shelf files.new) }

@@ -1,7 +1,7 @@
 //! The images of a command: where each comes from, its bytes, and the image that is loaded from them.
 ghost use Rattle.std.specs.Prelude.{◌≡◌, ◌<◌, ◌^◌, Ok, Result, MatchResult, IfOk, All, length};
 ghost use Rattle.elf_loader.specs.Image.{image_of};
-ghost use Rattle.run_inputs.specs.Loaded.{loaded};
+ghost use Rattle.run_inputs.specs.Loaded.{image_text};
 ghost use Rattle.tool_io.specs.Outside.{SameContents};
 ghost use Rattle.run_inputs.specs.inner.Input.{image_from, ReadsBytes, ReadsImage, LoadRefused, refusal_of};
 ghost use Rattle.run_inputs.specs.Input.{base_of, size_of, misaligned_of, HoldsBytes};
@@ -63,7 +63,7 @@ fn refusal_of(which: Which, fault: ElfFault) -> Refusal
 // The image of a file in memory that is all 0 before.
 fn image_in(alloc: Global, file: &[u8], which: Which, region: Region) -> Result<Image, Refusal>
     ensures { MatchResult result
-        (λ i. image_of file.now region.base region.size region.misaligned ≡ Ok (loaded i))
+        (λ i. image_of file.now region.base region.size region.misaligned ≡ Ok (image_text i))
         (λ e. LoadRefused which file.now region.base region.size region.misaligned e) }
 {
     let segments = match segments(file) {
@@ -93,9 +93,9 @@ fn load_image(
     desc: Option<Desc>,
 ) -> Result<Image, Refusal>
     ensures loads { MatchResult result
-        (λ i. image_of file.now (base_of desc) (size_of desc) (misaligned_of desc) ≡ Ok (loaded i))
+        (λ i. image_of file.now (base_of desc) (size_of desc) (misaligned_of desc) ≡ Ok (image_text i))
         (λ e. LoadRefused which file.now (base_of desc) (size_of desc) (misaligned_of desc) e) }
-    ensures bytes { IfOk result (λ i. HoldsBytes (loaded i)) }
+    ensures bytes { IfOk result (λ i. HoldsBytes (image_text i)) }
 {
     match image_in(alloc, file, which, Region::of(desc)) {
         Ok(image) => {
@@ -117,7 +117,7 @@ pub fn read_image<F: Files>(
     ensures answer { ReadsImage which desc (image_from source.entry) (F.shelf files.old) (F.shelf files.new) result }
     ensures base { IfOk result (λ i. i.ram.base ≡ base_of desc) }
     ensures size { IfOk result (λ i. length i.ram.bytes ≡ size_of desc) }
-    ensures bytes { IfOk result (λ i. HoldsBytes (loaded i)) }
+    ensures bytes { IfOk result (λ i. HoldsBytes (image_text i)) }
     ensures stays { SameContents (F.shelf files.old) (F.shelf files.new) }
 {
     let file = bytes_of(alloc, source, which, files)?;

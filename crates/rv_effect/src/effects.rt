@@ -1,7 +1,7 @@
 //! What each instruction makes of its sources (RISC-V unprivileged manual, chapters RV32I and M).
 ghost use Rattle.std.specs.Prelude.{◌≡◌, if◌then◌else◌};
 ghost use Rattle.rv_types.specs.Isa.{at_address, effect, is_misaligned, jump, only, relative};
-ghost use Rattle.rv_effect.specs.Seen.{seen};
+ghost use Rattle.rv_effect.specs.Seen.{isa_effect};
 
 use crate::fields::Effect;
 use rv_alu::{taken, value};
@@ -26,7 +26,7 @@ pub fn is_misaligned(target: u32) -> bool
 // Computes a value, and goes on behind the instruction.
 #[inline]
 fn only(pc: u32, value: u32) -> Effect
-    ensures { seen result ≡ only pc value }
+    ensures { isa_effect result ≡ only pc value }
 {
     Effect {
         value,
@@ -40,7 +40,7 @@ fn only(pc: u32, value: u32) -> Effect
 // Jumps, with a value for the register that keeps the return address.
 #[inline]
 fn jump(value: u32, target: u32) -> Effect
-    ensures { seen result ≡ jump value target }
+    ensures { isa_effect result ≡ jump value target }
 {
     Effect {
         value,
@@ -54,7 +54,7 @@ fn jump(value: u32, target: u32) -> Effect
 // Branches, or goes on behind the branch.
 #[inline]
 fn branch(pc: u32, is_taken: bool, target: u32) -> Effect
-    ensures { seen result ≡ (if is_taken then jump 1 target else only pc 0) }
+    ensures { isa_effect result ≡ (if is_taken then jump 1 target else only pc 0) }
 {
     if is_taken {
         return jump(1, target);
@@ -65,7 +65,7 @@ fn branch(pc: u32, is_taken: bool, target: u32) -> Effect
 // Accesses an address, to store a value where it is a store.
 #[inline]
 fn access(pc: u32, addr: u32, stored: u32) -> Effect
-    ensures { seen result ≡ at_address pc addr stored }
+    ensures { isa_effect result ≡ at_address pc addr stored }
 {
     Effect {
         value: 0,
@@ -80,7 +80,7 @@ fn access(pc: u32, addr: u32, stored: u32) -> Effect
 /// doesn't read isn't looked at. What may only trap, and a system call, compute 0 and go on.
 #[inline(always)]
 pub fn effect(pc: u32, instr: &Instr, first: u32, second: u32) -> Effect
-    ensures { seen result ≡ effect pc instr.now first second }
+    ensures { isa_effect result ≡ effect pc instr.now first second }
 {
     match *instr {
         Instr::Lui { imm, .. } => only(pc, imm.cast_unsigned()),

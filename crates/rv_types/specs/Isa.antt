@@ -129,13 +129,13 @@ or_trap None step = step
 or_trap (Some cause) step = Traps cause
 
 -- the value that a load gives
-abbrev pub loaded : Hart → Op → ℕ → ℕ
-loaded s op a = extend op (from_le (bytes_at s.ram a (size_of op)))
+abbrev pub load_value : Hart → Op → ℕ → ℕ
+load_value s op a = extend op (from_le (bytes_at s.ram a (size_of op)))
 
 -- a load, whose effect has the address: writes the value that memory has there
 abbrev pub load_step : Hart → Op → Option ℕ → Effect → Step
 load_step s op rd e =
-    or_trap (load_fault s.ram e.addr (size_of op)) (Goes (goes_to s rd (record e { value = loaded s op e.addr })) [])
+    or_trap (load_fault s.ram e.addr (size_of op)) (Goes (goes_to s rd (record e { value = load_value s op e.addr })) [])
 
 -- a store, whose effect has the address and the value: writes as many of its bytes as the operation says
 abbrev pub store_step : Hart → Op → Effect → Step
@@ -180,18 +180,18 @@ abbrev pub with_piece : List ℕ → List (List ℕ) → List (List ℕ)
 with_piece [] ps = ps
 with_piece (b ∷ bs) ps = (b ∷ bs) ∷ ps
 
-abbrev pub stopped : Hart → ℕ → Option End → Run
-stopped s n end = record { last = s; pieces = []; steps = n; ended = end }
+abbrev pub run_at_end : Hart → ℕ → Option End → Run
+run_at_end s n end = record { last = s; pieces = []; steps = n; ended = end }
 
 -- a step, and then the rest of the run
 abbrev pub after : Hart → Step → (Hart → Run) → Run
 after s (Goes s' piece) rest = let r = rest s' in record r { pieces = with_piece piece r.pieces; steps = r.steps + 1 }
-after s (Exits v s') rest = stopped s' 1 (Some (Exit v))
-after s (Traps cause) rest = stopped s 0 (Some (Trap cause s.pc))
+after s (Exits v s') rest = run_at_end s' 1 (Some (Exit v))
+after s (Traps cause) rest = run_at_end s 0 (Some (Trap cause s.pc))
 
 -- at most n steps of this kind
 abbrev pub run : (Hart → Step) → ℕ → Hart → Run
-run step zero s = stopped s 0 None
+run step zero s = run_at_end s 0 None
 run step (suc n) s = after s (step s) (run step n)
 
 -- at most n steps of the instruction set

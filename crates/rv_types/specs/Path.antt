@@ -15,13 +15,13 @@ use Rattle.rv_types.specs.declared.Instr.TheVariants.{Load}
 -- ---- The step that passes faulting loads and stores over
 
 -- the state behind a load or store that is passed over: a load gives 0, a store writes nothing
-abbrev pub passed : Hart → Instr → Hart
-passed s (Load op rd rs1 imm) = goes_to s (unless_zero rd.number) (only s.pc 0)
-passed s i = record s { pc = word_add s.pc 4 }
+abbrev pub state_past_access : Hart → Instr → Hart
+state_past_access s (Load op rd rs1 imm) = goes_to s (unless_zero rd.number) (only s.pc 0)
+state_past_access s i = record s { pc = word_add s.pc 4 }
 
 -- causes 4 to 7 are those of loads and stores
 abbrev pub pass_fault : Hart → Instr → Step → Step
-pass_fault s i (Traps cause) = if nat_le 4 cause.number then Goes (passed s i) [] else Traps cause
+pass_fault s i (Traps cause) = if nat_le 4 cause.number then Goes (state_past_access s i) [] else Traps cause
 pass_fault s i step = step
 
 -- the step at a word, in which a load or store that would trap is passed over

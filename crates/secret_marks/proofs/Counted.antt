@@ -11,7 +11,7 @@ use Rattle.window_model.proofs.Quiet.{at_retire, before_quiet}
 use Rattle.committed_state.specs.Consistent.{Consistent}
 use Rattle.committed_state.proofs.Cycle.{consistent_before, consistent_cycle, cycle_does}
 use Rattle.committed_state.proofs.Run.{consistent_opening}
-use Rattle.secret_marks.specs.Published.{Public, published, published_by, published_in}
+use Rattle.secret_marks.specs.Published.{Public, public_piece, published_by, published_in}
 use Rattle.secret_marks.specs.Laws.{CyclesPublishTheirSteps}
 use Rattle.secret_marks.proofs.Cycle.{piece_is, retired_is}
 use Rattle.secret_marks.proofs.Outputs.{cycle_and_more, follows, rises}
@@ -40,7 +40,7 @@ module _ (public : Public) (d : Desc) (code : Code) (aligned : Aligned code) whe
       by_end : (o : Option End) → x.end ≡ o → (unless_ended o x (after_cycles d code n (cycle d code x).machine)).retired ≡ x.retired + t →
           (((cycle d code x).machine.end ≡ None → Consistent d code (cycle d code x).machine) → (t : ℕ) → (after_cycles d code n (cycle d code x).machine).retired ≡ (cycle d code x).machine.retired + t →
           published_by public d code n (cycle d code x).machine ≡ published_in public code t (hart_of (cycle d code x).machine)) →
-          unless_ended o [] (published public (hart_of x) (cycle d code x).piece ++ published_by public d code n (cycle d code x).machine) ≡ published_in public code t (hart_of x)
+          unless_ended o [] (public_piece public (hart_of x) (cycle d code x).piece ++ published_by public d code n (cycle d code x).machine) ≡ published_in public code t (hart_of x)
       by_end (Some e) ne l more = let z : 0 ≡ t = omega (arith, l) in ap (λ t. published_in public code t (hart_of x)) z
       by_end None ne l more =
           let k = c ne in
@@ -53,7 +53,7 @@ module _ (public : Public) (d : Desc) (code : Code) (aligned : Aligned code) whe
           let all : own + u ≡ t = omega (arith, l, own_is, u_is) in
           let rest = more (λ z. consistent_cycle d code x aligned k ne) u u_is in
           let joined = cycle_and_more public code d aligned x k ne own u own_is (one_step own x k own_is) (follows d code aligned n y) in
-          ap (λ p. published public (hart_of x) (cycle d code x).piece ++ p) rest ∙ sym joined ∙ ap (λ t. published_in public code t (hart_of x)) all
+          ap (λ p. public_piece public (hart_of x) (cycle d code x).piece ++ p) rest ∙ sym joined ∙ ap (λ t. published_in public code t (hart_of x)) all
 
 -- what cycles publish is what as many steps of the instruction set publish as these cycles retire
 pub cycles_publish : CyclesPublishTheirSteps

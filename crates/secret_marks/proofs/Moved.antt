@@ -23,9 +23,9 @@ use Rattle.secret_marks.specs.declared.EntryMarks.{EntryMarks}
 use Rattle.secret_marks.specs.declared.WordMarks.{WordMarks}
 use Rattle.secret_marks.specs.Words.{any_byte, either, every_byte, lowest_byte, mark_at, unmarked}
 use Rattle.secret_marks.specs.Results.{loaded_marks, result_marks}
-use Rattle.secret_marks.specs.Marks.{Marks, after_retire_marks, any_marked, byte_mark, first_marks, goes_mark, is_at, is_by, issued_from, issued_marks, leaves, leaves_as, left, register_marks, second_marks, value_marks, with_byte_marks}
+use Rattle.secret_marks.specs.Marks.{Marks, after_retire_marks, any_marked, byte_mark, first_marks, goes_mark, is_at, is_by, issued_from, issued_marks, leaves, leaves_as, marks_after_leaving, register_marks, second_marks, value_marks, with_byte_marks}
 use Rattle.secret_marks.specs.Shows.{call_shows, decides_as, head_shows, is_marked, operand_shows, operands_show, outcome_marked, resolved_shows}
-use Rattle.secret_marks.specs.Published.{Public, published, published_marks, unmarked_at}
+use Rattle.secret_marks.specs.Published.{Public, public_piece, published_marks, unmarked_at}
 use Rattle.secret_marks.specs.Alike.{AlikeBut, Beside, SameEntry, is_unresolved}
 use Rattle.secret_marks.proofs.Calls.{same_reg}
 use Rattle.secret_marks.proofs.Masks.{load_closed}
@@ -200,12 +200,12 @@ module _ (base : ℕ) (mark : EntryMarks) (rest : List EntryMarks) (m : Marks) (
   leaves_alike = by_kind e.item.kind ∙ ap (λ (v : Entry). leaves_as v.item.kind base e2 mark rest m) t
 
 left_alike : (base n : ℕ) (ks : List EntryMarks) (w w2 : List Entry) → Beside SameEntry ks w w2 → (m : Marks) (marks : List EntryMarks) →
-    left base n w m marks ≡ left base n w2 m marks
+    marks_after_leaving base n w m marks ≡ marks_after_leaving base n w2 m marks
 left_alike base zero ks w w2 s m marks = refl
 left_alike base (suc n) [] [] [] s m marks = refl
 left_alike base (suc n) (k ∷ ks) (e ∷ w) (e2 ∷ w2) s m [] = refl
 left_alike base (suc n) (k ∷ ks) (e ∷ w) (e2 ∷ w2) s m (mark ∷ marks) =
-    ap (λ m. left base n w m marks) (leaves_alike base mark marks m k e e2 s.0)
+    ap (λ m. marks_after_leaving base n w m marks) (leaves_alike base mark marks m k e e2 s.0)
     ∙ left_alike base n ks w w2 s.1 (leaves_as e2.item.kind base e2 mark marks m) marks
 left_alike base (suc n) _ _ _ s m marks = absurd s
 
@@ -215,7 +215,7 @@ module _ (m : Marks) (x x2 : Machine) (h : AlikeBut m x x2) where
   marks_retired k y y2 g =
       let own = values_length SameEntry m.window x.window x2.window h.window in
       let others = values_length SameEntry k.window y.window y2.window g.window in
-      ap₂ (λ base n. left base n x.window m m.window) (ap (λ (t : Machine). t.ram.base) g.others) (ap₂ (λ a b. a - b) own others)
+      ap₂ (λ base n. marks_after_leaving base n x.window m m.window) (ap (λ (t : Machine). t.ram.base) g.others) (ap₂ (λ a b. a - b) own others)
       ∙ left_alike y2.ram.base (length x2.window - length y2.window) m.window x.window x2.window h.window m m.window
 
   called_alike : call_shows x m ≡ false → call_shows x2 m ≡ false
@@ -241,7 +241,7 @@ module _ (m : Marks) (x x2 : Machine) (h : AlikeBut m x x2) where
 
 -- what is published is unmarked alike
 pub marks_published : (public : Public) (x x2 : Machine) (r r2 : Retired) (m : Marks) → PutAlike x x2 r r2 →
-    published public (hart_of x) r.piece ≡ published public (hart_of x2) r2.piece → published_marks public x r.piece m ≡ published_marks public x2 r2.piece m
+    public_piece public (hart_of x) r.piece ≡ public_piece public (hart_of x2) r2.piece → published_marks public x r.piece m ≡ published_marks public x2 r2.piece m
 marks_published public x x2 r r2 m p q = by_puts p
   where
     by_puts : PutAlike x x2 r r2 → published_marks public x r.piece m ≡ published_marks public x2 r2.piece m

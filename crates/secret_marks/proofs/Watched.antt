@@ -19,8 +19,8 @@ use Rattle.committed_state.specs.Consistent.{Consistent, ConsistentIn}
 use Rattle.committed_state.proofs.Cycle.{consistent_before}
 use Rattle.committed_state.proofs.Numbers.{before_cycle, retire_cycle}
 use Rattle.committed_state.proofs.Retire.{consistent_retire}
-use Rattle.secret_marks.specs.Marks.{Marks, after_issue_marks, after_retire_marks, cut, extended, issued_from, new_entry}
-use Rattle.secret_marks.specs.Published.{Public, published, published_marks}
+use Rattle.secret_marks.specs.Marks.{Marks, after_issue_marks, after_retire_marks, cut, with_new_entries, issued_from, new_entry}
+use Rattle.secret_marks.specs.Published.{Public, public_piece, published_marks}
 use Rattle.secret_marks.specs.Shows.{head_shows, resolved_shows}
 use Rattle.secret_marks.specs.Watch.{Watched, then_watches, watch_before, watch_clear, watch_complete, watch_cycle, watch_fetch, watch_issue, watch_resolve, watch_retire}
 use Rattle.secret_marks.specs.Alike.{AlikeBut, SameEntry}
@@ -54,7 +54,7 @@ joined a a2 more w f =
 cut_alike : (m : Marks) (w w2 : List Entry) → length w ≡ length w2 → cut w2 m ≡ cut w m
 cut_alike m w w2 l = ap (λ n. let u : Marks = record m { window = take n m.window } in u) (sym l)
 
-extended_alike : (m : Marks) (w w2 : List Entry) → length w ≡ length w2 → extended w2 m ≡ extended w m
+extended_alike : (m : Marks) (w w2 : List Entry) → length w ≡ length w2 → with_new_entries w2 m ≡ with_new_entries w m
 extended_alike m w w2 l = ap (λ n. let u : Marks = record m { window = m.window ++ replicate (n - length m.window) new_entry } in u) (sym l)
 
 module _ (d : Desc) (m : Marks) (x x2 : Machine) (h : AlikeBut m x x2) where
@@ -77,7 +77,7 @@ module _ (d : Desc) (m : Marks) (x x2 : Machine) (h : AlikeBut m x x2) where
       record { shows = refl; marks = cut_alike m y.window y2.window (values_length SameEntry (cut y.window m).window y.window y2.window s.window) }
 
   retire_watched : (now : ℕ) (public : Public) (code : Code) → ConsistentIn now d code x → head_shows x.window x m ≡ false →
-      published public (hart_of x) (retire d x).piece ≡ published public (hart_of x2) (retire d x2).piece →
+      public_piece public (hart_of x) (retire d x).piece ≡ public_piece public (hart_of x2) (retire d x2).piece →
       Watches (watch_retire public d x m) (watch_retire public d x2 m)
   retire_watched now public code c n q =
       let r = retire d x in
@@ -108,9 +108,9 @@ module _ (d : Desc) (m : Marks) (x x2 : Machine) (h : AlikeBut m x x2) where
       let y = (rename d x).machine in
       let y2 = (rename d x2).machine in
       let s = (rename_keeps d m x x2 h).alike in
-      record { shows = refl; marks = extended_alike m y.window y2.window (values_length SameEntry (extended y.window m).window y.window y2.window s.window) }
+      record { shows = refl; marks = extended_alike m y.window y2.window (values_length SameEntry (with_new_entries y.window m).window y.window y2.window s.window) }
 
-module _ (public : Public) (d : Desc) (code : Code) (aligned : Aligned code) (m : Marks) (x x2 : Machine) (c : Consistent d code x) (ne : x.end ≡ None) (h : AlikeBut m x x2) (n : (watch_cycle public d code x m).shows ≡ false) (q : published public (hart_of x) (cycle d code x).piece ≡ published public (hart_of x2) (cycle d code x2).piece) where
+module _ (public : Public) (d : Desc) (code : Code) (aligned : Aligned code) (m : Marks) (x x2 : Machine) (c : Consistent d code x) (ne : x.end ≡ None) (h : AlikeBut m x x2) (n : (watch_cycle public d code x m).shows ≡ false) (q : public_piece public (hart_of x) (cycle d code x).piece ≡ public_piece public (hart_of x2) (cycle d code x2).piece) where
   by_end : (o o2 : Option End) → o ≡ o2 → (R R2 : Watched) → Watches R R2 → AlikeBut R.marks R.machine R2.machine →
       ConsistentIn R.machine.cycle d code R.machine → (o ≡ None → (watch_issue d R.machine R.marks).shows ≡ false) →
       Watches (unless_ended o R (then_watches (then_watches R (watch_issue d)) (watch_fetch d code))) (unless_ended o2 R2 (then_watches (then_watches R2 (watch_issue d)) (watch_fetch d code)))

@@ -17,12 +17,12 @@ abbrev pub no_stream : Public
 no_stream stream = false
 
 -- what is published of a piece that a call puts out in this state: all of it where its stream, a0, is public
-abbrev pub published : Public → Hart → List ℕ → List ℕ
-published public s piece = if public (reg s.regs 10) then piece else []
+abbrev pub public_piece : Public → Hart → List ℕ → List ℕ
+public_piece public s piece = if public (reg s.regs 10) then piece else []
 
 -- what a step from this state publishes, and then the rest of a run
 abbrev pub then_published : Public → Hart → Step → (Hart → List ℕ) → List ℕ
-then_published public s (Goes s2 piece) rest = published public s piece ++ rest s2
+then_published public s (Goes s2 piece) rest = public_piece public s piece ++ rest s2
 then_published public s _ rest = []
 
 -- the bytes that at most n steps of the instruction set publish, in order
@@ -35,7 +35,7 @@ abbrev pub published_by : Public → Desc → Code → ℕ → Machine → List 
 published_by public d code zero x = []
 published_by public d code (suc n) x =
     unless_ended x.end []
-    (let c = cycle d code x in published public (hart_of x) c.piece ++ published_by public d code n c.machine)
+    (let c = cycle d code x in public_piece public (hart_of x) c.piece ++ published_by public d code n c.machine)
 
 -- the bytes of memory that hold a piece, from position i on, are unmarked
 abbrev pub unmarked_at : ℕ → List ℕ → List Bool → List Bool
@@ -46,4 +46,4 @@ unmarked_at i (b ∷ piece) bytes =
 -- the marks behind Retire of this machine: the bytes that it published, from a1 on, are unmarked, and no other byte
 abbrev pub published_marks : Public → Machine → List ℕ → Marks → Marks
 published_marks public x piece m =
-    record m { bytes = unmarked_at (reg x.regs 11 - x.ram.base) (published public (hart_of x) piece) m.bytes }
+    record m { bytes = unmarked_at (reg x.regs 11 - x.ram.base) (public_piece public (hart_of x) piece) m.bytes }

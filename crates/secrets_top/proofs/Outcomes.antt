@@ -11,7 +11,7 @@ use Rattle.secrets_top.specs.declared.ranges.FaultyRange.{FaultyRange}
 use Rattle.secrets_top.specs.declared.refusal.Unjudged.{Unjudged}
 use Rattle.secrets_top.specs.declared.refusal.Unjudged.TheVariants.{Range, Refused}
 use Rattle.secrets_top.specs.declared.verdict.Verdict.{Verdict}
-use Rattle.secrets_top.specs.Top.{named, Inputs, RefusedInputs, Accepted, fault_in, verdict_in, WishWants, WishEnds, Ends}
+use Rattle.secrets_top.specs.Top.{run_description, Inputs, RefusedInputs, Accepted, fault_in, verdict_in, WishWants, WishEnds, Ends}
 use Rattle.secrets_top.specs.inner.Top.{Performs, PerformsAccepted}
 
 -- words that want something aren't none
@@ -29,7 +29,7 @@ no_write (Some name) old new h = h
 
 -- what is read is refused
 pub inputs_refused : (wanted : WantedText) (old new : Shelf) (out : Told) (e : Refusal) → RefusedInputs wanted old new e → WishEnds wanted (world old out) (world new out) (Err (Refused e))
-inputs_refused wanted old new out Write c = absurd (no_write (named wanted.run) old new c)
+inputs_refused wanted old new out Write c = absurd (no_write (run_description wanted.run) old new c)
 inputs_refused wanted old new out Memory c = (inl c, refl)
 inputs_refused wanted old new out _ c = (c, refl)
 
@@ -62,6 +62,6 @@ wants_alone wanted old new (inr a) = a.inputs.read.counts
 pub wish_end : (words : List (List ℕ)) (old new : World) (wanted : WantedText) (r : Result Verdict Unjudged) → wanted_of words ≡ Some wanted → WishEnds wanted old new r → Ends words old new r
 wish_end words old new wanted (Ok told) k w = (wanted, k, w)
 wish_end words old new wanted (Err (Range f)) k w = (wanted, k, w)
-wish_end words old new wanted (Err (Refused Words)) k w = absurd (no_words (named wanted.run) old.files new.files w.0)
+wish_end words old new wanted (Err (Refused Words)) k w = absurd (no_words (run_description wanted.run) old.files new.files w.0)
 wish_end words old new wanted (Err (Refused Memory)) k w = (not_empty words wanted k, wants_alone wanted old.files new.files w.0, w.1)
 wish_end words old new wanted (Err (Refused _)) k w = (wanted, k, w)

@@ -43,7 +43,7 @@ use Rattle.secrets_top.specs.declared.refusal.Unjudged.{Unjudged}
 use Rattle.secrets_top.specs.declared.verdict.Verdict.{Verdict}
 use Rattle.secrets_top.specs.Verdict.{is_any_public, told_of, verdict, path_verdict, path_of, ending_in, verdict_text, hidden_text, hidden_status, verdict_status, first_of_run, first_on_path}
 use Rattle.secrets_top.specs.Refused.{status_of}
-use Rattle.secrets_top.specs.Top.{Inputs, Ends, Statuses, judged}
+use Rattle.secrets_top.specs.Top.{Inputs, Ends, Statuses, verdict_on_run}
 use Rattle.secrets_top.specs.Promises.{HasOtherSecret, OneTrace, Hides, Tells, Promises, PublishesAlike, published_of, StepsPublishAlike, OneTraceOnEveryCore, Certifies, TellsStep, HidesIn, TellsIn, path_published_of}
 use Rattle.secrets_top.proofs.OtherSecrets.{agree_but}
 use Rattle.secrets_top.proofs.Statuses.{statuses_at}
@@ -198,7 +198,7 @@ no_verdict : {v : Verdict} → None ≡ Some v → ⊥
 no_verdict p = cc
 
 module _ (image : ImageText) (secret : List SecretRange) (public : PublicStreams) (status : ℕ) (out out' : Told) (v : Verdict) (w : Wrote (verdict_text v) out out') (s : status ≡ verdict_status v) where
-  hides_in : (run : RunText) (desc : Option Desc) → judged run desc image secret public ≡ Some v → IsLoaded image → (status ≡ 0) ⊎ (status ≡ 3)
+  hides_in : (run : RunText) (desc : Option Desc) → verdict_on_run run desc image secret public ≡ Some v → IsLoaded image → (status ≡ 0) ⊎ (status ≡ 3)
       → HidesIn run desc image secret public status out out'
   hides_in (core_run name n) (Some d) e l h =
       let same = one_verdict e refl in (
@@ -211,7 +211,7 @@ module _ (image : ImageText) (secret : List SecretRange) (public : PublicStreams
       let same = one_verdict e refl in
       certifies public image secret n out out' status (first_on_path image secret public n) refl l h (s ∙ ap verdict_status same) (subst (λ t. Wrote (verdict_text t) out out') same w)
 
-  tells_in : (run : RunText) (desc : Option Desc) → judged run desc image secret public ≡ Some v → status ≡ 1 → TellsIn run desc image secret public out out'
+  tells_in : (run : RunText) (desc : Option Desc) → verdict_on_run run desc image secret public ≡ Some v → status ≡ 1 → TellsIn run desc image secret public out out'
   tells_in (core_run name n) (Some d) e h =
       let same = one_verdict e refl in (
         d,

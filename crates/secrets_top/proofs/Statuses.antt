@@ -23,7 +23,7 @@ use Rattle.secrets_top.specs.declared.verdict.Verdict.TheVariants.{Hidden, Shown
 use Rattle.secrets_top.specs.Verdict.{hidden_status, verdict_text, verdict_status}
 use Rattle.secrets_top.specs.Refused.{status_of}
 use Rattle.secrets_top.proofs.Outcomes.{not_empty}
-use Rattle.secrets_top.specs.Top.{Wants, named, Inputs, Accepted, RefusedInputs, fault_in, verdict_in, WishEnds, Ends, Statuses, IsTold}
+use Rattle.secrets_top.specs.Top.{Wants, run_description, Inputs, Accepted, RefusedInputs, fault_in, verdict_in, WishEnds, Ends, Statuses, IsTold}
 
 -- words that want something don't want nothing
 clash : {o : Option WantedText} {w : WantedText} → o ≡ Some w → o ≡ None → ⊥
@@ -70,19 +70,19 @@ refused_image old name from (suc n) P r = let none : None ≡ Some r.from = r.th
 module _ (words : List (List ℕ)) (old new : World) where
   -- the image that is wanted is refused, for each cause
   unread : (wanted : WantedText) (which : Which) → RefusedInputs wanted old.files new.files (ReadImage which)
-      → (desc : Option Desc) × HasDesc (MayGive old.files) (named wanted.run) desc × NameFailed wanted.image old.files new.files
+      → (desc : Option Desc) × HasDesc (MayGive old.files) (run_description wanted.run) desc × NameFailed wanted.image old.files new.files
   unread wanted which r =
-      refused_image old.files (named wanted.run) (from_file wanted.image) (place_of which) (λ desc from. FailsToRead old.files new.files from) r
+      refused_image old.files (run_description wanted.run) (from_file wanted.image) (place_of which) (λ desc from. FailsToRead old.files new.files from) r
 
   too_long : (wanted : WantedText) (which : Which) → RefusedInputs wanted old.files new.files (ImageTooLong which)
-      → (desc : Option Desc) × HasDesc (MayGive old.files) (named wanted.run) desc × HasTooMany (MayGive old.files) (from_file wanted.image)
+      → (desc : Option Desc) × HasDesc (MayGive old.files) (run_description wanted.run) desc × HasTooMany (MayGive old.files) (from_file wanted.image)
   too_long wanted which r =
-      refused_image old.files (named wanted.run) (from_file wanted.image) (place_of which) (λ desc from. HasTooMany (MayGive old.files) from) r.0
+      refused_image old.files (run_description wanted.run) (from_file wanted.image) (place_of which) (λ desc from. HasTooMany (MayGive old.files) from) r.0
 
   at_fault : (wanted : WantedText) (which : Which) (f : ElfFault) → RefusedInputs wanted old.files new.files (Image which f)
-      → (desc : Option Desc) × HasDesc (MayGive old.files) (named wanted.run) desc × HasFault (MayGive old.files) desc (from_file wanted.image) f
+      → (desc : Option Desc) × HasDesc (MayGive old.files) (run_description wanted.run) desc × HasFault (MayGive old.files) desc (from_file wanted.image) f
   at_fault wanted which f r =
-      refused_image old.files (named wanted.run) (from_file wanted.image) (place_of which) (λ desc from. HasFault (MayGive old.files) desc from f) r.0
+      refused_image old.files (run_description wanted.run) (from_file wanted.image) (place_of which) (λ desc from. HasFault (MayGive old.files) desc from f) r.0
 
   -- ---- What comes of each status
 
@@ -101,19 +101,19 @@ module _ (words : List (List ℕ)) (old new : World) where
   two (Err (Refused _)) e h = absurd (omega arith)
 
   four : (r : Result Verdict Unjudged) → Ends words old new r → status_of r ≡ 4
-      → Wants words (λ wanted. (name : List ℕ) × (named wanted.run ≡ Some name) × IsFaultyDescription (MayGive old.files) name)
+      → Wants words (λ wanted. (name : List ℕ) × (run_description wanted.run ≡ Some name) × IsFaultyDescription (MayGive old.files) name)
   four (Ok v) e h = absurd (other_status v 4 (λ k. omega arith) h)
   four (Err (Range f)) e h = absurd (omega arith)
   four (Err (Refused DescriptionTooLong)) e h =
-      let n = refused_name (named e.0.run) old.files new.files DescriptionTooLong e.2.0 in
+      let n = refused_name (run_description e.0.run) old.files new.files DescriptionTooLong e.2.0 in
       (e.0, e.1, (n.0, n.1, inl n.2.0))
   four (Err (Refused (Description f))) e h =
-      let n = refused_name (named e.0.run) old.files new.files (Description f) e.2.0 in
+      let n = refused_name (run_description e.0.run) old.files new.files (Description f) e.2.0 in
       (e.0, e.1, (n.0, n.1, inr (f, n.2.0)))
   four (Err (Refused _)) e h = absurd (omega arith)
 
   five : (r : Result Verdict Unjudged) → Ends words old new r → status_of r ≡ 5
-      → Wants words (λ wanted. (desc : Option Desc) × HasDesc (MayGive old.files) (named wanted.run) desc × IsFaultyImage (MayGive old.files) desc (from_file wanted.image))
+      → Wants words (λ wanted. (desc : Option Desc) × HasDesc (MayGive old.files) (run_description wanted.run) desc × IsFaultyImage (MayGive old.files) desc (from_file wanted.image))
   five (Ok v) e h = absurd (other_status v 5 (λ k. omega arith) h)
   five (Err (Range f)) e h = absurd (omega arith)
   five (Err (Refused (ImageTooLong which))) e h = let r = too_long e.0 which e.2.0 in (e.0, e.1, (r.0, r.1, inl r.2))
@@ -121,11 +121,11 @@ module _ (words : List (List ℕ)) (old new : World) where
   five (Err (Refused _)) e h = absurd (omega arith)
 
   six : (r : Result Verdict Unjudged) → Ends words old new r → status_of r ≡ 6
-      → Wants words (λ wanted. ((name : List ℕ) × (named wanted.run ≡ Some name) × NameFailed name old.files new.files)
-      ⊎ ((desc : Option Desc) × HasDesc (MayGive old.files) (named wanted.run) desc × NameFailed wanted.image old.files new.files))
+      → Wants words (λ wanted. ((name : List ℕ) × (run_description wanted.run ≡ Some name) × NameFailed name old.files new.files)
+      ⊎ ((desc : Option Desc) × HasDesc (MayGive old.files) (run_description wanted.run) desc × NameFailed wanted.image old.files new.files))
   six (Ok v) e h = absurd (other_status v 6 (λ k. omega arith) h)
   six (Err (Range f)) e h = absurd (omega arith)
-  six (Err (Refused ReadDescription)) e h = (e.0, e.1, inl (refused_name (named e.0.run) old.files new.files ReadDescription e.2.0))
+  six (Err (Refused ReadDescription)) e h = (e.0, e.1, inl (refused_name (run_description e.0.run) old.files new.files ReadDescription e.2.0))
   six (Err (Refused (ReadImage which))) e h = (e.0, e.1, inr (unread e.0 which e.2.0))
   six (Err (Refused _)) e h = absurd (omega arith)
 
@@ -143,8 +143,8 @@ module _ (words : List (List ℕ)) (old new : World) where
   not_six (Err (Range f)) e h = e.2.0.read.counts
   not_six (Err (Refused Words)) e h = e.1
   not_six (Err (Refused ReadDescription)) e h = absurd (h refl)
-  not_six (Err (Refused DescriptionTooLong)) e h = (refused_name (named e.0.run) old.files new.files DescriptionTooLong e.2.0).2.1
-  not_six (Err (Refused (Description f))) e h = (refused_name (named e.0.run) old.files new.files (Description f) e.2.0).2.1
+  not_six (Err (Refused DescriptionTooLong)) e h = (refused_name (run_description e.0.run) old.files new.files DescriptionTooLong e.2.0).2.1
+  not_six (Err (Refused (Description f))) e h = (refused_name (run_description e.0.run) old.files new.files (Description f) e.2.0).2.1
   not_six (Err (Refused (ReadImage which))) e h = absurd (h refl)
   not_six (Err (Refused (ImageTooLong which))) e h = e.2.0.1
   not_six (Err (Refused (Image which f))) e h = e.2.0.1
@@ -205,9 +205,9 @@ module _ (words : List (List ℕ)) (old new : World) where
     its_refusal c a = (of_wish words (λ w. RefusedInputs w old.files new.files c × (new.out ≡ old.out)) wanted k a).0
 
     -- what each status says where a description is wanted that has a fault
-    module _ (name : List ℕ) (is : named wanted.run ≡ Some name) (x : IsFaultyDescription (Gives old.files) name) where
-      not_described : (desc : Option Desc) → HasDesc (MayGive old.files) (named wanted.run) desc → ⊥
-      not_described desc h = no_desc old.files (named wanted.run) desc name is h x
+    module _ (name : List ℕ) (is : run_description wanted.run ≡ Some name) (x : IsFaultyDescription (Gives old.files) name) where
+      not_described : (desc : Option Desc) → HasDesc (MayGive old.files) (run_description wanted.run) desc → ⊥
+      not_described desc h = no_desc old.files (run_description wanted.run) desc name is h x
 
       faulty_description : (r : Result Verdict Unjudged) → Ends words old new r
           → (status_of r ≡ 4) ⊎ ((status_of r ≡ 6) ⊎ (status_of r ≡ 8))
@@ -226,15 +226,15 @@ module _ (words : List (List ℕ)) (old new : World) where
       faulty_description (Err (Refused Memory)) e = inr (inr refl)
 
     -- what each status says where the files tell the description that is wanted
-    module _ (desc : Option Desc) (described : HasDesc (Gives old.files) (named wanted.run) desc) where
-      same_desc : (desc' : Option Desc) → HasDesc (MayGive old.files) (named wanted.run) desc' → desc' ≡ desc
-      same_desc desc' h = told_desc old.files (named wanted.run) desc desc' described h
+    module _ (desc : Option Desc) (described : HasDesc (Gives old.files) (run_description wanted.run) desc) where
+      same_desc : (desc' : Option Desc) → HasDesc (MayGive old.files) (run_description wanted.run) desc' → desc' ≡ desc
+      same_desc desc' h = told_desc old.files (run_description wanted.run) desc desc' described h
 
       described_longer : IsRefused DescriptionTooLong → ⊥
-      described_longer a = not_longer old.files new.files (named wanted.run) desc described (its_refusal DescriptionTooLong a)
+      described_longer a = not_longer old.files new.files (run_description wanted.run) desc described (its_refusal DescriptionTooLong a)
 
       described_faulty : (f : DescFault) → IsRefused (Description f) → ⊥
-      described_faulty f a = not_refused old.files new.files (named wanted.run) desc f described (its_refusal (Description f) a)
+      described_faulty f a = not_refused old.files new.files (run_description wanted.run) desc f described (its_refusal (Description f) a)
 
       no_image : (i : Inputs wanted old.files new.files) → IsFaultyImage (Gives old.files) desc (from_file wanted.image) → ⊥
       no_image i x =
@@ -299,7 +299,7 @@ module _ (words : List (List ℕ)) (old new : World) where
             cc
 
         complete : (r : Result Verdict Unjudged) → Ends words old new r → (verdict : Verdict) → verdict_in wanted desc image ≡ Some verdict → fault_in wanted image ≡ None
-            → ((name : List ℕ) → named wanted.run ≡ Some name → Rose (old.files.faults name) (new.files.faults name) → ⊥)
+            → ((name : List ℕ) → run_description wanted.run ≡ Some name → Rose (old.files.faults name) (new.files.faults name) → ⊥)
             → (Rose (old.files.faults wanted.image) (new.files.faults wanted.image) → ⊥) → (Rose old.out.faults new.out.faults → ⊥)
             → ((status_of r ≡ 8) × (new.out ≡ old.out)) ⊎ ((status_of r ≡ verdict_status verdict) × Wrote (verdict_text verdict) old.out new.out)
         complete (Ok v) e verdict is none a b c =
@@ -309,7 +309,7 @@ module _ (words : List (List ℕ)) (old new : World) where
         complete (Err (Range f)) e verdict is none a b c = let i = its_fault f e in absurd (no_clash (same_fault i.0 (Some f) i.1) none)
         complete (Err (Refused Words)) e verdict is none a b c = absurd (clash k e.0)
         complete (Err (Refused ReadDescription)) e verdict is none a b c =
-            let n = refused_name (named wanted.run) old.files new.files ReadDescription (its_refusal ReadDescription e) in
+            let n = refused_name (run_description wanted.run) old.files new.files ReadDescription (its_refusal ReadDescription e) in
             absurd (a n.0 n.1 n.2.rose)
         complete (Err (Refused DescriptionTooLong)) e verdict is none a b c = absurd (described_longer e)
         complete (Err (Refused (Description f))) e verdict is none a b c = absurd (described_faulty f e)

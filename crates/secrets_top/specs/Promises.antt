@@ -30,13 +30,13 @@ use Rattle.secrets_top.specs.Verdict.{is_any_public, told_of, hidden_text, shown
 -- ---- Of other secrets
 
 -- the addresses of a memory whose bytes aren't secret
-abbrev pub unsecret : List SecretRange → Ram → List ℕ
-unsecret secret m = filter (λ a. not (secret_in secret a)) (range m.base (length m.bytes))
+abbrev pub addresses_not_secret : List SecretRange → Ram → List ℕ
+addresses_not_secret secret m = filter (λ a. not (secret_in secret a)) (range m.base (length m.bytes))
 
 -- a memory differs from the image's in the secret bytes alone: it has its shape, holds bytes, and has the image's byte
 -- at each other address. Nothing is asked of the image's own memory
 abbrev pub HasOtherSecret : ImageText → List SecretRange → Ram → Type 0
-HasOtherSecret image secret m = Agree image.ram m (unsecret secret image.ram)
+HasOtherSecret image secret m = Agree image.ram m (addresses_not_secret secret image.ram)
 
 -- ---- Of the run of a core
 

@@ -26,29 +26,29 @@ abbrev pub Wants : List (List ℕ) → (WantedText → Type 0) → Type 0
 Wants words P = (wanted : WantedText) × (wanted_of words ≡ Some wanted) × P wanted
 
 -- the name of the description of a run: the path may do without
-abbrev pub named : RunText → Option (List ℕ)
-named (core_run description cycles) = Some description
-named (path_run description steps) = description
+abbrev pub run_description : RunText → Option (List ℕ)
+run_description (core_run description cycles) = Some description
+run_description (path_run description steps) = description
 
 -- what is read for what is wanted: a description, if one is named, and then an image under it
 pub record Inputs (wanted : WantedText) (old new : Shelf) : Type 0 where
   pub desc : Option Desc
   pub image : ImageText
-  pub read : IsRead old new (named wanted.run) (from_file wanted.image ∷ []) desc (image ∷ [])
+  pub read : IsRead old new (run_description wanted.run) (from_file wanted.image ∷ []) desc (image ∷ [])
 
 -- what is wrong with the ranges of an image
 abbrev pub fault_in : WantedText → ImageText → Option FaultyRange
 fault_in wanted image = first_faulty image 0 wanted.secret
 
 -- what is told of a run, with what is read for it: of a core's with its description alone
-abbrev pub judged : RunText → Option Desc → ImageText → List SecretRange → PublicStreams → Option Verdict
-judged (core_run description cycles) (Some d) image secret public = Some (verdict_of d image secret public cycles)
-judged (core_run description cycles) None image secret public = None
-judged (path_run description steps) desc image secret public = Some (path_verdict_of image secret public steps)
+abbrev pub verdict_on_run : RunText → Option Desc → ImageText → List SecretRange → PublicStreams → Option Verdict
+verdict_on_run (core_run description cycles) (Some d) image secret public = Some (verdict_of d image secret public cycles)
+verdict_on_run (core_run description cycles) None image secret public = None
+verdict_on_run (path_run description steps) desc image secret public = Some (path_verdict_of image secret public steps)
 
 -- what is told of the run that is wanted
 abbrev pub verdict_in : WantedText → Option Desc → ImageText → Option Verdict
-verdict_in wanted desc image = judged wanted.run desc image wanted.secret wanted.public
+verdict_in wanted desc image = verdict_on_run wanted.run desc image wanted.secret wanted.public
 
 -- what is read is accepted: a description, if one is named, an image under it, and no range of secret bytes with a
 -- fault; and this is told of the run
@@ -60,7 +60,7 @@ pub record Accepted (wanted : WantedText) (old new : Shelf) : Type 0 where
 
 -- why reading is refused: for the description, or for the image under it
 abbrev pub RefusedInputs : WantedText → Shelf → Shelf → Refusal → Type 0
-RefusedInputs wanted old new refusal = Refuses (named wanted.run) (from_file wanted.image ∷ []) old new refusal
+RefusedInputs wanted old new refusal = Refuses (run_description wanted.run) (from_file wanted.image ∷ []) old new refusal
 
 -- a wish may need memory: for what is read, or, once that is accepted, for the run
 abbrev pub WishWants : WantedText → Shelf → Shelf → Type 0
@@ -106,23 +106,23 @@ pub record Statuses (words : List (List ℕ)) (old new : World) (status : ℕ) :
   -- 2 wherever there are no words
   pub no_words : words ≡ [] → status ≡ 2
   pub faulty_range : (wanted : WantedText) (desc : Option Desc) (image : ImageText) (faulty : FaultyRange) → wanted_of words ≡ Some wanted
-      → HasDesc (Gives old.files) (named wanted.run) desc → IsImage (Gives old.files) desc (from_file wanted.image) image → fault_in wanted image ≡ Some faulty
+      → HasDesc (Gives old.files) (run_description wanted.run) desc → IsImage (Gives old.files) desc (from_file wanted.image) image → fault_in wanted image ≡ Some faulty
       → (status ≡ 2) ⊎ ((status ≡ 6) ⊎ (status ≡ 8))
   -- 4 only where a description is named that is too long or at fault, and there always, but for a failed read and want
   -- of memory
-  pub four : status ≡ 4 → Wants words (λ wanted. (name : List ℕ) × (named wanted.run ≡ Some name) × IsFaultyDescription (MayGive old.files) name)
-  pub faulty_description : (wanted : WantedText) (name : List ℕ) → wanted_of words ≡ Some wanted → named wanted.run ≡ Some name
+  pub four : status ≡ 4 → Wants words (λ wanted. (name : List ℕ) × (run_description wanted.run ≡ Some name) × IsFaultyDescription (MayGive old.files) name)
+  pub faulty_description : (wanted : WantedText) (name : List ℕ) → wanted_of words ≡ Some wanted → run_description wanted.run ≡ Some name
       → IsFaultyDescription (Gives old.files) name → (status ≡ 4) ⊎ ((status ≡ 6) ⊎ (status ≡ 8))
   -- 5 only where the image is too long or at fault and the description isn't, and there always, but for a failed read
   -- and want of memory
-  pub five : status ≡ 5 → Wants words (λ wanted. (desc : Option Desc) × HasDesc (MayGive old.files) (named wanted.run) desc
+  pub five : status ≡ 5 → Wants words (λ wanted. (desc : Option Desc) × HasDesc (MayGive old.files) (run_description wanted.run) desc
       × IsFaultyImage (MayGive old.files) desc (from_file wanted.image))
-  pub faulty_image : (wanted : WantedText) (desc : Option Desc) → wanted_of words ≡ Some wanted → HasDesc (Gives old.files) (named wanted.run) desc
+  pub faulty_image : (wanted : WantedText) (desc : Option Desc) → wanted_of words ≡ Some wanted → HasDesc (Gives old.files) (run_description wanted.run) desc
       → IsFaultyImage (Gives old.files) desc (from_file wanted.image) → (status ≡ 5) ⊎ ((status ≡ 6) ⊎ (status ≡ 8))
   -- 6 only where the count of the description's name rose, or that of the image's after the description, if one is
   -- named, was read and had no fault; any other status leaves all counts of the files
-  pub six : status ≡ 6 → Wants words (λ wanted. ((name : List ℕ) × (named wanted.run ≡ Some name) × NameFailed name old.files new.files)
-      ⊎ ((desc : Option Desc) × HasDesc (MayGive old.files) (named wanted.run) desc × NameFailed wanted.image old.files new.files))
+  pub six : status ≡ 6 → Wants words (λ wanted. ((name : List ℕ) × (run_description wanted.run ≡ Some name) × NameFailed name old.files new.files)
+      ⊎ ((desc : Option Desc) × HasDesc (MayGive old.files) (run_description wanted.run) desc × NameFailed wanted.image old.files new.files))
   pub not_six : status ≢ 6 → SameCounts old.files new.files
   -- 7 only where the count of the sink rose, with a part of the text written; any other status leaves that count
   pub seven : status ≡ 7 → Wants words (λ wanted. (a : Accepted wanted old.files new.files) × WrotePrefix (verdict_text a.verdict) old.out new.out)
@@ -132,8 +132,8 @@ pub record Statuses (words : List (List ℕ)) (old new : World) (status : ℕ) :
   -- where the words, the description, the image and the ranges have no fault and no count rose, the whole text is
   -- written with its status, or memory was wanting and nothing is
   pub complete : (wanted : WantedText) (desc : Option Desc) (image : ImageText) (verdict : Verdict) → wanted_of words ≡ Some wanted
-      → HasDesc (Gives old.files) (named wanted.run) desc → IsImage (Gives old.files) desc (from_file wanted.image) image → fault_in wanted image ≡ None
+      → HasDesc (Gives old.files) (run_description wanted.run) desc → IsImage (Gives old.files) desc (from_file wanted.image) image → fault_in wanted image ≡ None
       → verdict_in wanted desc image ≡ Some verdict
-      → ((name : List ℕ) → named wanted.run ≡ Some name → ¬ Rose (old.files.faults name) (new.files.faults name))
+      → ((name : List ℕ) → run_description wanted.run ≡ Some name → ¬ Rose (old.files.faults name) (new.files.faults name))
       → ¬ Rose (old.files.faults wanted.image) (new.files.faults wanted.image) → ¬ Rose old.out.faults new.out.faults
       → ((status ≡ 8) × (new.out ≡ old.out)) ⊎ ((status ≡ verdict_status verdict) × Wrote (verdict_text verdict) old.out new.out)

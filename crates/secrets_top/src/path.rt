@@ -2,7 +2,7 @@
 //! first step, and nothing is written before the last.
 ghost use Rattle.std.specs.Prelude.{◌≡◌, IfOk};
 ghost use Rattle.elf_loader.specs.inner.Code.{word_at};
-ghost use Rattle.run_inputs.specs.Loaded.{loaded};
+ghost use Rattle.run_inputs.specs.Loaded.{image_text};
 ghost use Rattle.secrets_top.specs.Verdict.{path_verdict_from, path_verdict_of};
 
 use crate::verdict::{Verdict, told_of};
@@ -38,7 +38,7 @@ pub(crate) fn judge_path(
     public: PublicStreams,
     steps: u32,
 ) -> Result<Verdict, NoMemory>
-    ensures { IfOk result (λ v. v ≡ path_verdict_of (loaded image) secret.now public steps) }
+    ensures { IfOk result (λ v. v ≡ path_verdict_of (image_text image) secret.now public steps) }
 {
     let mut path = MarkedPath::new(alloc, image, secret, public)?;
     Ok(walk(&mut path, steps))

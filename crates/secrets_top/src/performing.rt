@@ -3,7 +3,7 @@
 ghost use Rattle.std.specs.Prelude.{◌≡◌, ◌<◌, ◌+◌, ◌^◌, IfOk};
 ghost use Rattle.elf_loader.specs.inner.Code.{word_at};
 ghost use Rattle.pair_run.specs.Running.{ending_at};
-ghost use Rattle.run_inputs.specs.Loaded.{Fits, loaded};
+ghost use Rattle.run_inputs.specs.Loaded.{Fits, image_text};
 ghost use Rattle.secrets_top.specs.Verdict.{verdict_from, verdict_of};
 ghost use Rattle.secrets_top.specs.Ranges.{first_faulty};
 ghost use Rattle.secrets_top.specs.inner.Top.{InMemory, Performs, PerformsAccepted, image_in, verdict_on};
@@ -59,7 +59,7 @@ fn judge_core(
     cycles: u32,
 ) -> Result<Verdict, NoMemory>
     requires { Fits read.desc read.image.ram }
-    ensures { IfOk result (λ v. v ≡ verdict_of read.desc (loaded read.image) secret.now public cycles) }
+    ensures { IfOk result (λ v. v ≡ verdict_of read.desc (image_text read.image) secret.now public cycles) }
 {
     let Described { desc, image } = read;
     let mut core = Core::new(alloc, &desc, image, secret, public)?;

@@ -2,7 +2,7 @@
 ghost use Rattle.std.specs.Prelude.{◌≡◌, ◌+◌, ◌≤◌, ◌^◌, None, Some, MatchResult, IsTrue};
 ghost use Rattle.rv_types.specs.Memory.{in_ram};
 ghost use Rattle.elf_loader.specs.inner.Code.{word_at};
-ghost use Rattle.run_inputs.specs.Loaded.{loaded};
+ghost use Rattle.run_inputs.specs.Loaded.{image_text};
 ghost use Rattle.secrets_top.specs.Ranges.{in_code, touches_code, range_fault, first_faulty};
 
 use byte_ram::Ram;
@@ -62,7 +62,7 @@ fn lies_within(ram: &Ram, range: &SecretRange) -> bool
 
 // What is wrong with a range.
 fn range_fault(image: &Image, range: &SecretRange) -> Option<RangeFault>
-    ensures { result ≡ range_fault (loaded image.now) range.now }
+    ensures { result ≡ range_fault (image_text image.now) range.now }
 {
     if !lies_within(&image.ram, range) {
         return Some(RangeFault::Outside);
@@ -76,8 +76,8 @@ fn range_fault(image: &Image, range: &SecretRange) -> Option<RangeFault>
 /// Whether each range lies within an image's memory and touches no code. Error: the first that doesn't.
 pub(crate) fn check_ranges(image: &Image, secret: &[SecretRange]) -> Result<(), FaultyRange>
     ensures { MatchResult result
-        (λ _. first_faulty (loaded image.now) 0 secret.now ≡ None)
-        (λ faulty. first_faulty (loaded image.now) 0 secret.now ≡ Some faulty) }
+        (λ _. first_faulty (image_text image.now) 0 secret.now ≡ None)
+        (λ faulty. first_faulty (image_text image.now) 0 secret.now ≡ Some faulty) }
 {
     for (number, range) in secret.iter().enumerate() {
         if let Some(fault) = range_fault(image, range) {

@@ -1,7 +1,7 @@
 //! The run that is asked of, with all that it reads.
 ghost use Rattle.std.specs.Prelude.{◌≡◌, Result, IfOk};
 ghost use Rattle.std.specs.Option.{option_map};
-ghost use Rattle.run_inputs.specs.Loaded.{loaded};
+ghost use Rattle.run_inputs.specs.Loaded.{image_text};
 ghost use Rattle.secret_words.specs.Words.{core_run, path_run};
 ghost use Rattle.secret_words.specs.inner.Words.{run_text};
 ghost use Rattle.tool_io.specs.Outside.{SameContents};
@@ -25,7 +25,7 @@ pub(crate) enum Task {
 impl Task {
     /// The image.
     pub(crate) fn image(&self) -> &Image
-        ensures { loaded result.now ≡ image_in self.now }
+        ensures { image_text result.now ≡ image_in self.now }
     {
         match self {
             Task::Core { read, .. } => &read.image,

@@ -7,7 +7,7 @@ use Rattle.window_model.specs.State.{Machine}
 use Rattle.visibility.specs.Point.{HasAdvanced}
 use Rattle.refinement.specs.InFlight.{InFlight}
 use Rattle.core_parts.specs.Described.{Described}
-use Rattle.core_parts.specs.Held.{Held, Whole, described, in_flight, machine_of}
+use Rattle.core_parts.specs.Held.{Held, Whole, described_of, in_flight, machine_of}
 use Rattle.secret_marks.specs.declared.EntryMarks.{EntryMarks}
 use Rattle.secret_marks.specs.declared.Shown.{Shown}
 use Rattle.secret_marks.specs.Marks.{Marks}
@@ -15,7 +15,7 @@ use Rattle.secret_marks.specs.Shows.{call_shows}
 use Rattle.secret_marks.specs.Shown.{head_shown, operands_shown, shown_by}
 use Rattle.entry_marks.proofs.Exposed.{head_silent, head_tells, no_head}
 
-module _ (h : Held) (v : Described) (w : Whole h) (s : described h ≡ v) where
+module _ (h : Held) (v : Described) (w : Whole h) (s : described_of h ≡ v) where
   -- what is in flight in the parts that are lent
   abbrev pub lent_flight : InFlight
   lent_flight = in_flight h

@@ -11,7 +11,7 @@ use Rattle.stations.specs.declared.occupant.Occupant.{Occupant}
 use Rattle.stations.specs.declared.wants.Wants.{Wants}
 use Rattle.stations.specs.declared.wants.Wants.TheVariants as wants
 use Rattle.stations.specs.Stations.{NextAble, Station, able_as, is_able, strike}
-use Rattle.stations.specs.Places.{IsPosition, NotesAble, NotesAbleBut, able_in, held_of, meets, nobody, station_in, woken}
+use Rattle.stations.specs.Places.{IsPosition, NotesAble, NotesAbleBut, able_in, held_of, meets, nobody, station_in, after_wakeup}
 
 -- ---- what a word tells of a position
 
@@ -171,7 +171,7 @@ still_as serial wants.Data a (Some b) h = absurd (cc)
 still_as serial wants.Data (Some a) None h = refl
 
 -- who may issue, or of whom a part may, still does once a serial is awaited no longer
-pub able_still : (serial : ℕ) (o : Occupant) → able_in o ≡ true → able_in (woken serial o) ≡ true
+pub able_still : (serial : ℕ) (o : Occupant) → able_in o ≡ true → able_in (after_wakeup serial o) ≡ true
 able_still serial o h = still_as serial o.wants o.first o.second h
 
 -- ---- the entry in one place is marked, if it may issue

@@ -9,7 +9,7 @@ use Rattle.std.proofs.lemmas.List.{get_or_past, get_or-set_same, get_or-set_othe
 use Rattle.word_bits.specs.Bits.{IsFirstBit}
 use Rattle.stations.specs.declared.occupant.Occupant.{Occupant}
 use Rattle.stations.specs.Stations.{strike}
-use Rattle.stations.specs.Places.{NotesWaiters, awaits_in, is_in, nobody, woken}
+use Rattle.stations.specs.Places.{NotesWaiters, awaits_in, is_in, nobody, after_wakeup}
 
 pub neither : (a b : Bool) → (a || b) ≡ false → (a ≡ false) × (b ≡ false)
 neither true b h = absurd (cc)
@@ -24,7 +24,7 @@ strike_other serial (Some s) h =
     (λ other. ap (λ b. if b then None else Some s) other.0)
     (eqb_tells s serial)
 
-woken_other : (serial : ℕ) (o : Occupant) → awaits_in (serial % 256) o ≡ false → woken serial o ≡ o
+woken_other : (serial : ℕ) (o : Occupant) → awaits_in (serial % 256) o ≡ false → after_wakeup serial o ≡ o
 woken_other serial o h =
     let none = neither _ _ h in
     ap₂ (λ a b. record o { first = a; second = b }) (strike_other serial o.first none.0) (strike_other serial o.second none.1)
@@ -63,11 +63,11 @@ struck_less group serial None h = h
 struck_less group serial (Some s) h = struck_by (s == serial) group s h
 
 -- what an entry awaits when it awaits a serial no longer it awaited before
-woken_less : (group serial : ℕ) (o : Occupant) → awaits_in group (woken serial o) ≡ true → awaits_in group o ≡ true
+woken_less : (group serial : ℕ) (o : Occupant) → awaits_in group (after_wakeup serial o) ≡ true → awaits_in group o ≡ true
 woken_less group serial o h = or_less _ _ _ _ (struck_less group serial o.first) (struck_less group serial o.second) h
 
 -- an entry in its place awaits a serial no longer
-module _ (serial : ℕ) (places : List Occupant) (place : ℕ) (o : Occupant) (lt : place < length places) (woke : o ≡ woken serial (get_or places place nobody)) where
+module _ (serial : ℕ) (places : List Occupant) (place : ℕ) (o : Occupant) (lt : place < length places) (woke : o ≡ after_wakeup serial (get_or places place nobody)) where
   -- the words that have a bit for each place that awaits their group still do, once an entry awaits a serial less
   pub noted_woken : (waiters : List ℕ) → NotesWaiters places waiters → NotesWaiters (set places place o) waiters
   noted_woken waiters m group p h = elim (cases_eq p place) [
@@ -99,7 +99,7 @@ module _ (serial : ℕ) (places : List Occupant) (place : ℕ) (o : Occupant) (l
 
 -- the places are woken up to one from which on they are as they were
 module _ (serial : ℕ) (old places : List Occupant) (waiters : List ℕ) (from room : ℕ) (long : room ≡ length places) (m : NotesWaiters places waiters)
-    (woken_so_far : (p : ℕ) → p < from → get_or places p nobody ≡ woken serial (get_or old p nobody)) (rest : (p : ℕ) → from ≤ p → get_or places p nobody ≡ get_or old p nobody) where
+    (woken_so_far : (p : ℕ) → p < from → get_or places p nobody ≡ after_wakeup serial (get_or old p nobody)) (rest : (p : ℕ) → from ≤ p → get_or places p nobody ≡ get_or old p nobody) where
   unnoted : (p : ℕ) → (p < room → bit_at (get_or waiters (serial % 256) 0) p ≡ 0) → awaits_in (serial % 256) (get_or places p nobody) ≡ false
   unnoted p none =
       ⊎_elim
@@ -108,22 +108,22 @@ module _ (serial : ℕ) (old places : List Occupant) (waiters : List ℕ) (from 
       (λ h. h)
       (cases_Bool (awaits_in (serial % 256) (get_or places p nobody)))
 
-  as_it_was : (p : ℕ) → from ≤ p → (p < room → bit_at (get_or waiters (serial % 256) 0) p ≡ 0) → get_or places p nobody ≡ woken serial (get_or old p nobody)
+  as_it_was : (p : ℕ) → from ≤ p → (p < room → bit_at (get_or waiters (serial % 256) 0) p ≡ 0) → get_or places p nobody ≡ after_wakeup serial (get_or old p nobody)
   as_it_was p low none = rest p low ∙ sym (woken_other serial (get_or old p nobody) (sym (ap (awaits_in (serial % 256)) (rest p low)) ∙ unnoted p none))
 
   pub woken_one : (places2 : List Occupant) (place : ℕ) → IsFirstBit (bit_at (get_or waiters (serial % 256) 0)) from room place →
-      get_or places2 place nobody ≡ woken serial (get_or places place nobody) → ((p : ℕ) → p ≢ place → get_or places2 p nobody ≡ get_or places p nobody) →
-      (p : ℕ) → p < place + 1 → get_or places2 p nobody ≡ woken serial (get_or old p nobody)
+      get_or places2 place nobody ≡ after_wakeup serial (get_or places place nobody) → ((p : ℕ) → p ≢ place → get_or places2 p nobody ≡ get_or places p nobody) →
+      (p : ℕ) → p < place + 1 → get_or places2 p nobody ≡ after_wakeup serial (get_or old p nobody)
   woken_one places2 place next here others p lt = elim (cases_eq p place) [
     | inl q ↦ let low = next.low in
-        ap (λ k. get_or places2 k nobody) q ∙ here ∙ ap (woken serial) (rest place low) ∙ ap (λ k. woken serial (get_or old k nobody)) (sym q)
+        ap (λ k. get_or places2 k nobody) q ∙ here ∙ ap (after_wakeup serial) (rest place low) ∙ ap (λ k. after_wakeup serial (get_or old k nobody)) (sym q)
     | inr ne ↦ others p ne ∙ elim (cases_lt p from) [
       | inl before ↦ woken_so_far p before
       | inr low ↦ as_it_was p low (λ l. next.before p low (omega (arith, lt, ne)))
     ]
   ]
 
-  pub woken_rest : ((p : ℕ) → from ≤ p → p < room → bit_at (get_or waiters (serial % 256) 0) p ≡ 0) → (p : ℕ) → get_or places p nobody ≡ woken serial (get_or old p nobody)
+  pub woken_rest : ((p : ℕ) → from ≤ p → p < room → bit_at (get_or waiters (serial % 256) 0) p ≡ 0) → (p : ℕ) → get_or places p nobody ≡ after_wakeup serial (get_or old p nobody)
   woken_rest none p = elim (cases_lt p from) [
     | inl before ↦ woken_so_far p before
     | inr low ↦ as_it_was p low (none p low)

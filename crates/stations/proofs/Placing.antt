@@ -10,7 +10,7 @@ use Rattle.std.proofs.lemmas.List.Sorted.{IsPermutation-sym, IsPermutation-trans
 use Rattle.stations.specs.declared.occupant.Occupant.{Occupant}
 use Rattle.stations.specs.declared.wants.Wants.{Wants}
 use Rattle.stations.specs.Stations.{Rise, Station, struck}
-use Rattle.stations.specs.Places.{awaited, station, station_in, nobody, held_of, woken, Placed}
+use Rattle.stations.specs.Places.{awaited_serials, station, station_in, nobody, held_of, after_wakeup, Placed}
 use Rattle.stations.proofs.Numbers.{below, apart}
 
 abbrev Once : List Occupant → List ℕ → Type 0
@@ -22,7 +22,7 @@ range_more n = sym (map-id (range_with_len 0 (n + 1))) ∙ map-range_with_len_mo
 -- ---- one more entry waits
 
 -- the entry is seen as it was made
-pub new_station : (p : ℕ) (o : Occupant) (serial : ℕ) (wants : Wants) (awaits : List (Option ℕ)) → o.serial ≡ serial → o.wants ≡ wants → awaited o ≡ awaits → station p o ≡ record { serial = serial; wants = wants; awaits = awaits; place = p }
+pub new_station : (p : ℕ) (o : Occupant) (serial : ℕ) (wants : Wants) (awaits : List (Option ℕ)) → o.serial ≡ serial → o.wants ≡ wants → awaited_serials o ≡ awaits → station p o ≡ record { serial = serial; wants = wants; awaits = awaits; place = p }
 new_station p o serial wants awaits s w a = ap₂ (λ serial rest. record { serial = serial; wants = o.wants; awaits = rest; place = p }) s a ∙ ap (λ w. record { serial = serial; wants = w; awaits = awaits; place = p }) w
 
 -- what happens in one place leaves the entries in others
@@ -69,7 +69,7 @@ placed_remove places ages ages2 free free2 i p s lt is a f =
 -- ---- a serial is awaited no longer
 
 -- places that are woken one by one hold entries that are struck
-pub held_woken : (serial : ℕ) (old places : List Occupant) → ((p : ℕ) → get_or places p nobody ≡ woken serial (get_or old p nobody)) → (ages : List ℕ) → held_of places ages ≡ map (struck serial) (held_of old ages)
+pub held_woken : (serial : ℕ) (old places : List Occupant) → ((p : ℕ) → get_or places p nobody ≡ after_wakeup serial (get_or old p nobody)) → (ages : List ℕ) → held_of places ages ≡ map (struck serial) (held_of old ages)
 held_woken serial old places h [] = refl
 held_woken serial old places h (q ∷ ages) = ap₂ (λ o ss. station q o ∷ ss) (h q) (held_woken serial old places h ages)
 

@@ -9,12 +9,12 @@ use Rattle.stations.specs.declared.wants.Wants.TheVariants.{Whole}
 use Rattle.stations.specs.Stations.{Rise, Station, able_as, is_able, strike}
 
 -- for each of an entry's two sources the serial of the writer that it awaits, if it awaits one
-abbrev pub awaited : Occupant → List (Option ℕ)
-awaited o = o.first ∷ o.second ∷ []
+abbrev pub awaited_serials : Occupant → List (Option ℕ)
+awaited_serials o = o.first ∷ o.second ∷ []
 
 -- an entry in a place, as it is seen
 abbrev pub station : ℕ → Occupant → Station
-station place o = record { serial = o.serial; wants = o.wants; awaits = awaited o; place = place }
+station place o = record { serial = o.serial; wants = o.wants; awaits = awaited_serials o; place = place }
 
 -- what stands in a place that no entry has had
 abbrev pub nobody : Occupant
@@ -29,8 +29,8 @@ abbrev pub held_of : List Occupant → List ℕ → List Station
 held_of places ages = map (station_in places) ages
 
 -- an entry that awaits a serial no longer
-abbrev pub woken : ℕ → Occupant → Occupant
-woken serial o = record o { first = strike serial o.first; second = strike serial o.second }
+abbrev pub after_wakeup : ℕ → Occupant → Occupant
+after_wakeup serial o = record o { first = strike serial o.first; second = strike serial o.second }
 
 -- every place is named once, as taken or as free, and nothing else is; serials rise with age
 pub record Placed (places : List Occupant) (ages free : List ℕ) : Type 0 where
@@ -66,7 +66,7 @@ wanting next o = record o { wants = next }
 
 -- the entry, or a part of it, may issue
 abbrev pub able_in : Occupant → Bool
-able_in o = able_as o.wants (awaited o)
+able_in o = able_as o.wants (awaited_serials o)
 
 -- a word's bits are set for the positions of the entries that may issue, or of which a part may, and for no others
 abbrev pub NotesAble : List Station → ℕ → Type 0

@@ -42,14 +42,14 @@ fn is_in(awaited: Option<u64>, group: u64) -> bool
 impl Occupant {
     ghost use Rattle.std.specs.Prelude.{◌≡◌, is_none};
     ghost use Rattle.std.specs.List.{list_all};
-    ghost use Rattle.stations.specs.Places.{nobody, awaited, awaits_in, woken};
+    ghost use Rattle.stations.specs.Places.{nobody, awaited_serials, awaits_in, after_wakeup};
     ghost use Rattle.stations.specs.Stations.{able_as, nothing_at, source_of};
 
     /// An entry with the serials that it awaits.
     pub fn new(serial: u64, wants: Wants, awaits: [Option<u64>; 2], came: u32) -> Occupant
         ensures serial { result.serial ≡ serial }
         ensures wants { result.wants ≡ wants }
-        ensures awaits { awaited result ≡ awaits }
+        ensures awaits { awaited_serials result ≡ awaits }
     {
         let [first, second] = awaits;
         Occupant {
@@ -76,7 +76,7 @@ impl Occupant {
 
     /// The entry awaits a serial no longer.
     pub fn wake(&mut self, serial: u64)
-        ensures { self.new ≡ woken serial self.old }
+        ensures { self.new ≡ after_wakeup serial self.old }
     {
         strike(&mut self.first, serial);
         strike(&mut self.second, serial);
@@ -84,14 +84,14 @@ impl Occupant {
 
     /// Whether the entry awaits nothing.
     pub fn is_ready(&self) -> bool
-        ensures { result ≡ list_all is_none (awaited self.now) }
+        ensures { result ≡ list_all is_none (awaited_serials self.now) }
     {
         self.first.is_none() && self.second.is_none()
     }
 
     /// Whether the source that a part needs is awaited no more, or there is none.
     pub fn is_ready_part(&self, part: Part) -> bool
-        ensures { result ≡ nothing_at (source_of part) (awaited self.now) }
+        ensures { result ≡ nothing_at (source_of part) (awaited_serials self.now) }
     {
         match part {
             Part::Address => self.first.is_none(),
@@ -101,7 +101,7 @@ impl Occupant {
 
     /// Whether the entry, or a part of it, may issue.
     pub fn is_able(&self) -> bool
-        ensures { result ≡ able_as self.now.wants (awaited self.now) }
+        ensures { result ≡ able_as self.now.wants (awaited_serials self.now) }
     {
         match self.wants {
             Wants::Whole => self.is_ready(),

@@ -3,7 +3,7 @@ ghost use Rattle.std.specs.Prelude.{◌≡◌, ◌≢◌, ◌<◌, ◌≤◌, �
 ghost use Rattle.std.specs.Int.{bit_at};
 ghost use Rattle.std.specs.List.{AllPairs};
 ghost use Rattle.word_bits.specs.Bits.{NextBit};
-ghost use Rattle.stations.specs.Places.{NotesAble, NotesWaiters, able_in, awaits_in, held_of, is_in, nobody, wanting, woken};
+ghost use Rattle.stations.specs.Places.{NotesAble, NotesWaiters, able_in, awaits_in, held_of, is_in, nobody, wanting, after_wakeup};
 
 use crate::marks::mark_able;
 use crate::occupant::Occupant;
@@ -59,7 +59,7 @@ fn wake_at(places: &mut Vec<Occupant>, waiters: &mut [u128; GROUPS], place: u32,
     requires few { vec_len places.old ≤ 128 }
     requires noted { NotesWaiters places.old.items waiters.old }
     ensures here { slice_index_or places.new.items place nobody
-        ≡ woken serial (slice_index_or places.old.items place nobody) }
+        ≡ after_wakeup serial (slice_index_or places.old.items place nobody) }
     ensures others { (p : ℕ) → p ≢ place
         → slice_index_or places.new.items p nobody ≡ slice_index_or places.old.items p nobody }
     ensures len { vec_len places.new ≡ vec_len places.old }
@@ -103,7 +103,7 @@ pub(crate) fn wake_all(
     requires noted { NotesWaiters places.old.items waiters.old }
     requires able { NotesAble (held_of places.old.items ages.now.items) able.old }
     ensures woken { (p : ℕ) → slice_index_or places.new.items p nobody
-        ≡ woken serial (slice_index_or places.old.items p nobody) }
+        ≡ after_wakeup serial (slice_index_or places.old.items p nobody) }
     ensures len { vec_len places.new ≡ vec_len places.old }
     ensures noted { NotesWaiters places.new.items waiters.new }
     ensures able { NotesAble (held_of places.new.items ages.now.items) able.new }

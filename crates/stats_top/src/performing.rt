@@ -1,6 +1,6 @@
 //! What a run comes to. All memory is taken before its first cycle, and nothing is written before.
 ghost use Rattle.std.specs.Prelude.{option_map};
-ghost use Rattle.run_inputs.specs.Loaded.{Fits, loaded};
+ghost use Rattle.run_inputs.specs.Loaded.{Fits, image_text};
 ghost use Rattle.stats_top.specs.inner.Top.{Performs};
 
 use crate::stats::write_stats;
@@ -22,7 +22,7 @@ pub(crate) fn perform<O: Sink>(
     out: &mut O,
 ) -> Result<Option<End>, Refusal>
     requires { Fits read.desc read.image.ram }
-    ensures { Performs (option_map (λ k. k.cycles) every) read.desc (loaded read.image) cycles
+    ensures { Performs (option_map (λ k. k.cycles) every) read.desc (image_text read.image) cycles
         (O.told out.old) (O.told out.new) result }
 {
     let Described { desc, image } = read;

@@ -6,7 +6,7 @@ use Rattle.machine_desc.specs.declared.Desc.{Desc}
 use Rattle.elf_loader.specs.declared.loading.Image.{Image}
 use Rattle.pair_run.specs.Answer.{Answers}
 use Rattle.pair_run.specs.inner.Images.{Images}
-use Rattle.run_inputs.specs.Loaded.{loaded}
+use Rattle.run_inputs.specs.Loaded.{image_text}
 use Rattle.pair_run.specs.declared.answer.PairAnswer.{PairAnswer}
 use Rattle.pair_run.specs.Comparison.{comparison}
 use Rattle.tool_io.specs.Outside.{Told, Shelf, Wrote, WrotePrefix, SameCounts}
@@ -52,8 +52,8 @@ report_part image desc d code x before n out out' s b w =
 
 -- what a pair of these images answers is said of them
 pub pair_answers : (p : Images) (d : Desc) (one two : Image) (n : ℕ) (answer : PairAnswer) → p ≡ record { desc = d; one = one; two = two }
-    → Answers p.desc (loaded p.one) (loaded p.two) n answer → Answers d (loaded one) (loaded two) n answer
-pair_answers p d one two n answer e h = subst (λ (q : Images). Answers q.desc (loaded q.one) (loaded q.two) n answer) e h
+    → Answers p.desc (image_text p.one) (image_text p.two) n answer → Answers d (image_text one) (image_text two) n answer
+pair_answers p d one two n answer e h = subst (λ (q : Images). Answers q.desc (image_text q.one) (image_text q.two) n answer) e h
 
 pub compared : (d : Desc) (one two : ImageText) (n : ℕ) (answer : PairAnswer) (ended : Ended) (out out' : Told) → Answers d one two n answer → Wrote (comparison answer) out out'
     → ended ≡ compared_of answer.first → Performs (pair_task d one two n) out out' (Ok ended)

@@ -2,7 +2,7 @@
 ghost use Rattle.std.specs.Prelude.{◌≡◌, IfOk};
 ghost use Rattle.elf_loader.specs.inner.Code.{word_at};
 ghost use Rattle.run_inputs.specs.Loaded.{Fits};
-ghost use Rattle.run_inputs.specs.Loaded.{loaded};
+ghost use Rattle.run_inputs.specs.Loaded.{image_text};
 ghost use Rattle.stt_top.specs.inner.Running.{Starts};
 
 use elf_loader::Image;
@@ -18,7 +18,7 @@ pub(crate) type Core = core_cycle::Core<ByTable>;
 /// The core where the image begins. All memory that it takes is taken here. Error: there was no memory.
 pub(crate) fn build(alloc: Global, desc: &Desc, image: Image) -> Result<Core, NoMemory>
     requires { Fits desc.now image.ram }
-    ensures { IfOk result (λ c. Starts (loaded image) desc.now c.desc (word_at c.code) c.machine) }
+    ensures { IfOk result (λ c. Starts (image_text image) desc.now c.desc (word_at c.code) c.machine) }
 {
     Core::new(alloc, desc, image)
 }

@@ -1,6 +1,6 @@
 //! The instruction set's state in which a run begins.
 ghost use Rattle.std.specs.Prelude.{IfOk};
-ghost use Rattle.run_inputs.specs.Loaded.{loaded};
+ghost use Rattle.run_inputs.specs.Loaded.{image_text};
 ghost use Rattle.stt_top.specs.inner.Running.{Begins};
 
 use byte_ram::Ram;
@@ -19,7 +19,7 @@ pub(crate) struct IsaRun {
 impl IsaRun {
     /// The state in which an image begins. All memory that a run takes is taken here. Error: there was no memory.
     pub fn of(alloc: Global, image: Image) -> Result<IsaRun, NoMemory>
-        ensures { IfOk result (λ m. Begins (loaded image) m.isa m.before) }
+        ensures { IfOk result (λ m. Begins (image_text image) m.isa m.before) }
     {
         let before = image.ram.copy(alloc)?;
         Ok(IsaRun {

@@ -1,6 +1,6 @@
 //! What a task comes to. All memory is taken before the first step or cycle, and nothing is written before.
 ghost use Rattle.run_inputs.specs.Loaded.{Fits};
-ghost use Rattle.run_inputs.specs.Loaded.{loaded};
+ghost use Rattle.run_inputs.specs.Loaded.{image_text};
 ghost use Rattle.stt_top.specs.Work.{isa_task, report_task, trace_task, pair_task};
 ghost use Rattle.stt_top.specs.inner.Work.{task_text, InMemory, Performs};
 
@@ -18,7 +18,7 @@ use tool_io::Sink;
 
 // The instruction set's run of an image, as a report.
 fn isa<O: Sink>(alloc: Global, image: Image, steps: u64, out: &mut O) -> Result<Ended, Refusal>
-    ensures { Performs (isa_task (loaded image) steps) (O.told out.old) (O.told out.new) result }
+    ensures { Performs (isa_task (image_text image) steps) (O.told out.old) (O.told out.new) result }
 {
     let mut run = IsaRun::of(alloc, image)?;
     let ended = running::report(&mut run, steps, out)?;
@@ -33,7 +33,7 @@ fn report<O: Sink>(
     out: &mut O,
 ) -> Result<Ended, Refusal>
     requires { Fits read.desc read.image.ram }
-    ensures { Performs (report_task read.desc (loaded read.image) cycles) (O.told out.old) (O.told out.new) result }
+    ensures { Performs (report_task read.desc (image_text read.image) cycles) (O.told out.old) (O.told out.new) result }
 {
     let Described { desc, image } = read;
     let before = image.ram.copy(alloc)?;
@@ -50,7 +50,7 @@ fn trace<O: Sink>(
     out: &mut O,
 ) -> Result<Ended, Refusal>
     requires { Fits read.desc read.image.ram }
-    ensures { Performs (trace_task read.desc (loaded read.image) cycles) (O.told out.old) (O.told out.new) result }
+    ensures { Performs (trace_task read.desc (image_text read.image) cycles) (O.told out.old) (O.told out.new) result }
 {
     let Described { desc, image } = read;
     let mut core = build(alloc, &desc, image)?;
@@ -69,7 +69,8 @@ fn pair<O: Sink>(
 ) -> Result<Ended, Refusal>
     requires fits { Fits desc.now one.ram }
     requires fits2 { Fits desc.now two.ram }
-    ensures { Performs (pair_task desc.now (loaded one) (loaded two) cycles) (O.told out.old) (O.told out.new) result }
+    ensures { Performs (pair_task desc.now (image_text one) (image_text two) cycles)
+        (O.told out.old) (O.told out.new) result }
 {
     let answer = build_pair(alloc, desc, one, two)?.run(cycles);
     write_comparison(&answer, out)?;

@@ -10,15 +10,15 @@ use Rattle.window_model.specs.declared.Event.{Event}
 use Rattle.window_model.specs.declared.Event.TheVariants as event
 use Rattle.window_model.specs.State.{After, Machine, nothing}
 use Rattle.window_model.specs.Access.{covers}
-use Rattle.window_model.specs.Clear.{clear, clear_at, clear_with, cleared_one, clears, is_violated, may_clear, passed, shares, violated_by, violates}
+use Rattle.window_model.specs.Clear.{clear, clear_at, clear_with, cleared_one, clears, is_violated, may_clear, is_passed_by, shares, violated_by, violates}
 use Rattle.window_model.specs.Dependence.{bit_index, bit_set}
 use Rattle.window_model.specs.Order.{Place, fault_of, is_load}
-use Rattle.window_model.specs.Resolve.{dropped}
+use Rattle.window_model.specs.Resolve.{after_squash}
 use Rattle.window_model.specs.Retire.{addr_of, byte_count}
 use Rattle.window_model.proofs.Booleans.{and_tests}
 use Rattle.window_model.proofs.Clearing.{clear_keep, clear_parts, passed_load}
 use Rattle.window_model.proofs.Places.{Found, found}
-use Rattle.two_runs.specs.Masks.{AnswerAlike, LeavesAccess, LeftAlike, Mask, MaskedAlike, SamePlace, but_data, masked}
+use Rattle.two_runs.specs.Masks.{AnswerAlike, LeavesAccess, LeftAlike, Mask, MaskedAlike, SamePlace, without_contents, under_mask}
 use Rattle.two_runs.specs.Seen.{SeenEntries}
 use Rattle.two_runs.proofs.Choices.{by_both, if_both}
 use Rattle.two_runs.proofs.Looking.{any_same}
@@ -29,11 +29,11 @@ module _ {M : Type 0} (mask : M → Mask) (keeps : LeavesAccess mask) where
   -- ---- which load is violated
 
   -- two stores that cover the same bytes find the same loads violated
-  violated_alike : (e e2 : Entry) → (m : M) → masked (mask m) e ≡ masked (mask m) e2 → ((a : ℕ) → covers a e ≡ covers a e2) →
-      (n : M) (y y2 : Entry) → masked (mask n) y ≡ masked (mask n) y2 → is_violated e y ≡ is_violated e2 y2
+  violated_alike : (e e2 : Entry) → (m : M) → under_mask (mask m) e ≡ under_mask (mask m) e2 → ((a : ℕ) → covers a e ≡ covers a e2) →
+      (n : M) (y y2 : Entry) → under_mask (mask n) y ≡ under_mask (mask n) y2 → is_violated e y ≡ is_violated e2 y2
   violated_alike e e2 m h same n y y2 g =
-      and_tests (passed e y) (passed e2 y2) (shares e y) (shares e2 y2)
-      (ap (λ (t : Entry). passed t y) h ∙ ap (λ (t : Entry). passed e2 t) g)
+      and_tests (is_passed_by e y) (is_passed_by e2 y2) (shares e y) (shares e2 y2)
+      (ap (λ (t : Entry). is_passed_by t y) h ∙ ap (λ (t : Entry). is_passed_by e2 t) g)
       (λ p.
       let l = passed_load e y p in
       let k = keeps n y.item y.resolved y.outcome l in
@@ -44,7 +44,7 @@ module _ {M : Type 0} (mask : M → Mask) (keeps : LeavesAccess mask) where
   abbrev Any : List Entry → List Entry → Type 0
   Any b b2 = Unit {0}
 
-  module _ (d : Desc) (ms : List M) (x x2 : Machine) (o : but_data x ≡ but_data x2) where
+  module _ (d : Desc) (ms : List M) (x x2 : Machine) (o : without_contents x ≡ without_contents x2) where
     module _ (p p2 : Place) (s : SamePlace mask (SeenEntries d.stt_model) ms p p2) (same : (a : ℕ) → covers a p.entry ≡ covers a p2.entry) where
       -- the same younger loads are violated
       violated_along : (ns : List M) (b b2 ys ys2 : List Entry) → MaskedAlike mask ns ys ys2 →
@@ -71,7 +71,7 @@ module _ {M : Type 0} (mask : M → Mask) (keeps : LeavesAccess mask) where
           LeftAlike mask (take (length (violates d p q x).machine.window) ms) (violates d p q x) (violates d p2 q2 x2)
       violates_alike q q2 t =
           let rest = t.mask_here ∷ t.younger_masks in
-          let G : Entry → Machine → Machine = λ l y. record (dropped l.serial [] (Some l.item.pc) l.item.checkpoint y) { dependence = bit_set d l.item.pc y.dependence } in
+          let G : Entry → Machine → Machine = λ l y. record (after_squash l.serial [] (Some l.item.pc) l.item.checkpoint y) { dependence = bit_set d l.item.pc y.dependence } in
           let E : Entry → Entry → ℕ → ℕ → List Event = λ e l n k. event.Clr e.serial ∷ event.Vio l.serial ∷ event.Dp (bit_index d l.item.pc) 1 ∷ event.Sq (n + 1 + k) ∷ [] in
           let younger = (lengths mask t.younger_masks q.younger q2.younger t.younger).1 in
           cut_left mask ms (reverse s.before_masks ++ s.mask_here ∷ reverse t.before_masks) rest (violates d p q x) (violates d p2 q2 x2)
@@ -91,7 +91,7 @@ module _ {M : Type 0} (mask : M → Mask) (keeps : LeavesAccess mask) where
           (first_same mask _ _ Any [] s.younger_masks [] [] p.younger p2.younger tt s.younger (violated_along s.younger_masks [] [] p.younger p2.younger s.younger))
 
   -- Clear leaves alike what is alike under masks that leave the addresses of loads, where two runs see alike each entry
-  pub clear_alike : (d : Desc) (ms : List M) (x x2 : Machine) → but_data x ≡ but_data x2 → MaskedAlike mask ms x.window x2.window →
+  pub clear_alike : (d : Desc) (ms : List M) (x x2 : Machine) → without_contents x ≡ without_contents x2 → MaskedAlike mask ms x.window x2.window →
       SeenEntries d.stt_model (reverse x.window) (reverse x2.window) → LeftAlike mask (take (length (clear d x).machine.window) ms) (clear d x) (clear d x2)
   clear_alike d ms x x2 o s seen =
       let still : LeftAlike mask (take (length x.window) ms) (nothing x) (nothing x2) =

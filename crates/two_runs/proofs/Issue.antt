@@ -19,13 +19,13 @@ use Rattle.window_model.specs.Shape.{SameShape}
 use Rattle.window_model.proofs.LookedUp.{same_access_at}
 use Rattle.window_model.proofs.Memory.{same_fault}
 use Rattle.window_model.proofs.Places.{Found}
-use Rattle.two_runs.specs.Masks.{AnswerAlike, LeftAlike, Mask, MaskedAlike, SamePlace, but_data}
+use Rattle.two_runs.specs.Masks.{AnswerAlike, LeftAlike, Mask, MaskedAlike, SamePlace, without_contents}
 use Rattle.two_runs.specs.Seen.{SeenEntries, without_outcome}
 use Rattle.two_runs.proofs.Choices.{Both, by_both}
 use Rattle.two_runs.proofs.Looking.{same_forward}
 use Rattle.two_runs.proofs.Masks.{first_same, where_found}
 
-module _ (d : Desc) (x x2 : Machine) (o : but_data x ≡ but_data x2) where
+module _ (d : Desc) (x x2 : Machine) (o : without_contents x ≡ without_contents x2) where
   module _ (b b2 : List Entry) (s : SeenEntries d.stt_model b b2) (e e2 : Entry) (h : without_outcome e ≡ without_outcome e2) where
     -- what a load's access comes to is equal in both runs, where memory lies in one place and its address is equal
     pub same_access_of : SameShape x.ram x2.ram → (effect_of x.regs b e).addr ≡ (effect_of x2.regs b2 e2).addr → access_of d (around x) b e ≡ access_of d (around x2) b2 e2
@@ -75,7 +75,7 @@ module _ (d : Desc) (x x2 : Machine) (o : but_data x ≡ but_data x2) where
       let oldest : (port : Port) (R : Place → Place → Type 0) → AsksAt mask ms S port R → Both R (oldest_at d port x) (oldest_at d port x2) = λ port R f.
       where_found (may_at d (around x) port) (may_at d (around x2) port) x.window x2.window (SamePlace mask S ms) R f (first_same mask _ _ S [] ms [] [] x.window x2.window tt w (answers port)) in
       let T : Access → Machine → Machine = λ a u. record u { cache = cache_after a d u.cache; second = second_after a d u.second; misses = misses_after a d u.cycle u.misses } in
-      let l = by_both LoadsAsk (λ q q2. but_data (after_load d q x) ≡ but_data (after_load d q2 x2)) o (λ p p2 s. ap₂ T s o) (oldest_at d LoadPort x) (oldest_at d LoadPort x2) (oldest LoadPort LoadsAsk load) in
+      let l = by_both LoadsAsk (λ q q2. without_contents (after_load d q x) ≡ without_contents (after_load d q2 x2)) o (λ p p2 s. ap₂ T s o) (oldest_at d LoadPort x) (oldest_at d LoadPort x2) (oldest LoadPort LoadsAsk load) in
       let v = by_both DivisionsAsk (λ q q2. divider_after x q ≡ divider_after x2 q2) (ap (λ (t : Machine). t.divider) o) (λ p p2 s. s) (oldest_at d DivPort x) (oldest_at d DivPort x2) (oldest DivPort DivisionsAsk division) in
       record { events = events; others = ap₂ (λ (u : Machine) v. let w : Machine = record u { divider = v } in w) l v; window = window }
 

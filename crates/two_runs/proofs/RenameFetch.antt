@@ -7,7 +7,7 @@ use Rattle.machine_desc.specs.declared.Desc.{Desc}
 use Rattle.window_model.specs.declared.Entry.{Entry}
 use Rattle.window_model.specs.declared.Item.{Item}
 use Rattle.window_model.specs.State.{Machine, After, then_does, nothing}
-use Rattle.window_model.specs.Rename.{rename, rename_up_to, rename_from, rename_one, renamed, fits}
+use Rattle.window_model.specs.Rename.{rename, rename_up_to, rename_from, rename_one, entry_of_item, fits}
 use Rattle.window_model.specs.Fetch.{fetch, fetch_up_to, fetch_from, fetch_one, item_at}
 use Rattle.two_runs.specs.Laws.{FetchAlike, RenameAlike}
 use Rattle.two_runs.specs.Seen.{Adds, after_data, with_data, without_outcome}
@@ -37,7 +37,7 @@ module _ (regs : List ℕ) (ram : Ram) where
   one_added : (d : Desc) (more : Machine → After) → AddsAlike more → (i : Item) (rest : List Item) (w : List Entry) (x : Machine) → map without_outcome x.window ≡ map without_outcome w →
       Adds regs ram x.window w (then_does (rename_one d i rest x) more) (then_does (rename_one d i rest (with_data regs ram w x)) more)
   one_added d more f i rest w x h =
-      let e = renamed d x.next_serial i in
+      let e = entry_of_item d x.next_serial i in
       let y = rename_one d i rest x in
       let r = f (w ++ e ∷ []) y.machine (one_more e x.window w h) in
       record {

@@ -11,10 +11,10 @@ use Rattle.window_model.specs.declared.Event.TheVariants as event
 use Rattle.window_model.specs.declared.Target.{Target}
 use Rattle.window_model.specs.State.{After, Machine}
 use Rattle.window_model.specs.Order.{Place, fault_of, first, is_faulty, value_of}
-use Rattle.window_model.specs.Resolve.{Learnt, dropped, keep, learn, learn_as, may_resolve, next_of, resolve, resolve_at, squash, squashes, true_checkpoint, with_predictor}
+use Rattle.window_model.specs.Resolve.{Learnt, after_squash, keep, learn, learn_as, may_resolve, next_of, resolve, resolve_at, squash, squashes, true_checkpoint, with_predictor}
 use Rattle.window_model.proofs.Placing.{resolve_keep}
 use Rattle.window_model.proofs.Resolving.{resolved_one}
-use Rattle.two_runs.specs.Masks.{AnswerAlike, LeftAlike, Mask, MaskedAlike, ResolvedAlike, SamePlace, but_data, masked}
+use Rattle.two_runs.specs.Masks.{AnswerAlike, LeftAlike, Mask, MaskedAlike, ResolvedAlike, SamePlace, without_contents, under_mask}
 use Rattle.two_runs.specs.Seen.{without_outcome}
 use Rattle.two_runs.proofs.Choices.{by_both, if_both}
 use Rattle.two_runs.proofs.Masks.{cut_left, first_same, joined, lengths, turned_alike}
@@ -39,7 +39,7 @@ learn_acting : (k : Kind) (d : Desc) (e : Entry) (c : List ℕ) (t : List (Optio
 learn_acting Branch d e c t = refl
 learn_acting k d e c t = refl
 
-learn_alike : (d : Desc) (e e2 : Entry) (x x2 : Machine) → acting e ≡ acting e2 → but_data x ≡ but_data x2 →
+learn_alike : (d : Desc) (e e2 : Entry) (x x2 : Machine) → acting e ≡ acting e2 → without_contents x ≡ without_contents x2 →
     learn d e x.counters x.targets ≡ learn d e2 x2.counters x2.targets
 learn_alike d e e2 x x2 h o =
     sym (learn_acting e.item.kind d e x.counters x.targets)
@@ -49,7 +49,7 @@ learn_alike d e e2 x x2 h o =
 -- ---- what Resolve leaves
 
 module _ {M : Type 0} (mask : M → Mask) (S : List Entry → List Entry → Type 0) (d : Desc) (ms : List M) where
-  module _ (p p2 : Place) (s : SamePlace mask S ms p p2) (acts : ResolvedAlike p.entry p2.entry) (settles : masked (mask s.mask_here) (resolved_one p.entry) ≡ masked (mask s.mask_here) (resolved_one p2.entry)) where
+  module _ (p p2 : Place) (s : SamePlace mask S ms p p2) (acts : ResolvedAlike p.entry p2.entry) (settles : under_mask (mask s.mask_here) (resolved_one p.entry) ≡ under_mask (mask s.mask_here) (resolved_one p2.entry)) where
     same : acting p.entry ≡ acting p2.entry
     same = acting_alike p.entry p2.entry (ap without_outcome s.here) acts
 
@@ -62,38 +62,38 @@ module _ {M : Type 0} (mask : M → Mask) (S : List Entry → List Entry → Typ
     abbrev Left : After → After → Type 0
     Left a a2 = LeftAlike mask (take (length a.machine.window) ms) a a2
 
-    squash_alike : (y y2 : Machine) → but_data y ≡ but_data y2 → Left (squash d p y) (squash d p2 y2)
+    squash_alike : (y y2 : Machine) → without_contents y ≡ without_contents y2 → Left (squash d p y) (squash d p2 y2)
     squash_alike y y2 o =
         cut_left mask ms (reverse s.before_masks ++ s.mask_here ∷ []) s.younger_masks (squash d p y) (squash d p2 y2)
         (sym (append_assoc (reverse s.before_masks) (s.mask_here ∷ []) s.younger_masks ∙ s.all))
         (record {
           events = ap₂ (λ a b. event.Sq (a + b) ∷ []) (lengths mask s.younger_masks p.younger p2.younger s.younger).1 (ap (λ (t : Machine). length t.queue) o);
-          others = ap₂ (λ (t : Entry) (m : Machine). dropped (t.serial + 1) [] (if is_faulty t then None else Some (next_of t.outcome)) (true_checkpoint d t) m) same o;
+          others = ap₂ (λ (t : Entry) (m : Machine). after_squash (t.serial + 1) [] (if is_faulty t then None else Some (next_of t.outcome)) (true_checkpoint d t) m) same o;
           window = over [] [] [] tt;
         })
 
-    keep_alike : (y y2 : Machine) → but_data y ≡ but_data y2 → Left (keep p y) (keep p2 y2)
+    keep_alike : (y y2 : Machine) → without_contents y ≡ without_contents y2 → Left (keep p y) (keep p2 y2)
     keep_alike y y2 o =
         cut_left mask ms (reverse s.before_masks ++ s.mask_here ∷ s.younger_masks) [] (keep p y) (keep p2 y2) (sym s.all ∙ sym (append-nil _))
         (record { events = refl; others = o; window = over s.younger_masks p.younger p2.younger s.younger })
 
     -- what is resolved alike at one place leaves two machines alike
-    pub place_alike : (x x2 : Machine) → but_data x ≡ but_data x2 → Left (resolve_at d (Some p) x) (resolve_at d (Some p2) x2)
+    pub place_alike : (x x2 : Machine) → without_contents x ≡ without_contents x2 → Left (resolve_at d (Some p) x) (resolve_at d (Some p2) x2)
     place_alike x x2 o =
         let l = learn_alike d p.entry p2.entry x x2 same o in
         let W : Learnt → Machine → Machine = λ l m. with_predictor m l.counters l.targets in
         let y = W (learn d p.entry x.counters x.targets) x in
         let y2 = W (learn d p2.entry x2.counters x2.targets) x2 in
-        let k : but_data y ≡ but_data y2 = ap₂ W l o in
+        let k : without_contents y ≡ without_contents y2 = ap₂ W l o in
         let r = if_both Left (squashes p.entry) (squashes p2.entry) (squash d p y) (squash d p2 y2) (keep p y) (keep p2 y2) (ap squashes same) (λ h. squash_alike y y2 k) (λ h. keep_alike y y2 k) in
         record { events = ap₂ (λ a b. a ++ b) (ap (λ (l : Learnt). l.events) l) r.events; others = r.others; window = r.window }
 
 -- Resolve leaves alike what is alike under masks, where two runs see alike who may be resolved, and what is resolved is
 -- so alike
-pub resolve_alike : {M : Type 0} (mask : M → Mask) (S : List Entry → List Entry → Type 0) (d : Desc) (ms : List M) (x x2 : Machine) → but_data x ≡ but_data x2 → MaskedAlike mask ms x.window x2.window →
+pub resolve_alike : {M : Type 0} (mask : M → Mask) (S : List Entry → List Entry → Type 0) (d : Desc) (ms : List M) (x x2 : Machine) → without_contents x ≡ without_contents x2 → MaskedAlike mask ms x.window x2.window →
     AnswerAlike (may_resolve d) (may_resolve d) S [] [] x.window x2.window →
     ((p p2 : Place) → first (may_resolve d) x.window ≡ Some p → (s : SamePlace mask S ms p p2) →
-    ResolvedAlike p.entry p2.entry × (masked (mask s.mask_here) (resolved_one p.entry) ≡ masked (mask s.mask_here) (resolved_one p2.entry))) →
+    ResolvedAlike p.entry p2.entry × (under_mask (mask s.mask_here) (resolved_one p.entry) ≡ under_mask (mask s.mask_here) (resolved_one p2.entry))) →
     LeftAlike mask (take (length (resolve d x).machine.window) ms) (resolve d x) (resolve d x2)
 resolve_alike mask S d ms x x2 o s answers acts =
     by_both (SamePlace mask S ms)

@@ -14,7 +14,7 @@ use Rattle.window_model.specs.Order.{fault_of, has_address, is_control, is_store
 use Rattle.window_model.specs.Retire.{addr_of, byte_count}
 use Rattle.window_model.specs.Shape.{SameShape}
 use Rattle.window_model.specs.Taint.{permits, safe, safe_as, settled}
-use Rattle.two_runs.specs.Masks.{but_data}
+use Rattle.two_runs.specs.Masks.{without_contents}
 use Rattle.two_runs.specs.Seen.{SeenMachine, without_outcome}
 
 -- two entries have one fault, unless they are branches or JALRs that aren't resolved
@@ -66,5 +66,5 @@ module _ (e e2 : Entry) (h : without_outcome e ≡ without_outcome e2) where
   covers_alike a s = covers_by e.item.kind a (byte_count e) (has_address e) e.outcome e2.outcome s ∙ ap (λ t. covers a (with_outcome e2.outcome t)) h
 
 -- two runs see alike what Issue looks at beside the window, where all but data is equal, and memory lies in one place
-pub seen_machine : (x x2 : Machine) → but_data x ≡ but_data x2 → SameShape x.ram x2.ram → SeenMachine x x2
+pub seen_machine : (x x2 : Machine) → without_contents x ≡ without_contents x2 → SameShape x.ram x2.ram → SeenMachine x x2
 seen_machine x x2 o p = record { dependence = ap (λ (m : Machine). m.dependence) o; free = ap (λ (m : Machine). is_free (around m)) o; place = p }

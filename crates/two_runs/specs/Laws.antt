@@ -18,7 +18,7 @@ use Rattle.window_model.specs.Ready.{is_known}
 use Rattle.window_model.specs.Rename.{fits, rename}
 use Rattle.window_model.specs.Resolve.{may_resolve, resolve}
 use Rattle.window_model.specs.Taint.{address_tainted, any_tainted, tainted, visible}
-use Rattle.two_runs.specs.Masks.{LeavesAccess, LeftAlike, Mask, MaskedAlike, ResolvedAlike, SamePlace, but_data, masked}
+use Rattle.two_runs.specs.Masks.{LeavesAccess, LeftAlike, Mask, MaskedAlike, ResolvedAlike, SamePlace, without_contents, under_mask}
 use Rattle.two_runs.specs.Seen.{Adds, AsksAlike, EachAsks, SeenEntries, SeenMachine, after_data, with_data, without_outcome}
 
 -- ---- looking back over older entries
@@ -103,22 +103,22 @@ FetchAlike = (d : Desc) (code : Code) (regs : List ℕ) (ram : Ram) (w : List En
 
 -- Complete leaves alike two machines that are alike under any masks
 abbrev pub CompleteLeavesAlike : Type 0
-CompleteLeavesAlike = (mask : ℕ → Mask) (ms : List ℕ) (x x2 : Machine) → but_data x ≡ but_data x2 → MaskedAlike mask ms x.window x2.window →
+CompleteLeavesAlike = (mask : ℕ → Mask) (ms : List ℕ) (x x2 : Machine) → without_contents x ≡ without_contents x2 → MaskedAlike mask ms x.window x2.window →
     LeftAlike mask ms (complete x) (complete x2)
 
 -- Clear leaves alike two machines that are alike under masks that leave the addresses and faults of loads, and of which
 -- two runs see each entry alike
 abbrev pub ClearLeavesAlike : Type 0
-ClearLeavesAlike = (mask : ℕ → Mask) → LeavesAccess mask → (d : Desc) (ms : List ℕ) (x x2 : Machine) → but_data x ≡ but_data x2 →
+ClearLeavesAlike = (mask : ℕ → Mask) → LeavesAccess mask → (d : Desc) (ms : List ℕ) (x x2 : Machine) → without_contents x ≡ without_contents x2 →
     MaskedAlike mask ms x.window x2.window → SeenEntries d.stt_model (reverse x.window) (reverse x2.window) →
     LeftAlike mask (take (length (clear d x).machine.window) ms) (clear d x) (clear d x2)
 
 -- Resolve leaves alike two machines that are alike under masks, and of which two runs see each entry alike, where the
 -- entry that is resolved is so alike, and stays alike under its mask
 abbrev pub ResolveLeavesAlike : Type 0
-ResolveLeavesAlike = (mask : ℕ → Mask) (d : Desc) (ms : List ℕ) (x x2 : Machine) → but_data x ≡ but_data x2 →
+ResolveLeavesAlike = (mask : ℕ → Mask) (d : Desc) (ms : List ℕ) (x x2 : Machine) → without_contents x ≡ without_contents x2 →
     MaskedAlike mask ms x.window x2.window → SeenEntries d.stt_model (reverse x.window) (reverse x2.window) →
     ((p p2 : Place) → first (may_resolve d) x.window ≡ Some p → (s : SamePlace mask (SeenEntries d.stt_model) ms p p2) →
     ResolvedAlike p.entry p2.entry
-    × (masked (mask s.mask_here) (record (p.entry) { resolved = true }) ≡ masked (mask s.mask_here) (record (p2.entry) { resolved = true }))) →
+    × (under_mask (mask s.mask_here) (record (p.entry) { resolved = true }) ≡ under_mask (mask s.mask_here) (record (p2.entry) { resolved = true }))) →
     LeftAlike mask (take (length (resolve d x).machine.window) ms) (resolve d x) (resolve d x2)

@@ -15,23 +15,23 @@ abbrev pub Mask : Type 0
 Mask = Item → Bool → Option Outcome → Option Outcome
 
 -- an entry with what a mask leaves of its outcome
-abbrev pub masked : Mask → Entry → Entry
-masked k e = record e { outcome = k e.item e.resolved e.outcome }
+abbrev pub under_mask : Mask → Entry → Entry
+under_mask k e = record e { outcome = k e.item e.resolved e.outcome }
 
 -- two windows stand beside a list of masks, and each mask leaves the same of the two entries beside it
 abbrev pub MaskedAlike : {M : Type 0} → (M → Mask) → List M → List Entry → List Entry → Type 0
 MaskedAlike mask [] [] [] = Unit {0}
-MaskedAlike mask (m ∷ ms) (e ∷ es) (e2 ∷ es2) = (masked (mask m) e ≡ masked (mask m) e2) × MaskedAlike mask ms es es2
+MaskedAlike mask (m ∷ ms) (e ∷ es) (e2 ∷ es2) = (under_mask (mask m) e ≡ under_mask (mask m) e2) × MaskedAlike mask ms es es2
 MaskedAlike mask _ _ _ = ⊥
 
 -- what is left of a machine where registers, memory's bytes and the window are masked
-abbrev pub but_data : Machine → Machine
-but_data x = with_data [] (record x.ram { bytes = [] }) [] x
+abbrev pub without_contents : Machine → Machine
+without_contents x = with_data [] (record x.ram { bytes = [] }) [] x
 
 -- a phase has the same events in two machines, and leaves them alike under masks
 pub record LeftAlike {M : Type 0} (mask : M → Mask) (ms : List M) (a a2 : After) : Type 0 where
   pub events : a.events ≡ a2.events
-  pub others : but_data a.machine ≡ but_data a2.machine
+  pub others : without_contents a.machine ≡ without_contents a2.machine
   pub window : MaskedAlike mask ms a.machine.window a2.machine.window
 
 -- a mask leaves address and fault of every load
@@ -60,6 +60,6 @@ pub record SamePlace {M : Type 0} (mask : M → Mask) (S : List Entry → List E
   pub younger_masks : List M
   pub all : reverse before_masks ++ mask_here ∷ younger_masks ≡ ms
   pub before : MaskedAlike mask before_masks p.before p2.before
-  pub here : masked (mask mask_here) p.entry ≡ masked (mask mask_here) p2.entry
+  pub here : under_mask (mask mask_here) p.entry ≡ under_mask (mask mask_here) p2.entry
   pub younger : MaskedAlike mask younger_masks p.younger p2.younger
   pub known : S (p.entry ∷ p.before) (p2.entry ∷ p2.before)

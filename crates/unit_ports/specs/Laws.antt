@@ -17,8 +17,8 @@ abbrev pub if_asked : Bool → Port → Ports → Ports
 if_asked may port p = if may then taken_at port p else p
 
 -- the ports once an entry has asked for that of its kind, where it may issue
-abbrev pub asked : Bool → Entry → Ports → Ports
-asked may e p = if_asked may (port_for e.item.kind) p
+abbrev pub ports_after_request : Bool → Entry → Ports → Ports
+ports_after_request may e p = if_asked may (port_for e.item.kind) p
 
 -- every port is left as a cycle begins, since no entry has asked yet
 abbrev pub OpensWithAll : Type 0
@@ -28,7 +28,7 @@ OpensWithAll = (d : Desc) (now : Around) (cycle : ℕ) (p : Ports) → p.alus �
 -- after it
 abbrev pub LeavesAsCounted : Type 0
 LeavesAsCounted = (d : Desc) (now : Around) (before : List Entry) (e : Entry) (p : Ports) → is_store e.item.kind ≡ false →
-    LeftAfter d now before p → LeftAfter d now (e ∷ before) (asked (may_at d now (port_for e.item.kind) before e) e p)
+    LeftAfter d now before p → LeftAfter d now (e ∷ before) (ports_after_request (may_at d now (port_for e.item.kind) before e) e p)
 
 -- a store asks at two ports, for each of its parts where that may issue
 abbrev pub StoresAskAtBoth : Type 0

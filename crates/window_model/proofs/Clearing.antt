@@ -9,14 +9,14 @@ use Rattle.window_model.specs.State.{Machine, nothing}
 use Rattle.window_model.specs.Order.{Place, first, first_from, has_address, is_load, is_store}
 use Rattle.window_model.specs.Taint.{address_tainted}
 use Rattle.machine_desc.specs.Questions.{loads_pass}
-use Rattle.window_model.specs.Clear.{clear, clear_at, clear_with, cleared_one, clears, is_violated, may_clear, passed, violated_by, violates}
+use Rattle.window_model.specs.Clear.{clear, clear_at, clear_with, cleared_one, clears, is_violated, may_clear, is_passed_by, violated_by, violates}
 use Rattle.window_model.proofs.Booleans.{both, not_true}
 use Rattle.window_model.proofs.Counts.{Goes}
 use Rattle.window_model.proofs.Lists.{each_push}
 use Rattle.window_model.proofs.Places.{by_place, older_is}
 
 -- only a load passes a store
-pub passed_load : (store load : Entry) → passed store load ≡ true → is_load load.item.kind ≡ true
+pub passed_load : (store load : Entry) → is_passed_by store load ≡ true → is_load load.item.kind ≡ true
 passed_load store load h = (both (is_load load.item.kind) _ h).0
 
 -- ---- what a store that may be cleared is

@@ -32,10 +32,10 @@ use Rattle.window_model.specs.declared.lookup.Line.TheVariants.{Hits, Joins, Tak
 use Rattle.window_model.specs.declared.lookup.Request.{Request}
 use Rattle.window_model.specs.declared.lookup.Access.{Access}
 use Rattle.window_model.specs.declared.lookup.Access.TheVariants.{Faults, Forwards, Looks, Waits}
-use Rattle.window_model.specs.Access.{access_at, in_order, look_up, looked_up, joined, request, request_by, requests, line_behind, prefetches, prefetched, unless_lacking, all_covered, any_store_hidden}
+use Rattle.window_model.specs.Access.{access_at, in_order, look_up, looked_up, line_on_miss, request, request_by, requests, line_behind, prefetches, prefetch_request, unless_lacking, all_covered, any_store_hidden}
 use Rattle.window_model.specs.MayIssue.{may_issue, may_issue_as, goes_behind, effect_of}
 use Rattle.window_model.specs.Ports.{Port, AluPort, AddressPort, DataPort, DivPort, LoadPort, part_may, is_granted, may_at, port_of, same_port}
-use Rattle.window_model.specs.Issue.{Begun, issue_entry, issue_whole, begin_as, begun, busy_until_both, with_address, with_data, load_as, access_of, waits, is_division, after_load}
+use Rattle.window_model.specs.Issue.{Begun, issue_entry, issue_whole, begin_as, executing_until, busy_until_both, with_address, with_data, load_as, access_of, waits, is_division, after_load}
 use Rattle.window_model.specs.inner.Issue.{parts_as}
 use Rattle.window_model.proofs.Together.{address_part, data_part, entry_parts, is_whole, issue_parts, ready_part}
 use Rattle.window_model.proofs.Booleans.{both, not_true}
@@ -150,7 +150,7 @@ gone_parts now b address data_ e =
 -- what Issue makes of an entry that is no store: it remains as it is, or begins
 pub data Comes (e r : Entry) : Type 0 where
   Remains : r ≡ e → Comes e r
-  Begins : (cycle due : ℕ) (o : Outcome) → r ≡ begun cycle e due o → Comes e r
+  Begins : (cycle due : ℕ) (o : Outcome) → r ≡ executing_until cycle e due o → Comes e r
 
 load_comes : (a : Access) (d : Desc) (now : Around) (e : Entry) (f : Effect) (v : ℕ) → Comes e (load_as a d now e f v).entry
 load_comes (Faults c) d now e f v = Begins _ _ _ refl
@@ -246,7 +246,7 @@ module _ (d : Desc) (now : Around) (line : ℕ) (L : Line → Type 0)
     (hits : has_line d now.cache line ≡ true → L (Hits line))
     (joins : (m : Miss) → find (λ m. m.line == line) now.misses ≡ Some m → L (Joins line m.due))
     (takes : find (λ m. m.line == line) now.misses ≡ None → L (Takes (request d now line))) where
-  by_register : (o : Option Miss) → find (λ m. m.line == line) now.misses ≡ o → L (joined d now line o)
+  by_register : (o : Option Miss) → find (λ m. m.line == line) now.misses ≡ o → L (line_on_miss d now line o)
   by_register (Some m) h = joins m h
   by_register None h = takes h
 
@@ -254,7 +254,7 @@ module _ (d : Desc) (now : Around) (line : ℕ) (L : Line → Type 0)
   pub by_line : L (look_up d now line)
   by_line = by_cache (has_line d now.cache line) refl
     where
-      by_cache : (b : Bool) → has_line d now.cache line ≡ b → L (if b then Hits line else joined d now line (find (λ m. m.line == line) now.misses))
+      by_cache : (b : Bool) → has_line d now.cache line ≡ b → L (if b then Hits line else line_on_miss d now line (find (λ m. m.line == line) now.misses))
       by_cache true h = hits h
       by_cache false h = by_register _ refl
 
@@ -306,7 +306,7 @@ as_many d now a n = by_upper (upper_line d a n)
 -- waits and one is left
 pub by_prefetched : (d : Desc) (now : Around) (found : Lines) (P : Option Request → Type 0) → P None →
     (line_behind d found < now.ram.base + length now.ram.bytes → length now.misses + length (requests found) < d.cache_mshrs →
-    find (λ m. m.line == line_behind d found) now.misses ≡ None → P (Some (request d now (line_behind d found)))) → P (prefetched d now found)
+    find (λ m. m.line == line_behind d found) now.misses ≡ None → P (Some (request d now (line_behind d found)))) → P (prefetch_request d now found)
 by_prefetched d now found P none one = by_test (prefetches d now found) refl
   where
     by_test : (b : Bool) → prefetches d now found ≡ b → P (if b then request_by (look_up d now (line_behind d found)) else None)
@@ -328,12 +328,12 @@ some_bytes _ = omega arith
 -- what holds of forwarded bytes, of lines that there are miss registers enough for, and of waiting, holds of every
 -- access without fault
 module _ (d : Desc) (now : Around) (P : Access → Type 0) (forwards : P Forwards)
-    (looks : (a n : ℕ) → 0 < n → let found = looked_up d now a n in length now.misses + length (requests found) ≤ d.cache_mshrs → P (Looks found (prefetched d now found)))
+    (looks : (a n : ℕ) → 0 < n → let found = looked_up d now a n in length now.misses + length (requests found) ≤ d.cache_mshrs → P (Looks found (prefetch_request d now found)))
     (waits : (a n : ℕ) → 0 < n → d.cache_mshrs < length now.misses + length (requests (looked_up d now a n)) → P Waits) where
   by_lacking : (a n : ℕ) → 0 < n → P (unless_lacking d now (looked_up d now a n))
   by_lacking a n some = by_room (nat_le (length now.misses + length (requests (looked_up d now a n))) d.cache_mshrs) refl
     where
-      by_room : (b : Bool) → nat_le (length now.misses + length (requests (looked_up d now a n))) d.cache_mshrs ≡ b → P (if b then Looks (looked_up d now a n) (prefetched d now (looked_up d now a n)) else Waits)
+      by_room : (b : Bool) → nat_le (length now.misses + length (requests (looked_up d now a n))) d.cache_mshrs ≡ b → P (if b then Looks (looked_up d now a n) (prefetch_request d now (looked_up d now a n)) else Waits)
       by_room true h = looks a n some (grind (arith, nat_tests))
       by_room false h = waits a n some (grind (arith, nat_tests))
 

@@ -10,7 +10,7 @@ use Rattle.window_model.specs.declared.Entry.{Entry}
 use Rattle.window_model.specs.declared.Outcome.{Outcome}
 use Rattle.window_model.specs.declared.Progress.TheVariants.{Done}
 use Rattle.window_model.specs.Rename.{is_call}
-use Rattle.window_model.specs.Issue.{begun}
+use Rattle.window_model.specs.Issue.{executing_until}
 use Rattle.window_model.specs.Clear.{cleared_one}
 use Rattle.window_model.specs.Order.{is_control, is_done, is_faulty, is_store, is_waiting}
 use Rattle.window_model.specs.Retire.{may_leave, trap_as, trap_of}
@@ -30,7 +30,7 @@ permits_done Spectre e h = h
 permits_done Futuristic e h = done_as e.item.kind e h
 permits_done Off e h = refl
 
-begun_as : (k : Kind) (e : Entry) (cycle due : ℕ) (o : Outcome) → is_done e.state ≡ false → e.resolved ≡ false → safe_as k (begun cycle e due o) ≡ safe_as k e
+begun_as : (k : Kind) (e : Entry) (cycle due : ℕ) (o : Outcome) → is_done e.state ≡ false → e.resolved ≡ false → safe_as k (executing_until cycle e due o) ≡ safe_as k e
 begun_as Load e cycle due o d u = sym (ap (λ d. d && not (is_faulty e)) d)
 begun_as Store e cycle due o d u = sym (ap (λ d. d && not (is_faulty e) && e.cleared) d)
 begun_as Branch e cycle due o d u = ap (λ r. r && not (is_some o.fault)) u ∙ sym (ap (λ r. r && not (is_faulty e)) u)
@@ -38,7 +38,7 @@ begun_as Jalr e cycle due o d u = ap (λ r. r && not (is_some o.fault)) u ∙ sy
 begun_as _ e cycle due o d u = refl
 
 -- an entry that has issued lets younger ones be visible where it did before, and only there
-pub permits_begun : (m : SttModel) (e : Entry) (cycle due : ℕ) (o : Outcome) → is_waiting e.state ≡ true → e.resolved ≡ false → permits m (begun cycle e due o) ≡ permits m e
+pub permits_begun : (m : SttModel) (e : Entry) (cycle due : ℕ) (o : Outcome) → is_waiting e.state ≡ true → e.resolved ≡ false → permits m (executing_until cycle e due o) ≡ permits m e
 permits_begun Spectre e cycle due o w u = refl
 permits_begun Futuristic e cycle due o w u = begun_as e.item.kind e cycle due o (waiting_done e.state w) u
 permits_begun Off e cycle due o w u = refl

@@ -25,7 +25,7 @@ use Rattle.window_model.specs.Around.{Around}
 use Rattle.window_model.specs.Order.{is_store, has_address}
 use Rattle.window_model.specs.Taint.{address_tainted}
 use Rattle.window_model.specs.SecondLevel.{second_has, second_touched}
-use Rattle.window_model.specs.Retire.{has_line, touched, addr_of, stored_of, byte_count}
+use Rattle.window_model.specs.Retire.{has_line, with_line_touched, addr_of, stored_of, byte_count}
 
 -- an access of n bytes with this outcome reaches the byte at an address: it has no fault, and the byte is one of its
 -- own
@@ -73,16 +73,16 @@ request d now line = record { line = line; from_memory = not (second_has d now.s
 
 -- what a line that the cache lacks comes to: it joins the miss register that waits for it, if one does, else it takes
 -- one
-abbrev pub joined : Desc → Around → ℕ → Option Miss → Line
-joined d now line (Some m) = Joins line m.due
-joined d now line None = Takes (request d now line)
+abbrev pub line_on_miss : Desc → Around → ℕ → Option Miss → Line
+line_on_miss d now line (Some m) = Joins line m.due
+line_on_miss d now line None = Takes (request d now line)
 
 -- what a line that is looked up comes to: a hit where the cache has it, else by the miss register that waits for it, if
 -- one does. All lines of an access are looked up on the state before it, and in turn they come to the same
 -- (`lines_go_in_turn` of machine_facts)
 abbrev pub look_up : Desc → Around → ℕ → Line
 look_up d now line =
-    if has_line d now.cache line then Hits line else joined d now line (find (λ m. m.line == line) now.misses)
+    if has_line d now.cache line then Hits line else line_on_miss d now line (find (λ m. m.line == line) now.misses)
 
 -- what the lines of an access of n bytes come to
 abbrev pub looked_up : Desc → Around → ℕ → ℕ → Lines
@@ -122,13 +122,13 @@ prefetches d now found =
 
 -- the request of the line behind a load's, where that is prefetched; none where the cache has it or a register waits
 -- for it
-abbrev pub prefetched : Desc → Around → Lines → Option Request
-prefetched d now found = if prefetches d now found then request_by (look_up d now (line_behind d found)) else None
+abbrev pub prefetch_request : Desc → Around → Lines → Option Request
+prefetch_request d now found = if prefetches d now found then request_by (look_up d now (line_behind d found)) else None
 
 -- where there are too few registers for a load's lines, none is looked up
 abbrev pub unless_lacking : Desc → Around → Lines → Access
 unless_lacking d now found =
-    if nat_le (length now.misses + length (requests found)) d.cache_mshrs then Looks found (prefetched d now found) else Waits
+    if nat_le (length now.misses + length (requests found)) d.cache_mshrs then Looks found (prefetch_request d now found) else Waits
 
 -- an access of n bytes without fault: wholly forwarded, else what becomes of its lines
 abbrev pub unless_forwarded : Desc → Around → Bool → ℕ → ℕ → Access
@@ -193,7 +193,7 @@ all_requests found ahead = requests found ++ option_to_list ahead
 
 -- the cache after an access: each line of the load moves to the front of its set, where the cache has it
 abbrev pub cache_after : Access → Desc → List (List ℕ) → List (List ℕ)
-cache_after (Looks found ahead) d cache = fold (touched d) cache (map line_at (in_order found))
+cache_after (Looks found ahead) d cache = fold (with_line_touched d) cache (map line_at (in_order found))
 cache_after _ d cache = cache
 
 -- the second level after an access: each line that takes a miss register moves to the front of its set, where the

@@ -11,7 +11,7 @@ use Rattle.window_model.specs.declared.Item.{Item}
 use Rattle.window_model.specs.State.{Machine, After, nothing}
 use Rattle.window_model.specs.Order.{Place, first, is_load, is_store, is_faulty, has_address}
 use Rattle.window_model.specs.Taint.{address_tainted}
-use Rattle.window_model.specs.Resolve.{dropped}
+use Rattle.window_model.specs.Resolve.{after_squash}
 use Rattle.window_model.specs.Retire.{addr_of, byte_count}
 use Rattle.window_model.specs.Access.{covers}
 use Rattle.machine_desc.specs.Questions.{loads_pass}
@@ -29,8 +29,8 @@ is_before (Some a) (Some b) = nat_lt a b
 is_before _ _ = false
 
 -- the load passed the store: it issued before the cycle in which the store's address became known
-abbrev pub passed : Entry → Entry → Bool
-passed store load = is_load load.item.kind && is_before load.issued store.addr_due
+abbrev pub is_passed_by : Entry → Entry → Bool
+is_passed_by store load = is_load load.item.kind && is_before load.issued store.addr_due
 
 -- store and load are without fault and share a byte; false where the store's address isn't known
 abbrev pub shares : Entry → Entry → Bool
@@ -38,7 +38,7 @@ shares store load = not (is_faulty load) && list_any (λ a. covers a store) (ran
 
 -- the load passed the store wrongly
 abbrev pub is_violated : Entry → Entry → Bool
-is_violated store load = passed store load && shares store load
+is_violated store load = is_passed_by store load && shares store load
 
 -- ---- what Clear leaves of the window
 
@@ -70,7 +70,7 @@ violation_events d p q queue =
 abbrev pub violates : Desc → Place → Place → Machine → After
 violates d p q x =
     let load = q.entry in
-    let y = dropped load.serial (older_than_load p q) (Some load.item.pc) load.item.checkpoint x in
+    let y = after_squash load.serial (older_than_load p q) (Some load.item.pc) load.item.checkpoint x in
     record {
       machine = record y { dependence = bit_set d load.item.pc x.dependence };
       events = violation_events d p q x.queue;

@@ -50,20 +50,20 @@ unless_returns None target = target
 unless_returns (Some back) target = back
 
 -- the next pc that is predicted, none after a stop, of a branch that is predicted to go this way
-abbrev pub predicted : Kind → Desc → List (Option Target) → Checkpoint → Bool → ℕ → Instr → Option ℕ
-predicted (Stop cause) d targets m way pc i = None
-predicted Jal d targets m way pc i = Some (target_of pc i)
-predicted Branch d targets m way pc i = Some (if way then target_of pc i else word_add pc 4)
-predicted Jalr d targets m way pc i =
+abbrev pub predicted_pc : Kind → Desc → List (Option Target) → Checkpoint → Bool → ℕ → Instr → Option ℕ
+predicted_pc (Stop cause) d targets m way pc i = None
+predicted_pc Jal d targets m way pc i = Some (target_of pc i)
+predicted_pc Branch d targets m way pc i = Some (if way then target_of pc i else word_add pc 4)
+predicted_pc Jalr d targets m way pc i =
     Some (unless_returns (returns_to i m) (stored_target pc (slice_index_or targets (index pc d.predictor_btb) None)))
-predicted _ d targets m way pc i = Some (word_add pc 4)
+predicted_pc _ d targets m way pc i = Some (word_add pc 4)
 
 -- the item that is fetched from a pc, with the history and stack that the machine has before it
 abbrev pub item_at : Desc → Code → Machine → ℕ → Item
 item_at d code x pc =
     let w = code pc in
     let way = guess (kind_at w) d x.counters x.checkpoint pc in
-    let next = predicted (kind_at w) d x.targets x.checkpoint way pc (instr_at w) in
+    let next = predicted_pc (kind_at w) d x.targets x.checkpoint way pc (instr_at w) in
     record { pc = pc; instr = instr_at w; kind = kind_at w; predicted = next; checkpoint = x.checkpoint }
 
 -- history and stack after an item, by the predicted direction where it is a branch

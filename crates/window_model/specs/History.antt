@@ -20,8 +20,8 @@ abbrev pub counter_index : Desc → Checkpoint → ℕ → ℕ
 counter_index d m pc = bit_xor (pc / 4) m.history % d.predictor_counters
 
 -- a direction enters the history as its lowest digit, and the oldest leaves it
-abbrev pub shifted : Desc → Bool → Checkpoint → Checkpoint
-shifted d way m = record m { history = (2 * m.history + one_if way) % 2 ^ d.predictor_history }
+abbrev pub after_direction : Desc → Bool → Checkpoint → Checkpoint
+after_direction d way m = record m { history = (2 * m.history + one_if way) % 2 ^ d.predictor_history }
 
 -- ---- the stack of return addresses
 
@@ -34,12 +34,12 @@ abbrev pub with_stack : List ℕ → Checkpoint → Checkpoint
 with_stack addresses m = record m { depth = length addresses; addresses = take 16 (addresses ++ replicate 16 0) }
 
 -- an address is pushed on the stack; where there are then more than the description lets it hold, the oldest goes
-abbrev pub pushed : Desc → ℕ → Checkpoint → Checkpoint
-pushed d a m = with_stack (take d.predictor_returns (a ∷ stack m)) m
+abbrev pub after_push : Desc → ℕ → Checkpoint → Checkpoint
+after_push d a m = with_stack (take d.predictor_returns (a ∷ stack m)) m
 
 -- the youngest address of the stack goes, if there is one
-abbrev pub popped : Checkpoint → Checkpoint
-popped m = with_stack (drop 1 (stack m)) m
+abbrev pub after_pop : Checkpoint → Checkpoint
+after_pop m = with_stack (drop 1 (stack m)) m
 
 -- the youngest address, if there is one
 abbrev pub youngest : List ℕ → Option ℕ
@@ -64,12 +64,12 @@ returns_to i m = if returns i then youngest (stack m) else None
 -- ---- what an item does to both
 
 -- the stack after a jump
-abbrev pub jumped : Desc → ℕ → Instr → Checkpoint → Checkpoint
-jumped d pc i m = if links i then pushed d (word_add pc 4) m else if returns i then popped m else m
+abbrev pub after_jump : Desc → ℕ → Instr → Checkpoint → Checkpoint
+after_jump d pc i m = if links i then after_push d (word_add pc 4) m else if returns i then after_pop m else m
 
 -- history and stack after an instruction, of a branch that goes this way
 abbrev pub checkpoint_after : Kind → Desc → ℕ → Instr → Bool → Checkpoint → Checkpoint
-checkpoint_after Branch d pc i way m = shifted d way m
-checkpoint_after Jal d pc i way m = jumped d pc i m
-checkpoint_after Jalr d pc i way m = jumped d pc i m
+checkpoint_after Branch d pc i way m = after_direction d way m
+checkpoint_after Jal d pc i way m = after_jump d pc i m
+checkpoint_after Jalr d pc i way m = after_jump d pc i m
 checkpoint_after _ d pc i way m = m

@@ -39,8 +39,8 @@ abbrev pub outcome : Effect → ℕ → Option Cause → Outcome
 outcome f v fault = record { value = v; next = f.next; addr = f.addr; stored = f.stored; fault = fault }
 
 -- the entry executes from this cycle until another
-abbrev pub begun : ℕ → Entry → ℕ → Outcome → Entry
-begun cycle e due o = record e { state = Busy due; outcome = Some o; issued = Some cycle }
+abbrev pub executing_until : ℕ → Entry → ℕ → Outcome → Entry
+executing_until cycle e due o = record e { state = Busy due; outcome = Some o; issued = Some cycle }
 
 -- what an entry becomes in Issue, and the events of that
 pub record Begun : Type 0 where
@@ -49,7 +49,7 @@ pub record Begun : Type 0 where
 
 -- what an entry that issues becomes: it executes until the cycle `due` and has this outcome; with the events of that
 abbrev pub begins : Around → Entry → ℕ → Outcome → List Event → Begun
-begins now e due o events = record { entry = begun now.cycle e due o; events = events }
+begins now e due o events = record { entry = executing_until now.cycle e due o; events = events }
 
 -- what an entry that doesn't issue becomes: it stays as it is, with no event
 abbrev pub waits : Entry → Begun

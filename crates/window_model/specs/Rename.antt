@@ -51,8 +51,8 @@ fits d window item =
     && (at_once item.kind || nat_lt (count_by (λ e. is_waiting e.state) window) d.core_stations)
 
 -- the item as an entry
-abbrev pub renamed : Desc → ℕ → Item → Entry
-renamed d serial item =
+abbrev pub entry_of_item : Desc → ℕ → Item → Entry
+entry_of_item d serial item =
     record {
       serial = serial;
       item = item;
@@ -68,7 +68,7 @@ renamed d serial item =
 -- the item goes behind the youngest entry, with the next serial
 abbrev pub rename_one : Desc → Item → List Item → Machine → After
 rename_one d item rest x = record {
-  machine = record x { window = x.window ++ renamed d x.next_serial item ∷ []; queue = rest; next_serial = x.next_serial + 1 };
+  machine = record x { window = x.window ++ entry_of_item d x.next_serial item ∷ []; queue = rest; next_serial = x.next_serial + 1 };
   events = event.Ren x.next_serial item.pc ∷ [];
 }
 

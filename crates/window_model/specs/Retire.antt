@@ -86,8 +86,8 @@ abbrev pub has_line : Desc → List (List ℕ) → ℕ → Bool
 has_line d cache line = is_in cache (set_of d line) line
 
 -- the line moves to the front of its set, where it is there
-abbrev pub touched : Desc → List (List ℕ) → ℕ → List (List ℕ)
-touched d cache line = moved_up cache (set_of d line) line
+abbrev pub with_line_touched : Desc → List (List ℕ) → ℕ → List (List ℕ)
+with_line_touched d cache line = moved_up cache (set_of d line) line
 
 -- ---- what each kind of head does
 
@@ -115,7 +115,7 @@ store_events d e cache = event.Ret e.serial ∷ map (λ line. event.St e.serial 
 -- a store also writes its bytes, and moves each of its lines to the front of its set, where the cache has it
 abbrev pub store_leaves : Desc → Entry → List Entry → Machine → Retired
 store_leaves d e rest x = record {
-  machine = record (leaves e rest x) { ram = stored_in x.ram e; cache = fold (touched d) x.cache (lines_in d e) };
+  machine = record (leaves e rest x) { ram = stored_in x.ram e; cache = fold (with_line_touched d) x.cache (lines_in d e) };
   events = store_events d e x.cache;
   piece = [];
 }

@@ -1,7 +1,7 @@
 -- The second level of the cache (docs/machine.md, "Second level").
 use Rattle.std.specs.Prelude.{ℕ, Bool, List}
 use Rattle.machine_desc.specs.declared.Desc.{Desc}
-use Rattle.window_model.specs.Sets.{set_in, is_in, moved_up, entered}
+use Rattle.window_model.specs.Sets.{set_in, is_in, moved_up, with_front_line}
 
 -- the set of the second level that a line belongs to
 abbrev pub second_set_of : Desc → ℕ → ℕ
@@ -17,4 +17,4 @@ second_touched d second line = moved_up second (second_set_of d line) line
 
 -- the line enters the front of its set, whose last line goes where there are too many
 abbrev pub second_with_line : Desc → List (List ℕ) → ℕ → List (List ℕ)
-second_with_line d second line = entered d.cache_second_ways second (second_set_of d line) line
+second_with_line d second line = with_front_line d.cache_second_ways second (second_set_of d line) line

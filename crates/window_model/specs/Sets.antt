@@ -16,5 +16,5 @@ moved_up sets s line =
     if is_in sets s line then slice_set sets s (line ∷ filter (λ l. not (l == line)) (slice_index_or sets s [])) else sets
 
 -- the line enters the front of set s, whose last line goes where there are more than so many ways
-abbrev pub entered : ℕ → List (List ℕ) → ℕ → ℕ → List (List ℕ)
-entered ways sets s line = slice_set sets s (take ways (line ∷ slice_index_or sets s []))
+abbrev pub with_front_line : ℕ → List (List ℕ) → ℕ → ℕ → List (List ℕ)
+with_front_line ways sets s line = slice_set sets s (take ways (line ∷ slice_index_or sets s []))

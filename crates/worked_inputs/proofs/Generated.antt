@@ -3,11 +3,11 @@
 use Rattle.std.proofs.Common.{◌≡◌, List, [], ◌∷◌, refl}
 use Rattle.std.specs.Prelude.{ℕ, map, take, drop, length}
 use Rattle.rv_decode.specs.Forms.{word_of}
-use Rattle.gen_image.specs.Generated.{seeded, next, drawn, ending, generated_image}
+use Rattle.gen_image.specs.Generated.{seed_state, next, draw_answer, ending, generated_image}
 use Rattle.worked_inputs.proofs.Files.{bytes_of}
 
 -- a seed counts modulo 2 ^ 31
-seeds : map seeded (0 ∷ 1 ∷ 2147483647 ∷ 2147483648 ∷ 2147483655 ∷ 18446744073709551615 ∷ []) ≡ 0 ∷ 1 ∷ 2147483647 ∷ 0 ∷ 7 ∷ 2147483647 ∷ []
+seeds : map seed_state (0 ∷ 1 ∷ 2147483647 ∷ 2147483648 ∷ 2147483655 ∷ 18446744073709551615 ∷ []) ≡ 0 ∷ 1 ∷ 2147483647 ∷ 0 ∷ 7 ∷ 2147483647 ∷ []
 seeds = refl
 
 -- the states behind 0, and behind 1 and the largest; what is drawn there
@@ -15,7 +15,7 @@ states : map next (0 ∷ 12345 ∷ 1406932606 ∷ 654583775 ∷ 1 ∷ 1103527590
     ≡ 12345 ∷ 1406932606 ∷ 654583775 ∷ 1449466924 ∷ 1103527590 ∷ 377401575 ∷ 1043980748 ∷ []
 states = refl
 
-draws : map drawn (1103527590 ∷ 377401575 ∷ 662824084 ∷ 65535 ∷ 65536 ∷ 2147483647 ∷ []) ≡ 16838 ∷ 5758 ∷ 10113 ∷ 0 ∷ 1 ∷ 32767 ∷ []
+draws : map draw_answer (1103527590 ∷ 377401575 ∷ 662824084 ∷ 65535 ∷ 65536 ∷ 2147483647 ∷ []) ≡ 16838 ∷ 5758 ∷ 10113 ∷ 0 ∷ 1 ∷ 32767 ∷ []
 draws = refl
 
 -- The file of seed 6 and eight blocks, which have all six forms. The headers come first: magic, class, data encoding

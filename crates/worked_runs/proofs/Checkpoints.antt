@@ -11,7 +11,7 @@ use Rattle.machine_desc.specs.declared.keys.Key.{Key}
 use Rattle.machine_desc.specs.declared.keys.Key.TheVariants.{PredictorHistory, PredictorReturns}
 use Rattle.machine_desc.specs.Allowed.{MayBe}
 use Rattle.machine_desc.proofs.EveryDesc.{each_is}
-use Rattle.machine_desc.specs.Ranges.{key_number, described, all_may_be}
+use Rattle.machine_desc.specs.Ranges.{key_number, desc_of_numbers, all_may_be}
 use Rattle.window_model.specs.declared.Event.TheVariants.{Done, Res, Bp, Bt, Sq, Ret, Call, Alu, Ren, Fet}
 use Rattle.window_model.specs.declared.Way.TheVariants.{Taken, NotTaken, Jump}
 use Rattle.window_model.specs.Row.{Row}
@@ -34,7 +34,7 @@ each_remembering history returns few_directions few_addresses PredictorReturns =
 each_remembering history returns few_directions few_addresses key = each_is example_2 key
 
 abbrev remembering : (history returns : ℕ) → history ≤ 12 → returns ≤ 16 → Desc
-remembering history returns few_directions few_addresses = described 2 (remembering_number history returns) Spectre Stt (all_may_be (record {
+remembering history returns few_directions few_addresses = desc_of_numbers 2 (remembering_number history returns) Spectre Stt (all_may_be (record {
   version = (lit≤ tt, lit≤ tt);
   each = each_remembering history returns few_directions few_addresses;
   latencies = lit< tt;

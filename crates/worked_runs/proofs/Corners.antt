@@ -16,7 +16,7 @@ use Rattle.window_model.specs.declared.Event.TheVariants.{Res, Bp, Ret, St}
 use Rattle.window_model.specs.declared.Item.{Item}
 use Rattle.window_model.specs.declared.Progress.TheVariants.{Waiting, Done}
 use Rattle.window_model.specs.declared.Way.TheVariants.{Taken, Jump}
-use Rattle.window_model.specs.Sets.{is_in, moved_up, entered}
+use Rattle.window_model.specs.Sets.{is_in, moved_up, with_front_line}
 use Rattle.window_model.specs.History.{no_checkpoint}
 use Rattle.window_model.specs.State.{Machine, opening}
 use Rattle.window_model.specs.Access.{covers, load_bytes, any_store_hidden}
@@ -222,17 +222,17 @@ sign_is_copied = refl
 
 -- three lines enter a set of two ways, in turn: the first of them goes
 abbrev two_of_three : List (List ℕ)
-two_of_three = entered 2 (entered 2 (entered 2 ([] ∷ []) 0 0) 0 16) 0 32
+two_of_three = with_front_line 2 (with_front_line 2 (with_front_line 2 ([] ∷ []) 0 0) 0 16) 0 32
 
 oldest_line_goes : is_in two_of_three 0 0 ≡ false
 oldest_line_goes = refl
 
 -- one that is used stays, and the other goes
-used_line_stays : entered 2 (moved_up two_of_three 0 16) 0 48 ≡ (48 ∷ 16 ∷ []) ∷ []
+used_line_stays : with_front_line 2 (moved_up two_of_three 0 16) 0 48 ≡ (48 ∷ 16 ∷ []) ∷ []
 used_line_stays = refl
 
 -- where there is no set no line enters, and none is there
-no_set_no_line : entered 2 [] 0 16 ≡ []
+no_set_no_line : with_front_line 2 [] 0 16 ≡ []
 no_set_no_line = refl
 
 -- a segment of four bytes at 4, of which the file has one

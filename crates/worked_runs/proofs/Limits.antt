@@ -27,7 +27,7 @@ use Rattle.window_model.specs.Access.{access, in_order}
 use Rattle.window_model.specs.Dependence.{bit_index}
 use Rattle.window_model.specs.Fetch.{fetch}
 use Rattle.window_model.specs.Fill.{with_line}
-use Rattle.window_model.specs.History.{no_checkpoint, counter_index, shifted, pushed, stack}
+use Rattle.window_model.specs.History.{no_checkpoint, counter_index, after_direction, after_push, stack}
 use Rattle.window_model.specs.Ports.{ports, AluPort}
 use Rattle.window_model.specs.Rename.{fits}
 use Rattle.window_model.specs.Resolve.{index}
@@ -181,10 +181,10 @@ bits : map (bit_index largest) (4 ∷ 4092 ∷ 4096 ∷ []) ≡ 1 ∷ 1023 ∷ 0
 bits = refl
 
 -- thirteen branches are taken, of which twelve count; of seventeen addresses sixteen stay
-history : (fold (λ m way. shifted largest way m) no_checkpoint (replicate 13 true)).history ≡ 4095
+history : (fold (λ m way. after_direction largest way m) no_checkpoint (replicate 13 true)).history ≡ 4095
 history = refl
 
-addresses : stack (fold (λ m a. pushed largest a m) no_checkpoint (1 ∷ 2 ∷ 3 ∷ 4 ∷ 5 ∷ 6 ∷ 7 ∷ 8 ∷ 9 ∷ 10 ∷ 11 ∷ 12 ∷ 13 ∷ 14 ∷ 15 ∷ 16 ∷ 17 ∷ []))
+addresses : stack (fold (λ m a. after_push largest a m) no_checkpoint (1 ∷ 2 ∷ 3 ∷ 4 ∷ 5 ∷ 6 ∷ 7 ∷ 8 ∷ 9 ∷ 10 ∷ 11 ∷ 12 ∷ 13 ∷ 14 ∷ 15 ∷ 16 ∷ 17 ∷ []))
     ≡ 17 ∷ 16 ∷ 15 ∷ 14 ∷ 13 ∷ 12 ∷ 11 ∷ 10 ∷ 9 ∷ 8 ∷ 7 ∷ 6 ∷ 5 ∷ 4 ∷ 3 ∷ 2 ∷ []
 addresses = refl
 

@@ -10,9 +10,9 @@ use Rattle.machine_desc.specs.Table.{is_known}
 use Rattle.machine_desc.specs.Description.{version, value_at, model_in, defence_in}
 
 -- a test passes where there is no fault
-abbrev pub checked : Option DescFault → Result (Unit {0}) DescFault
-checked None = Ok tt
-checked (Some fault) = Err fault
+abbrev pub ok_without_fault : Option DescFault → Result (Unit {0}) DescFault
+ok_without_fault None = Ok tt
+ok_without_fault (Some fault) = Err fault
 
 -- the model of a document
 abbrev pub model : ℕ → Members → Result SttModel DescFault

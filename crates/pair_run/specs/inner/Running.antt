@@ -15,9 +15,9 @@ OnItsWay d code n x y = after_cycles d code (n - (y.cycle - x.cycle)) y ≡ afte
 
 -- where two runs of at most n cycles first have unequal rows, None where they have the same rows and the second is at
 -- its end
-abbrev pub Compared : Desc → Code → Desc → Code → ℕ → Machine → Machine → Machine → Option ℕ → Type 0
-Compared d code d2 code2 n x x2 y2 (Some k) = FirstUnequal (rows d code n x) (rows d2 code2 n x2) k
-Compared d code d2 code2 n x x2 y2 None = (rows d code n x ≡ rows d2 code2 n x2) × (y2 ≡ after_cycles d2 code2 n x2)
+abbrev pub ComparesRuns : Desc → Code → Desc → Code → ℕ → Machine → Machine → Machine → Option ℕ → Type 0
+ComparesRuns d code d2 code2 n x x2 y2 (Some k) = FirstUnequal (rows d code n x) (rows d2 code2 n x2) k
+ComparesRuns d code d2 code2 n x x2 y2 None = (rows d code n x ≡ rows d2 code2 n x2) × (y2 ≡ after_cycles d2 code2 n x2)
 
 -- how two runs differ, by where their rows first do and by how they end
 abbrev pub DiffersBy : Option ℕ → Ending → Ending → Differ → Type 0

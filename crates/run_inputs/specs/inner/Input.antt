@@ -7,7 +7,7 @@ use Rattle.elf_loader.specs.declared.faults.ElfFault.TheVariants as elf
 use Rattle.elf_loader.specs.declared.loading.Image.{Image}
 use Rattle.machine_desc.specs.Description.{description_of}
 use Rattle.machine_desc.specs.declared.Desc.{Desc}
-use Rattle.run_inputs.specs.Loaded.{loaded}
+use Rattle.run_inputs.specs.Loaded.{image_text}
 use Rattle.tool_io.specs.declared.Got.TheVariants.{TooLong}
 use Rattle.tool_io.specs.Outside.{Shelf, HasToCopy, SameCounts, NameFailed}
 use Rattle.run_inputs.specs.declared.sources.ImageSource.{ImageSource}
@@ -71,4 +71,4 @@ ImageRefused which desc from old new refusal = BytesRefused which from old new r
 -- an image is read and loaded, or refused
 abbrev pub ReadsImage : Which → Option Desc → ImageFrom → Shelf → Shelf → Result Image Refusal → Type 0
 ReadsImage which desc from old new result =
-    MatchResult result (λ i. IsImage (MayGive old) desc from (loaded i) × SameCounts old new) (ImageRefused which desc from old new)
+    MatchResult result (λ i. IsImage (MayGive old) desc from (image_text i) × SameCounts old new) (ImageRefused which desc from old new)

@@ -1,6 +1,6 @@
 -- Beside Work.antt: what only clauses of the code and lemmas cite.
 use Rattle.std.specs.Prelude.{◌≡◌, Result, Ok, Err}
-use Rattle.run_inputs.specs.Loaded.{loaded}
+use Rattle.run_inputs.specs.Loaded.{image_text}
 use Rattle.run_inputs.specs.Loaded.{Fits}
 use Rattle.tool_io.specs.Outside.{Told, Wrote, WrotePrefix}
 use Rattle.stt_top.specs.declared.outcome.Ended.{Ended}
@@ -12,10 +12,10 @@ use Rattle.stt_top.specs.Work.{TaskText, Work, ComesTo, isa_task, report_task, t
 
 -- the task that the code holds
 abbrev pub task_text : Task → TaskText
-task_text (Isa image steps) = isa_task (loaded image) steps
-task_text (Report read cycles) = report_task read.desc (loaded read.image) cycles
-task_text (Trace read cycles) = trace_task read.desc (loaded read.image) cycles
-task_text (Pair d one two cycles) = pair_task d (loaded one) (loaded two) cycles
+task_text (Isa image steps) = isa_task (image_text image) steps
+task_text (Report read cycles) = report_task read.desc (image_text read.image) cycles
+task_text (Trace read cycles) = trace_task read.desc (image_text read.image) cycles
+task_text (Pair d one two cycles) = pair_task d (image_text one) (image_text two) cycles
 
 -- the machine's images lie in the memory of its description
 abbrev pub InMemory : TaskText → Type 0

@@ -1,5 +1,5 @@
 use Rattle.std.proofs.Common.{◌≡◌, ◌+◌, ◌-◌, ◌≤◌, ap, ap₂, arith, length, refl, subst, sym, ◌∙◌}
-use Rattle.secret_marks.specs.Marks.{left}
+use Rattle.secret_marks.specs.Marks.{marks_after_leaving}
 use Rattle.entry_marks.specs.Oldest.{IsCopiedFrom}
 use Rattle.entry_marks.specs.Walk.{marks_of}
 use Rattle.secret_marks.specs.Streams.{public_in}
@@ -39,7 +39,7 @@ returns-clause-marks g c =
     omega (arith, c.saturating_sub-gone.ensures, c.entries-before.ensures.value, c.entries.ensures.value) in
     let leaves =
     c.leave.ensures.marks c.args.parts.now.machine.window copied
-    ∙ ap₂ (λ base n. left base n c.args.parts.now.machine.window (marks_of c.args.marks.now) c.args.marks.now.window.items) c.base.ensures count in
+    ∙ ap₂ (λ base n. marks_after_leaving base n c.args.parts.now.machine.window (marks_of c.args.marks.now) c.args.marks.now.window.items) c.base.ensures count in
     publishes (public_in c.args.public) c.args.parts.now.machine c.leave.new.marks c.publish.new.bytes.items _ c.retire.new.piece c.as_slice.result.now c.stream-stream.result c.place-place.result
     c.publish.ensures.bytes c.stream-stream.ensures c.place-place.ensures c.as_slice.ensures.value leaves
 

@@ -2,7 +2,7 @@
 use Rattle.std.proofs.Common.{refl, ap, subst, sym, ◌∙◌}
 use Rattle.std.specs.Prelude.{option_copied}
 use Rattle.std.specs.List.{All}
-use Rattle.window_model.specs.Rename.{renamed}
+use Rattle.window_model.specs.Rename.{entry_of_item}
 use Rattle.refinement.proofs.Room.{held_older, writes_older}
 use Rattle.rename.specs.Entering.{HasPlace}
 use Rattle.rename.proofs.Awaiting.{writers_in_flight}
@@ -14,7 +14,7 @@ next_fitting-requires-clause-counted g c = counted _ c.parts.invariant
 
 pub awaits_of-awaits-requires-clause-in_flight : goal.awaits_of-awaits-requires-clause-in_flight
 awaits_of-awaits-requires-clause-in_flight g c =
-    subst (All (HasPlace c.parts.inside.rob.entries)) (sym c.sources_of-sources.ensures.writers) (writers_in_flight _ (renamed c.parts.inside.desc c.parts.inside.next_serial c.in-Some.item.now) c.parts.invariant.refines)
+    subst (All (HasPlace c.parts.inside.rob.entries)) (sym c.sources_of-sources.ensures.writers) (writers_in_flight _ (entry_of_item c.parts.inside.desc c.parts.inside.next_serial c.in-Some.item.now) c.parts.invariant.refines)
 
 pub add_write-requires-clause-youngest : goal.add_write-requires-clause-youngest
 add_write-requires-clause-youngest g c = writes_older _ c.parts.invariant.refines

@@ -1,7 +1,7 @@
 -- The description is refused, or the image behind it, or both are read.
 use Rattle.std.proofs.Common.{[], ◌∷◌, Some, refl}
 use Rattle.run_inputs.specs.declared.refusal.Which.TheVariants.{First}
-use Rattle.run_inputs.specs.Loaded.{loaded}
+use Rattle.run_inputs.specs.Loaded.{image_text}
 use Rattle.run_inputs.specs.inner.Input.{image_from}
 use Rattle.run_inputs.proofs.InTurn.{description_refused, image_refused, one_read}
 use Rattle.run_inputs.proofs.Exits.{at_err}
@@ -23,5 +23,5 @@ returns-clause-answer g c =
     let desc = c.in-Ok.ensures in
     let image = c.in_ok-image.ensures in
     one_read (g.F.Files.shelf c.args.files.now) (g.F.Files.shelf c.read_description.new.files) (g.F.Files.shelf c.read_image.new.files)
-    (Some c.args.description.now) (Some c.in-Ok.desc) (image_from c.args.source) (loaded c.in_ok-image.image)
+    (Some c.args.description.now) (Some c.in-Ok.desc) (image_from c.args.source) (image_text c.in_ok-image.image)
     desc.answer.0 desc.answer.1 desc.stays image.answer.0 image.bytes image.answer.1

@@ -1,7 +1,7 @@
 use Rattle.std.proofs.Common.{◌≡◌, ◌<◌, ◌≤◌, ◌%◌, length, get_or, ap, sym, ◌∙◌, false, arith}
 use Rattle.std.proofs.lemmas.List.{get_or_default, get_or-set_same}
 use Rattle.std.proofs.Math.ListN.{length-set}
-use Rattle.stations.specs.Places.{awaits_in, nobody, woken}
+use Rattle.stations.specs.Places.{awaits_in, nobody, after_wakeup}
 use Rattle.stations.proofs.Awaited.{noted_out, noted_woken}
 use Rattle.stations.proofs.waking.wake_at.Goals as goal
 
@@ -9,8 +9,8 @@ pub returns-then-not-awaits_in-clause-noted : goal.returns-then-not-awaits_in-cl
 returns-then-not-awaits_in-clause-noted c =
     let places = c.args.places.now.items in
     let within : c.args.place < length places = omega (arith, c.requires.within, c.args.places.now.ok.0) in
-    let woke : c.wake.new.self ≡ woken c.args.serial (get_or places c.args.place nobody) =
-    c.wake.ensures ∙ ap (woken c.args.serial) (c.index_mut.ensures.value ∙ get_or_default places c.args.place _ nobody within) in
+    let woke : c.wake.new.self ≡ after_wakeup c.args.serial (get_or places c.args.place nobody) =
+    c.wake.ensures ∙ ap (after_wakeup c.args.serial) (c.index_mut.ensures.value ∙ get_or_default places c.args.place _ nobody within) in
     let now : c.index.result.now ≡ c.wake.new.self = c.index.ensures ∙ get_or-set_same places c.args.place c.wake.new.self _ within in
     let none : awaits_in (c.args.serial % 256) c.wake.new.self ≡ false =
     sym (c.awaits_in.ensures ∙ ap (awaits_in (c.args.serial % 256)) now) ∙ c.if-not-awaits_in.true in
@@ -23,6 +23,6 @@ pub returns-else-not-awaits_in-clause-noted : goal.returns-else-not-awaits_in-cl
 returns-else-not-awaits_in-clause-noted c =
     let places = c.args.places.now.items in
     let within : c.args.place < length places = omega (arith, c.requires.within, c.args.places.now.ok.0) in
-    let woke : c.wake.new.self ≡ woken c.args.serial (get_or places c.args.place nobody) =
-    c.wake.ensures ∙ ap (woken c.args.serial) (c.index_mut.ensures.value ∙ get_or_default places c.args.place _ nobody within) in
+    let woke : c.wake.new.self ≡ after_wakeup c.args.serial (get_or places c.args.place nobody) =
+    c.wake.ensures ∙ ap (after_wakeup c.args.serial) (c.index_mut.ensures.value ∙ get_or_default places c.args.place _ nobody within) in
     noted_woken c.args.serial places c.args.place c.wake.new.self within woke c.args.waiters.now c.requires.noted

@@ -1,5 +1,5 @@
 -- What is read is refused, or what is told is told of the run that is asked for.
-use Rattle.run_inputs.specs.Loaded.{loaded}
+use Rattle.run_inputs.specs.Loaded.{image_text}
 use Rattle.stats_words.specs.Words.{AskedText}
 use Rattle.stats_words.specs.inner.Words.{asked_text}
 use Rattle.stats_top.specs.Top.{Inputs}
@@ -17,5 +17,5 @@ returns-clause-ends g c =
     let old = g.F.Files.shelf c.args.files.now in
     let new = g.F.Files.shelf c.read_described.new.files in
     let asked : AskedText = asked_text c.args.asked in
-    let inputs : Inputs asked old new = record { desc = c.in-Ok.read.desc; image = loaded c.in-Ok.read.image; read = c.in-Ok.ensures.answer } in
+    let inputs : Inputs asked old new = record { desc = c.in-Ok.read.desc; image = image_text c.in-Ok.read.image; read = c.in-Ok.ensures.answer } in
     told_end asked old new (g.O.Sink.told c.args.out.now) (g.O.Sink.told c.perform.new.out) inputs c.perform.result c.perform.ensures

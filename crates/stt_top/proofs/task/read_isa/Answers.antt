@@ -1,7 +1,7 @@
 -- The description is refused, or the image behind it, or both are read.
 use Rattle.std.proofs.Common.{[], ◌∷◌, option_map, refl}
 use Rattle.run_inputs.specs.declared.refusal.Which.TheVariants.{First}
-use Rattle.run_inputs.specs.Loaded.{loaded}
+use Rattle.run_inputs.specs.Loaded.{image_text}
 use Rattle.run_inputs.specs.Input.{from_file}
 use Rattle.run_inputs.proofs.InTurn.{named_refused, image_refused, one_read}
 use Rattle.run_inputs.proofs.Exits.{at_err}
@@ -24,9 +24,9 @@ returns-clause-answer g c =
     let image = c.in_ok-image.ensures in
     record {
       desc = c.in_ok-desc.desc;
-      images = loaded c.in_ok-image.image ∷ [];
+      images = image_text c.in_ok-image.image ∷ [];
       read = one_read (g.F.Files.shelf c.args.files.now) (g.F.Files.shelf c.read_named.new.files) (g.F.Files.shelf c.read_image.new.files)
-          (option_map (λ t. t.now) c.args.description) c.in_ok-desc.desc (from_file c.args.image.now) (loaded c.in_ok-image.image)
+          (option_map (λ t. t.now) c.args.description) c.in_ok-desc.desc (from_file c.args.image.now) (image_text c.in_ok-image.image)
           desc.answer.0 desc.answer.1 desc.stays image.answer.0 image.bytes image.answer.1;
       asks = refl;
     }
