@@ -1,9 +1,10 @@
-//! The reason of a cycle's empty slots.
-ghost use Rattle.std.specs.Prelude.{◌≡◌, ◌-◌, ◌∷◌, [], slice_get};
+//! The reason of a cycle's empty slots (`specs/Reasons.antt`).
+ghost use Rattle.std.specs.Prelude.{◌≡◌, ◌<◌, ◌-◌, ◌∷◌, [], Some, length, slice_get};
 ghost use Rattle.slot_reasons.specs.Reasons.{awaits, executes, first_past, first_renamed, head_reason, is_bit, is_from, keeps};
 ghost use Rattle.slot_reasons.specs.Reasons.{late_behind, late_next, load_reason, past_after, reason_of, squash_reason};
 ghost use Rattle.slot_reasons.specs.Reasons.{stays_done, time_taken};
-ghost use Rattle.slot_reasons.specs.inner.Walked.{unless_renamed};
+ghost use Rattle.window_model.specs.declared.Event.{Event as EventText};
+ghost use Rattle.slot_reasons.specs.inner.Walked.{bit_before, matters, unless_renamed};
 
 use crate::{Charge, Past, Reason};
 use machine_desc::Desc;
@@ -67,6 +68,52 @@ fn renamed_behind(renamed: Option<u64>, event: Event) -> Option<u64>
     }
 }
 
+// Whether the event at a place comes right behind a bit of dependence.
+fn bit_before(events: &[Event], place: usize) -> bool
+    requires { place < length events.now }
+    ensures { result ≡ bit_before place events.now }
+{
+    if place == 0 {
+        return false;
+    }
+    is_bit(events[place - 1])
+}
+
+// Whether an event tells of what comes late or is renamed; few do.
+fn matters(event: Event) -> bool
+    ensures { result ≡ matters event }
+{
+    match event {
+        Event::Sq(_) | Event::Call(_, _) | Event::Ren(_, _) => true,
+        _ => false,
+    }
+}
+
+/// What is known of a cycle behind some of its events.
+#[derive(Clone, Copy, Debug, PartialEq, Eq)]
+struct Walked {
+    late: Reason,
+    renamed: Option<u64>,
+}
+
+// What is known behind the event at a place too.
+fn walk_on(events: &[Event], place: usize, known: Walked) -> Walked
+    requires { place < length events.now }
+    ensures late { (event : EventText) → slice_get events.now place ≡ Some event
+        → result.late ≡ late_behind (bit_before place events.now) event known.late }
+    ensures renamed { (event : EventText) → slice_get events.now place ≡ Some event
+        → result.renamed ≡ unless_renamed known.renamed (first_renamed (event ∷ [])) }
+{
+    let event = events[place];
+    if !matters(event) {
+        return known;
+    }
+    Walked {
+        late: late_behind(bit_before(events, place), event, known.late),
+        renamed: renamed_behind(known.renamed, event),
+    }
+}
+
 // Why what is renamed next comes late, once a cycle is over.
 fn late_next(renamed: Option<u64>, late: Reason) -> Reason
     ensures { result ≡ late_next renamed late }
@@ -81,18 +128,17 @@ fn late_next(renamed: Option<u64>, late: Reason) -> Reason
 fn past_after(past: Past, events: &[Event]) -> Past
     ensures { result ≡ past_after past events.now }
 {
-    let mut behind_bit = false;
-    let mut late = past.next;
-    let mut renamed = None;
-    for event in events {
-        late = late_behind(behind_bit, *event, late);
-        renamed = renamed_behind(renamed, *event);
-        behind_bit = is_bit(*event);
+    let mut known = Walked {
+        late: past.next,
+        renamed: None,
+    };
+    for place in 0..events.len() {
+        known = walk_on(events, place, known);
     }
     Past {
-        renamed,
-        late,
-        next: late_next(renamed, late),
+        renamed: known.renamed,
+        late: known.late,
+        next: late_next(known.renamed, known.late),
     }
 }
 
