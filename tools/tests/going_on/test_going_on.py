@@ -9,6 +9,7 @@ sys.path.append(os.path.dirname(os.path.dirname(os.path.abspath(__file__))))
 
 import support
 from generate.generated import generated_image
+from wadrelwy import Fault
 from wadrelwy.going_on import stub
 from wadrelwy.going_on.report import read_report
 from wadrelwy.verdict.hart import Hart
@@ -36,6 +37,33 @@ def memory(image, told):
     for address, row in told.rows.items():
         found[address - BASE:address - BASE + 16] = row
     return found
+
+
+class Reports(unittest.TestCase):
+    REGISTERS = "".join(f"x{at} {17 * at:08x}\n" for at in range(32))
+    ROWS = ("mem 00020000 000102030405060708090a0b0c0d0e0f\n", "mem 00020010 f0f1f2f3f4f5f6f7f8f9fafbfcfdfeff\n", "mem 00020030 " + 15 * "00" + "ab\n")
+
+    def text(self, *rows):
+        return "out 6869\n" + self.REGISTERS + "pc 00010020\n" + "".join(rows) + "end budget retired 12\n"
+
+    def test_rows(self):
+        """Rows that follow one another are one stretch."""
+        told = read_report(self.text(*self.ROWS))
+        self.assertEqual(told.changed, ((0x20000, bytes(range(16)) + bytes(range(240, 256))), (0x20030, bytes(15) + b"\xab")))
+        self.assertEqual(told.rows, {0x20000: bytes(range(16)), 0x20010: bytes(range(240, 256)), 0x20030: bytes(15) + b"\xab"})
+        self.assertEqual((told.registers[3], told.pc, told.end, told.retired, told.out, told.goes_on), (51, 0x10020, "budget", 12, ("out 6869",), True))
+        self.assertEqual(read_report(self.text()).changed, ())
+
+    def test_other_texts(self):
+        """Of a report that was cut anywhere nothing is told, nor of rows that are none."""
+        whole = self.text(*self.ROWS)
+        for length in range(len(whole) - len("12\n")):
+            with self.assertRaisesRegex(Fault, "no report of isa"):
+                read_report(whole[:length])
+        for row in (self.ROWS[0][:-2] + "\n", self.ROWS[0].replace("0c", "0 "), self.ROWS[0].replace("0c", "0x"), "mem 0002000g" + self.ROWS[0][12:],
+                    self.ROWS[0].replace(" 00", "  0")):
+            with self.assertRaisesRegex(Fault, "no report of isa"):
+                read_report(self.text(row, *self.ROWS[1:]))
 
 
 @unittest.skipIf(support.NO_IMAGES, support.NO_IMAGES)

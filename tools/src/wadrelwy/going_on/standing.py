@@ -27,8 +27,8 @@ def stands(program: str, image: Loaded, steps: int, description: str | None) -> 
     if not report.goes_on:
         raise Fault(f"{image.name}: the run ends after {report.retired} steps ({report.end}), so nothing goes on after {steps}")
     memory = bytearray(image.memory)
-    for address, row in report.rows.items():
-        memory[address - image.base:address - image.base + len(row)] = row
+    for address, data in report.changed:
+        memory[address - image.base:address - image.base + len(data)] = data
     standing = Standing(image, report, bytes(memory), frozenset(report.rows))
     see_code(standing)
     return standing
@@ -39,6 +39,8 @@ def see_code(standing: Standing) -> None:
     image = standing.image
     for start, data in image.pieces:
         now = standing.memory[start - image.base:start - image.base + len(data)]
+        if now == data:
+            continue
         for address, word in words_of([(start, now)]).items():
             if word != image.words[address]:
                 raise Fault(f"{image.name}: the run has written over its code at {image.named(address)}, and an image can't have both words")

@@ -1,5 +1,6 @@
 """The image that goes on, as an ELF file (docs/formats.md, "Images")."""
 import struct
+from itertools import accumulate
 from typing import Iterator, NamedTuple
 
 from elftools.elf.elffile import ELFFile
@@ -8,8 +9,8 @@ from .standing import Standing
 
 HEADER, PROGRAM_HEADER, SECTION_HEADER = 52, 32, 40
 CODE, DATA = 5, 6
-# so many zero bytes cost less as bytes of the file than as a segment's end and another's header
-FEW_ZEROS = 64
+# blocks of so many bytes are looked at whether they are zero: fewer zeros cost less as bytes of the file than as a segment's end and another one
+BLOCK = 1024
 SYMBOLS, NAMES = 2, 3
 
 
@@ -31,16 +32,16 @@ class Section(NamedTuple):
 
 
 def runs_of_bytes(address: int, data: bytes) -> Iterator[tuple[int, bytes]]:
-    """The stretches of `data` that aren't zero, from their addresses on; few zeros between two don't part them."""
-    place = 0
-    while place < len(data):
-        place += len(data) - place - len(data[place:].lstrip(b"\0"))
-        end = data.find(bytes(FEW_ZEROS), place)
-        end = len(data) if end < 0 else end
-        kept = data[place:end].rstrip(b"\0")
-        if kept:
-            yield address + place, kept
-        place = max(end, place + 1)
+    """The stretches of `data` that aren't zero, from their addresses on; they are parted where whole blocks are zero."""
+    first = None
+    for at in range(0, len(data) + BLOCK, BLOCK):
+        has_any = bool(data[at:at + BLOCK].strip(b"\0"))
+        if has_any and first is None:
+            first = at
+        elif not has_any and first is not None:
+            kept = data[first:at].lstrip(b"\0")
+            yield address + min(at, len(data)) - len(kept), kept.rstrip(b"\0")
+            first = None
 
 
 def segments(standing: Standing, at: int, stub: bytes) -> list[Segment]:
@@ -88,10 +89,10 @@ def section_headers(sections: list[Section], at: int) -> tuple[bytes, bytes]:
 def elf_file(parts: list[Segment], sections: list[Section], entry: int) -> bytes:
     """The file of these segments and sections."""
     place = HEADER + PROGRAM_HEADER * len(parts)
-    table, body = b"", b""
-    for part in parts:
-        table += struct.pack("<8I", 1, place + len(body), part.address, part.address, len(part.data), len(part.data), part.flags, 4)
-        body += part.data
+    begins = accumulate((len(part.data) for part in parts), initial=place)
+    table = b"".join(struct.pack("<8I", 1, at, part.address, part.address, len(part.data), len(part.data), part.flags, 4)
+                     for at, part in zip(begins, parts))
+    body = b"".join(part.data for part in parts)
     body += bytes(-(place + len(body)) % 4)
     data, headers = section_headers(sections, place + len(body)) if sections else (b"", b"")
     begin = place + len(body) + len(data) if sections else 0
