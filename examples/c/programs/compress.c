@@ -3,6 +3,9 @@
 #include "program.h"
 #define LENGTH 6000
 #define LONGEST 66
+#ifndef SEED
+#define SEED 1
+#endif
 
 static u8 text[LENGTH], packed[LENGTH * 9 / 8 + 8], unpacked[LENGTH];
 static u16 last[1024];
@@ -60,7 +63,7 @@ __attribute__((noinline)) static void unpack(u32 length) {
 
 int main(void) {
   static const char words[8][8] = {"the ", "core ", "loads ", "a ", "secret ", "and ", "waits ", "for it "};
-  u32 state = 1, length = 0, sum = 0;
+  u32 state = SEED, length = 0, sum = 0;
   while (length < LENGTH) {
     state = random_after(state);
     for (const char *next = words[state >> 7 & 7]; *next && length < LENGTH; next++)

@@ -1,9 +1,13 @@
 /* A graph of 1024 nodes with four edges each: shortest ways from one node, breadth first. What is loaded is an index for the next load
    (distance[edges[node][i]]). Tells the greatest distance and the sum of all. */
 #include "program.h"
+#ifndef NODES
 #define NODES 1024
+#endif
 #define EDGES 4
+#ifndef ROUNDS
 #define ROUNDS 3
+#endif
 
 static u16 edges[NODES][EDGES], queue[NODES];
 static int distance[NODES];

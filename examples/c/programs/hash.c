@@ -1,13 +1,16 @@
 /* Hashing: a table of 4096 places, with open addressing; 2500 keys go in, and 5000 are looked for, half of which aren't there. The place
    of an access comes from a multiplication. Tells how many were found, and over how many places. */
 #include "program.h"
-#define PLACES 4096
+#ifndef KEYS
 #define KEYS 2500
+#define BITS 12
+#endif
+#define PLACES (1 << BITS)
 
 static u32 table[PLACES], steps;
 
 static u32 place_of(u32 key) {
-  return key * 2654435769u >> 20; /* multiplicative hashing; Knuth, The Art of Computer Programming 3, 6.4 */
+  return key * 2654435769u >> (32 - BITS); /* multiplicative hashing; Knuth, The Art of Computer Programming 3, 6.4 */
 }
 
 /* The place of a key, or the free one where it would go. */

@@ -1,7 +1,9 @@
 /* An interpreter: eight operations of a machine with a stack, chosen by a jump through a table; the program that it runs finds the primes
    below 800 by a sieve. Each indirect jump goes where a loaded byte says. Tells how many primes there are, and the sum of all. */
 #include "program.h"
+#ifndef LIMIT
 #define LIMIT 800
+#endif
 
 enum { PUSH, GET, SET, LOAD, STORE, ADD, LESS, JUMP, UNLESS, STOP };
 enum { I, J, COUNT, SUM, VARIABLES };

@@ -1,8 +1,12 @@
 /* Linked lists: 4096 cells of 16 bytes in a row that jumps about in 64 KiB, walked five times; then the list is turned round and walked
    again. Nothing but loads whose addresses are what the last load gave. Tells a sum over the values in both orders. */
 #include "program.h"
+#ifndef CELLS
 #define CELLS 4096
+#endif
+#ifndef WALKS
 #define WALKS 5
+#endif
 
 struct cell {
   struct cell *next;

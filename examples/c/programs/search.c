@@ -1,8 +1,12 @@
 /* Search: 3000 binary searches among 8192 sorted numbers, 32 KiB of them. Each step's address depends on a branch that depends on the step
    before. Tells a sum over the places found. */
 #include "program.h"
+#ifndef COUNT
 #define COUNT 8192
+#endif
+#ifndef SEARCHES
 #define SEARCHES 3000
+#endif
 
 static u32 sorted[COUNT];
 

@@ -1,7 +1,9 @@
 /* Sorting: quicksort of 3000 numbers, the middle one of three as the pivot, and insertion for short pieces. Branches depend on what was
    loaded just before. Tells a sum over the sorted numbers and their places, or that they aren't sorted. */
 #include "program.h"
+#ifndef COUNT
 #define COUNT 3000
+#endif
 
 static u32 numbers[COUNT];
 

@@ -1,7 +1,9 @@
 /* A binary tree of 1500 keys: they go in one by one, each is looked for, and the whole is walked in order. A load's address is what the
    load before gave, and branches choose between two of them. Tells a sum over the keys in their order, or that they aren't in order. */
 #include "program.h"
+#ifndef COUNT
 #define COUNT 1500
+#endif
 
 struct node {
   u32 key;
