@@ -23,7 +23,7 @@ def is_unproved(program: str) -> bool:
 def refuse_unproved(program: str) -> None:
     """Refuses an unproved program, where what is said of its answers rests on proofs."""
     if is_unproved(program):
-        raise Fault(f"{program} is unproved, and what this command says rests on proofs; run, trace, stats, view and sweep take it")
+        raise Fault(f"{program} is unproved, and what this command says rests on proofs; run, trace, stats, view, sweep and sample take it")
 
 
 def note_of(said: str) -> str:

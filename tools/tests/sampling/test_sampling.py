@@ -1,13 +1,12 @@
-"""Estimates of a long run from short windows of it. The simulator is a stand-in whose core takes as many cycles for an instruction as the
+"""Estimates of a long run from short windows of it. The programs are a stand-in whose core takes as many cycles for an instruction as the
 description's `mul_latency` where that multiplies, else one, and one more for each of the first 100 instructions of a run: so each window's cycles
-are known by hand. The instruction set's run is the tools' own."""
+are known by hand. What it counts has names of its own. The instruction set's run is the tools' own."""
 import csv
 import json
 import os
 import random
 import shutil
 import signal
-import statistics
 import subprocess
 import sys
 import tempfile
@@ -16,15 +15,13 @@ import unittest
 
 import support
 from generate.generated import generated_image
-from wadrelwy.sampling import chain, estimate, measuring, places, planned, touching
-from wadrelwy.sampling.measuring import Taken
-from wadrelwy.sampling.places import Window
+from wadrelwy import built_programs
+from wadrelwy.sampling import chain
 from wadrelwy.verdict.hart import Hart
 from wadrelwy.verdict.loaded import load
 from wadrelwy.view import Fault
 from wadrelwy.view.description import read_description
 
-BASE = 0x10000
 SRC = os.path.join(support.ROOT, "tools", "src")
 # from so many steps on the stand-in's programs only repeat themselves, so it goes over no more of them
 FAR = 20000
@@ -35,7 +32,7 @@ from wadrelwy.verdict import hart
 from wadrelwy.verdict.loaded import load
 from wadrelwy.view.description import read_description
 word, *words = sys.argv[1:]
-image, text = (words[0], words[2]) if word == "isa" else (words[1], words[0])
+image, text = (words[0], words[2]) if word == "isa" else (words[0], word)
 machine = read_description(text)
 if machine.rob == 13:
     sys.exit(print("description K5 core.rob 13", file=sys.stderr) or 4)
@@ -47,23 +44,38 @@ if word == "isa":
     said = hart.report(run, loaded)
     print(said if run.end else said.replace("end budget retired {FAR}", "end budget retired " + words[-1]), end="")
     sys.exit(0 if run.end else 3)
-if word == "run":
-    print("end budget retired 0 cycles 1")
-    sys.exit(3)
-with open("RAN", "a") as ran:
-    ran.write("x")
-cycle = 0
-if os.environ.get("KILL") and loaded.entry != 0x10000:
-    os.kill(os.getpid(), 9)
+most, every = int(words[2]), int(words[4])
+if most > 64:
+    with open("RAN", "a") as ran:
+        ran.write("x")
+    if os.environ.get("KILL") and loaded.entry != 0x10000:
+        os.kill(os.getpid(), 9)
+NAMES = ("odd_words", "retired", "mul", "slots_1")
+cycle, whole, part = 0, [0] * 4, [0] * 4
+
+def passed(more):
+    global cycle, part
+    cycle += 1
+    for at in range(4):
+        whole[at] += more[at]
+        part[at] += more[at]
+    if cycle % every == 0:
+        print(cycle, *part, flush=not cycle % 100)
+        part = [0] * 4
+
+def ended(end):
+    print(*(f"{{name}} {{number}}" for name, number in zip(NAMES, whole)), f"{{end}} cycles {{cycle}}", sep="\\n", flush=True)
+
 try:
     for at, step in enumerate(run.run(1 << 30)):
-        for _ in range((machine.mul_latency if step.word >> 25 == 1 and step.word & 127 == 51 else 1) + (at < 100) - 1):
-            cycle += 1
-            print(cycle, flush=not cycle % 100)
-        cycle += 1
-        print(cycle, f"done:{{at}} ret:{{at}} fet:00010000")
-    print(hart.end_text(run.end, run.retired), "cycles", cycle)
-    sys.stdout.flush()
+        mul = step.word >> 25 == 1 and step.word & 127 == 51
+        for _ in range((machine.mul_latency if mul else 1) + (at < 100) - 1):
+            passed((0, 0, 0, 4))
+        passed((step.word & 1, 1, mul, 3))
+        if cycle >= most:
+            ended(f"end budget retired {{whole[1]}}")
+            sys.exit(3)
+    ended(hart.end_text(run.end, run.retired))
 except BrokenPipeError:
     os.dup2(os.open(os.devnull, os.O_WRONLY), 1)
     sys.exit(7)
@@ -82,8 +94,10 @@ class Folder(unittest.TestCase):
         self.addCleanup(kept.cleanup)
         self.folder = kept.name
         self.ran, self.out = os.path.join(self.folder, "ran"), os.path.join(self.folder, "out")
-        self.program = self.write("stand_in", STAND_IN.replace("RAN", self.ran))
-        os.chmod(self.program, 0o755)
+        self.program, counting = (self.write(name, STAND_IN.replace("RAN", self.ran)) for name in ("stt_cli", "stt_stats"))
+        for path in (self.program, counting):
+            os.chmod(path, 0o755)
+        self.programs = ("--program", self.program, "--stats-program", counting)
         self.image = os.path.join(self.folder, "two_loops.elf")
         shutil.copy(support.image_of_words("two_loops", WORDS), self.image)
         with open(support.example("medium.toml"), encoding="utf-8") as file:
@@ -97,8 +111,8 @@ class Folder(unittest.TestCase):
 
     def sample(self, *words, image=True, **more):
         files = [self.image, self.description] if image else []
-        return subprocess.run([support.TOOL, "sample", "-o", self.out, *files, "--program", self.program, *words], capture_output=True, text=True,
-                              cwd=self.folder, env=os.environ | more)
+        return subprocess.run([support.TOOL, "sample", "-o", self.out, *files, *self.programs, *words], capture_output=True, text=True, cwd=self.folder,
+                              env=os.environ | more)
 
     def rows(self, name="windows.csv"):
         with open(os.path.join(self.out, name), encoding="utf-8") as file:
@@ -115,134 +129,6 @@ class Folder(unittest.TestCase):
 
 
 SHORT = ("--windows", "10", "--length", "100", "--jobs", "2")
-
-
-def taken_in(rows, first, last, size=1 << 16):
-    """What a trace of these rows tells, read in pieces of so many bytes."""
-    whole = b"".join(rows)
-    pieces = iter([whole[at:at + size] for at in range(0, len(whole), size)])
-    return measuring.taken_in(lambda: next(pieces, b""), first, last)
-
-
-def by_shell(trace, first, last):
-    """What the lists' script tells of a trace of these bytes."""
-    program = support.file_of("cat_trace", b"#!/bin/sh\ncat " + support.file_of("cut.trace", trace).encode() + b"\n")
-    os.chmod(program, 0o755)
-    ended = subprocess.run(["sh", "-c", measuring.SCRIPT + '\n  echo "$said"\n  exit $status', "sh", "", "", "", str(first), str(last)],
-                           env=os.environ | {"program": program, "description": "", "image": ""}, capture_output=True, text=True, check=False)
-    found = measuring.read_taken(ended.stdout.strip())
-    assert (ended.returncode, ended.stderr) == (2 if found is None else 0, ""), ended
-    return found
-
-
-class Places(unittest.TestCase):
-    def test_one_in_each_part(self):
-        for steps, count, length, warm, seed in ((1000, 10, 100, 50, 1), (51205, 20, 100, 300, 2), (1 << 32, 50, 10000, 200000, 3)):
-            found = places.windows(steps, count, length, warm, seed)
-            for at, window in enumerate(found):
-                self.assertTrue(at * steps // count <= window.begin <= window.begin + length <= (at + 1) * steps // count, window)
-                self.assertEqual((window.number, window.warm, window.halved), (at, min(warm, window.begin), False))
-            self.assertEqual(found, places.windows(steps, count, length, warm, seed))
-            self.assertTrue(steps == count * length or found != places.windows(steps, count, length, warm, seed + 1))
-
-    def test_halved(self):
-        """Ten of those that begin cold, evenly; each before the same instructions."""
-        whole = [Window(at, 100 * at, min(500, 100 * at), False) for at in range(50)]
-        half = list(places.halved(whole))
-        self.assertEqual([window.number for window in half], [8, 12, 17, 21, 25, 30, 34, 39, 43, 47])
-        self.assertEqual({(window.begin - 100 * window.number, window.warm, window.halved) for window in half}, {(0, 250, True)})
-        self.assertEqual(list(places.halved(whole[:6])), [])
-        self.assertEqual([window.number for window in places.halved(whole[:8])], [6, 7])
-
-    def test_refusals(self):
-        for words, said in (((1000, 9, 1, 0, 1), "--windows is at least 10"), ((1000, 10, 0, 0, 1), "--length 1"),
-                            ((1000, 10, 1, -1, 1), "--warm 0"), ((1000, 11, 100, 0, 1), "`wadrelwy run` takes the whole")):
-            with self.assertRaisesRegex(Fault, said):
-                places.windows(*words)
-
-
-class Numbers(unittest.TestCase):
-    def test_student(self):
-        for degrees, quantile in ((5, 2.571), (9, 2.262), (19, 2.093), (49, 2.010), (1000000, 1.960)):
-            self.assertAlmostEqual(estimate.student(degrees), quantile, delta=0.01 if degrees < 9 else 0.001)
-
-    def test_taken_in(self):
-        """Of rows that retire none, one, three and two."""
-        rows = [b"1 fet:00010000\n", b"2 ret:0 fet:00010004\n", b"7 ret:1 ret:2 ret:3\n", b"8\n", b"9 done:4 ret:4 ret:5\n", b"end exit 0 retired 6 cycles 9\n"]
-        for size in (1, 7, 30, 1000):
-            for first, last, told in ((0, 1, (0, 0, 2, 1)), (1, 2, (2, 1, 7, 4)), (2, 5, (7, 4, 9, 6)), (1, 6, (2, 1, 9, 6))):
-                self.assertEqual(taken_in(rows, first, last, size), Taken(*told))
-            for first, last in ((0, 7), (7, 8), (2, 7)):
-                self.assertIsNone(taken_in(rows, first, last, size))
-
-    def test_a_trace_that_is_cut(self):
-        """Of a trace that was cut anywhere the shell's way tells what the whole one does, or nothing; and so does the Python way."""
-        whole = (b"1 fet:00010000\n2 ret:0 fet:00010004\n7 ret:1 ret:2 ret:3\n8\n9 done:4 ret:4 ret:5 fet:00010008\n10 ret:6 call:6:0\n"
-                 b"end exit 0 retired 7 cycles 10\n")
-        for first, last, end in ((0, 1, 36), (1, 4, 56), (2, 5, 92), (4, 7, 110), (1, 8, 0)):
-            told = taken_in([whole], first, last)
-            self.assertEqual((by_shell(whole, first, last), told is None), (told, not end))
-            for length in range(end - 26, end + 2) if end else (len(whole) - 1,):
-                with self.subTest(first=first, last=last, length=length):
-                    self.assertIn(taken_in([whole[:length]], first, last), (told, None))
-                    self.assertIn(by_shell(whole[:length], first, last), (told, None))
-
-    def test_lines(self):
-        taken = Taken(5, 10, 105, 60)
-        self.assertEqual((measuring.read_taken(measuring.line_of(taken)), taken.each), (taken, 2.0))
-        for line in ("", "cycle 5 retired 10 to cycle 105 retired 10", "cycle 5 retired 10 to cycle 5 retired 60", "cycle 5 retired 10 to cycle 105",
-                     "end exit 0 retired 6 cycles 9"):
-            self.assertIsNone(measuring.read_taken(line))
-
-    def test_estimate(self):
-        """Three windows of 1, 2 and 3 cycles an instruction; two of them halved, which take a fourth and a half more."""
-        whole = {at: Taken(0, 0, 100 * (at + 1), 100) for at in range(3)}
-        made = estimate.estimate("core", {}, whole, {0: Taken(0, 0, 125, 100), 2: Taken(0, 0, 450, 100)})
-        self.assertEqual((made.mean, made.windows, made.compared), (2, 3, 2))
-        self.assertAlmostEqual(made.half, estimate.student(2) * statistics.stdev([1, 2, 3]) / 3 ** 0.5)
-        self.assertAlmostEqual(made.cold, 1.75 / 4)
-        self.assertAlmostEqual(made.wide, made.half + 2 * 1.75 / 4)
-        wide = made._replace(windows=20, half=0.4)
-        self.assertEqual(wide.needed, 320)
-        question = planned.Question("one", 1000, "exit 0", {"windows": 20, "length": 5, "warm": 7})
-        self.assertIn("+- 5 % may take some 320 windows", "\n".join(estimate.told(question, wide)))
-        self.assertNotIn("that is wide", "\n".join(estimate.told(question, made._replace(half=0.09))))
-
-
-class Touching(unittest.TestCase):
-    def test_lines(self):
-        """The lines that aren't zero, without code and without what is cut at memory's end."""
-        memory = bytearray(1000)
-        for at in (0, 63, 64, 200, 640, 990):
-            memory[at] = 1
-        self.assertEqual(touching.lines_of(memory, 0x10000, 64, [(0x10040, 0x10044)]), [0x10000, 0x100c0, 0x10280])
-        self.assertEqual(touching.lines_of(memory, 0x10010, 64, []), [0x10040, 0x10080 + 0x40, 0x10280])
-
-    def test_chosen(self):
-        """Where there are more lines than the caches hold, those that changed come first."""
-        lines = [64 * at for at in range(10)]
-        self.assertEqual(touching.chosen(lines, [300, 600], 64, 10), lines)
-        self.assertEqual(touching.chosen(lines, [300, 600], 64, 4), [0, 64, 256, 576])
-
-    def test_stretches(self):
-        """Each line is in a stretch, and there are 40 at most: the smallest gaps are closed."""
-        self.assertEqual(touching.stretches([0, 64, 192], 64), [(0, 128), (192, 256)])
-        lines = [1024 * at for at in range(30)] + [30 * 1024 + 128 * at for at in range(30)]
-        found = touching.stretches(lines, 64)
-        self.assertEqual((len(found), found[-1]), (30 + 1, (30 * 1024, 30 * 1024 + 29 * 128 + 64)))
-        self.assertEqual(touching.stretches([], 64), [])
-
-    def test_code(self):
-        """The code loads a word of each line, in as many steps as it says, and stores nothing."""
-        for line, found in ((64, [(0x20000, 0x20040), (0x20800, 0x20980)]), (4, [(0x30ffc, 0x31004)])):
-            code, steps = touching.touching(found, line)
-            self.assertLessEqual(len(code), touching.SIZE)
-            path = support.file_of("touching.elf", support.elf([(5, BASE, code, len(code))]))
-            image = load(path, read_description(support.example("medium.toml")))
-            run = Hart(image)
-            taken = list(run.run(steps))
-            self.assertEqual((len(taken), run.pc, run.end, bytes(run.memory.data)), (steps, BASE + len(code), None, bytes(image.memory)))
-            self.assertEqual([step.access.address for step in taken if step.access], [at for low, high in found for at in range(low, high, line)])
 
 
 class Chain(Folder):
@@ -313,12 +199,19 @@ class Sampling(Folder):
             with self.subTest(row):
                 if begin >= 100:
                     self.assertEqual(taken, sum(costs[int(row["units.mul_latency"])][begin:begin + 100]))
-                self.assertEqual(int(row["last"]) - int(row["first"]), 100)
+                self.assertEqual((row["retired"], row["odd_words"]), ("100", "100"))
+                self.assertEqual(int(row["mul"]), sum(cost > 1 for cost in costs[3][begin:begin + 100]))
         for row in self.rows("estimates.csv"):
             whole = (sum(costs[int(row["units.mul_latency"])]) + 100) / RETIRED
             self.assertLess(abs(float(row["cycles_per_instruction"]) - whole), float(row["half_interval"]))
             self.assertEqual((row["retired"], row["end"], row["windows"], row["is_proved"]), (str(RETIRED), "exit 0", "10", "False"))
             self.assertEqual((row["halved_windows"], float(row["halved_adds"])), ("9", 0))
+        muls = sum(cost > 1 for cost in costs[3])
+        for row in self.rows("figures.csv"):
+            if row["figure"] == "mul":
+                self.assertLess(abs(float(row["value"]) - 1000 * muls / RETIRED), float(row["half_interval"]))
+                self.assertEqual(row["from"], "1000 * mul / retired")
+        self.assertEqual([row["figure"] for row in self.rows("figures.csv")], 2 * ["cycles_per_instruction", "odd_words", "mul", "slots_1"])
         self.assertIn("No theorem ties an estimate to a run.", told.stdout)
         self.assertEqual(json.loads(open(os.path.join(self.out, "estimates.json"), encoding="utf-8").read())[0]["retired"], RETIRED)
 
@@ -326,8 +219,7 @@ class Sampling(Folder):
         """Of a warm-up of 60, behind the 63 that set the registers, nothing is cold; with half of it seven of the 100 are."""
         told = self.sample(*SHORT, "--warm", "60", "--no-touch", "--set", "units.mul_latency=1")
         self.assertEqual(told.returncode, 0)
-        half = [row for row in self.rows() if row["halved"] == "True"]
-        self.assertEqual({int(row["last_cycle"]) - int(row["first_cycle"]) for row in half}, {107})
+        self.assertEqual({(row["halved"], int(row["last_cycle"]) - int(row["first_cycle"])) for row in self.rows()}, {("False", 100), ("True", 107)})
         self.assertIn("with half the warm-up 10 of the windows take +7.0 %", told.stdout)
 
     def test_goes_on(self):
@@ -380,7 +272,7 @@ class Sampling(Folder):
         return subprocess.run(["sh", "-c", line], cwd=self.folder, env=os.environ | more, stderr=subprocess.DEVNULL, check=False).returncode
 
     def test_interrupted(self):
-        child = subprocess.Popen([support.TOOL, "sample", self.image, self.description, "-o", self.out, "--program", self.program, *SHORT],
+        child = subprocess.Popen([support.TOOL, "sample", self.image, self.description, "-o", self.out, *self.programs, *SHORT],
                                  stdout=subprocess.PIPE, stderr=subprocess.PIPE, text=True, start_new_session=True)
         for _ in range(600):
             if self.measured() > 2:
@@ -425,26 +317,28 @@ class Sampling(Folder):
         self.assertIn("two_loops: 4294967295 instructions, cut there by --steps", told.stdout)
 
 
-@unittest.skipUnless(support.PROGRAM, support.NO_PROGRAM)
+@unittest.skipUnless(support.PROGRAM and built_programs.counting(), "the programs aren't built (stt_cli and stt_stats)")
 class Program(Folder):
     def test_with_the_run_before_each(self):
         """Where the warm-up reaches to the run's begin each window is one of the whole run's trace, and they're no estimate but counted."""
-        self.program = support.PROGRAM
-        image = support.file_of("long.elf", generated_image(5, 12))
-        told = subprocess.run([support.TOOL, "sample", image, support.example("core.toml"), "-o", self.out, "--windows", "10", "--length", "5",
-                               "--warm", "100000"], capture_output=True, text=True)
+        image, core = support.file_of("long.elf", generated_image(5, 12)), support.example("core.toml")
+        told = subprocess.run([support.TOOL, "sample", image, core, "-o", self.out, "--windows", "10", "--length", "5", "--warm", "100000"],
+                              capture_output=True, text=True)
         self.assertEqual((told.returncode, told.stderr), (0, ""))
-        trace = [line.encode() for line in support.trace_of(support.example("core.toml"), image, 1000000)]
+        trace, retired, cycle_of = support.trace_of(core, image, 1000000), 0, [0]
+        for line in filter(lambda line: line[0].isdigit(), trace):
+            retired += line.count(" ret:")
+            cycle_of += [int(line.split()[0])] * (retired + 1 - len(cycle_of))
         for row in self.rows():
             begin = int(row["begin"])
             self.assertEqual(row["warm"], row["begin"])
-            self.assertEqual([int(row[name]) for name in Taken._fields], list(taken_in(trace, begin, begin + 5)))
+            self.assertEqual([int(row["first_cycle"]), int(row["last_cycle"])], [cycle_of[begin], cycle_of[begin + 5]])
         self.assertIn("cold start: not asked", told.stdout)
 
     def test_estimate_beside_the_run(self):
         """Of the two loops the windows tell the whole run to a twentieth."""
         told = subprocess.run([support.TOOL, "sample", self.image, self.description, "-o", self.out, "--windows", "20", "--length", "300",
-                               "--warm", "1500", "--program", support.PROGRAM], capture_output=True, text=True)
+                               "--warm", "1500"], capture_output=True, text=True)
         self.assertEqual((told.returncode, told.stderr), (0, ""))
         run = support.run_program("run", self.description, self.image, "--cycles", "1000000").stdout.splitlines()[-1].split()
         self.assertEqual(int(run[4]), RETIRED)

@@ -1,4 +1,4 @@
-"""Cycles of a long run from short windows of it, in a fraction of its time: an estimate, with what it is worth.
+"""Cycles and what else is counted of a long run, from short windows of it, in a fraction of its time: an estimate, with what it is worth.
 
     wadrelwy sample IMAGE DESCRIPTION.. [-o FOLDER] [--windows M] [--length L] [--warm W] [--steps N] [--set KEY=VALUE,..].. [--defences]
     wadrelwy sample IMAGE DESCRIPTION.. [..] --list [--pack] [--tasks N] [--minutes N] [--memory MEGABYTES]
@@ -7,19 +7,22 @@
 `isa` goes over the run, a hundred times as fast as a core does, and leaves images that go on at M places, each made of the one before as
 `wadrelwy continue` makes them: one in each of M equal parts of the run, by chance within its part. In a core that begins cold there, a word of
 each line of data that isn't zero is loaded, so that the caches aren't empty (--no-touch: they are); W instructions go by, and then L are
-measured. What comes is the mean in cycles per instruction, with the 95 % interval of a mean; and, of ten of the windows, what they take with
-half the warm-up: by so much the cold start may still count. What stays cold longest is the predictor. Without more M is 50, L 50000, W 200000. A
-run that is hardly longer than M times W is better run as a whole. --steps N takes the first N instructions for the run; without it a run that
-doesn't end within 4294967295 is refused. --at names the place of the instructions that come first, as for `continue`; a program that uses their
-place is refused.
+measured, by `stt_stats --every`. What comes is the mean in cycles per instruction, and each other number that stt_stats counts for a thousand
+instructions, with the 95 % interval of a mean; and, of twenty of the windows, what they take with half the warm-up: by so much the cold start may
+still count. What stays cold longest is the predictor. Without more M is 150, L 10000, W 60000. A run that is hardly longer than M times W is better
+run as a whole. --steps N takes the first N instructions for the run; without it a run that doesn't end within 4294967295 is refused. --at names the
+place of the instructions that come first, as for `continue`; a program that uses their place is refused.
 
 No theorem ties an estimate to a run. Each image is one of which all promises hold; that they are like the run that was asked for is what the two
 numbers are for.
 
-FOLDER, without -o IMAGE's name and `.sample`, gets copies of the images, the descriptions and the simulator by names that have their digests, a
-file for each window that was measured, and at the end estimates.csv and estimates.json with a row for each description, windows.csv with one for
-each window, and the file summary. Where it was stopped the same command, or `wadrelwy sample -o FOLDER` alone, goes on. --list, --gather and the
-words with them are those of `wadrelwy sweep`.
+Windows are measured as soon as the image before them is there, as many at once as --jobs says, without it as there are processors. P of --program
+is the simulator, and P2 of --stats-program what counts: without them as for `wadrelwy sweep`.
+
+FOLDER, without -o IMAGE's name and `.sample`, gets copies of the images, the descriptions and the programs by names that have their digests, a
+file for each window that was measured, and at the end estimates.csv and estimates.json with a row for each description, figures.csv with one for
+each figure of each, windows.csv with one for each window, and the file summary. Where it was stopped the same command, or
+`wadrelwy sample -o FOLDER` alone, goes on. --list, --gather and the words with them are those of `wadrelwy sweep`.
 
 The status is 0 where all windows are measured, 3 where some are missing, 16 where a window has two results, which contradicts
 what is proved, 2 for a refusal, 130 if interrupted."""
@@ -41,9 +44,9 @@ def words(parser: ArgumentParser) -> None:
     parser.add_argument("image", nargs="?", metavar="IMAGE")
     parser.add_argument("descriptions", nargs="*", default=[], metavar="DESCRIPTION")
     parser.add_argument("-o", dest="output", metavar="FOLDER")
-    parser.add_argument("--windows", type=number, default=50, metavar="M")
-    parser.add_argument("--length", type=number, default=50000, metavar="L", help="in instructions")
-    parser.add_argument("--warm", type=number, default=200000, metavar="W", help="in instructions")
+    parser.add_argument("--windows", type=number, default=150, metavar="M")
+    parser.add_argument("--length", type=number, default=10000, metavar="L", help="in instructions")
+    parser.add_argument("--warm", type=number, default=60000, metavar="W", help="in instructions")
     parser.add_argument("--steps", type=number, metavar="N", help="take the first N instructions for the run")
     parser.add_argument("--seed", type=number, default=1, metavar="S", help="of the places within their parts")
     parser.add_argument("--touch", action=BooleanOptionalAction, default=True, help="load what may be in the caches before the warm-up")
@@ -52,6 +55,7 @@ def words(parser: ArgumentParser) -> None:
     parser.add_argument("--defences", action="store_true", help=settings.TOLD)
     parser.add_argument("--jobs", type=number, default=len(os.sched_getaffinity(0)), metavar="N")
     parser.add_argument("--program", metavar="P")
+    parser.add_argument("--stats-program", metavar="P2")
     lists.words(parser)
 
 
@@ -70,18 +74,24 @@ def checked(asked: Namespace) -> None:
 def made_of(asked: Namespace) -> tuple[plan.Plan, planned.Question]:
     """The plan of the words, or the one that the folder has."""
     if asked.image:
-        return planned.make(asked, built_programs.needed(built_programs.SIMULATOR, asked.program))
+        simulator = built_programs.needed(built_programs.SIMULATOR, asked.program)
+        counting = built_programs.counting(asked.program, asked.stats_program)
+        if counting is None:
+            raise Fault(f"no program {built_programs.STATS} {asked.stats_program or f'beside {simulator}'}: build it (docs/using.md, \"Count a run\"), "
+                        f"or name it by --stats-program or {built_programs.STATS.upper()}")
+        return planned.make(asked, simulator, counting)
     made = planned.read(asked.output)
-    plan.check_sources(made[0], built_programs.said(built_programs.SIMULATOR, asked.program))
+    plan.check_sources(made[0], built_programs.said(built_programs.STATS, asked.stats_program))
     return made
 
 
 def write_estimates(made: plan.Plan, question: planned.Question) -> int:
     """Writes what is there, names what is missing, and answers the status."""
-    found = estimate.found_in(made)
+    found = estimate.found_in(made, question)
     rows = list(estimate.records(question, found, made.cited))
     lines = [*estimate.summary(question, found), f"by {made.cited}"]
     files = {"estimates.csv": estimate.as_csv(rows), "estimates.json": estimate.as_json(rows),
+             "figures.csv": estimate.as_csv(estimate.figure_records(found)),
              "windows.csv": estimate.as_csv(estimate.window_records(found)), "summary": "".join(f"{line}\n" for line in lines)}
     for name, text in files.items():
         write(made.path(name), text.encode())
@@ -93,14 +103,15 @@ def write_estimates(made: plan.Plan, question: planned.Question) -> int:
 def main(asked: Namespace) -> int:
     checked(asked)
     made, question = made_of(asked)
+    asks = planned.asks_of(question)
     if asked.list:
-        print(*lists.written(made, planned.SAMPLE, planned.PLAN, asked, asked.output, f"wadrelwy sample -o {asked.output} --gather"), sep="\n")
+        print(*lists.written(made, asks, planned.PLAN, asked, asked.output, f"wadrelwy sample -o {asked.output} --gather"), sep="\n")
         return statuses.HOLDS
     try:
         if asked.others:
-            print(f"{results.brought(made, planned.SAMPLE, asked.others)} results came from {', '.join(asked.others)}")
+            print(f"{results.brought(made, asks, asked.others)} results came from {', '.join(asked.others)}")
         if not asked.gather:
-            planned.Measurer(made, asked.jobs, planned.SAMPLE).all()
+            planned.Measurer(made, asked.jobs, asks).all()
         return write_estimates(made, question)
     except results.Refuted as refuted:
         print(f"wadrelwy sample: refuted: {refuted}", file=sys.stderr)

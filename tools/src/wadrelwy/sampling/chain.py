@@ -1,17 +1,15 @@
 """Images that begin at places of a run, each made of the one before it: so the instruction set's run is gone over once, however many there are."""
 from typing import NamedTuple, Optional
 
-from wadrelwy import Fault, built_programs
+from wadrelwy import Fault
 from wadrelwy.going_on import room, stub, written
-from wadrelwy.going_on.report import Report, read_report
+from wadrelwy.going_on.report import Report, Stretch, read_report
 from wadrelwy.going_on.standing import Standing, see_code
 from wadrelwy.machine import notes
 from wadrelwy.sweep.running import RAN, said_of
 from wadrelwy.verdict.loaded import Loaded
 
 from . import touching
-
-ROW = 16
 
 
 def report(program: str, image: str, steps: int, description: str) -> Report:
@@ -21,6 +19,12 @@ def report(program: str, image: str, steps: int, description: str) -> Report:
     if status not in RAN:
         raise Fault(f"{' '.join(words)}: status {status}, {notes.told(note, {})} (docs/using.md, \"Refusals\")")
     return read_report(said)
+
+
+def put(memory: bytearray, base: int, changed: tuple[Stretch, ...]) -> None:
+    """Puts these stretches into memory, which begins at `base`."""
+    for address, data in changed:
+        memory[address - base:address - base + len(data)] = data
 
 
 class Caches(NamedTuple):
@@ -45,12 +49,10 @@ class Chain:
 
     def moved(self, told: Report, steps: int) -> None:
         """Takes over what a run of the last image has changed."""
-        own = range(self.at - self.at % ROW, self.at + self.size)
-        if any(address in own for address in told.rows):
+        if any(start < self.at + self.size and self.at < start + len(data) for start, data in told.changed):
             raise Fault(f"{self.image.name}: the run uses {self.at:08x}, where the instructions stand that set the registers; --at ADDRESS "
                         "names another place")
-        for address, row in told.rows.items():
-            self.memory[address - self.image.base:address - self.image.base + len(row)] = row
+        put(self.memory, self.image.base, told.changed)
         self.done, self.out = steps, self.out + told.out
 
     def to(self, steps: int) -> bytes:
@@ -59,21 +61,22 @@ class Chain:
         if not told.goes_on:
             raise Fault(f"{self.image.name}: the run ends after {told.retired} steps behind {self.done}, and not after {self.whole.retired}")
         self.moved(told, steps)
-        standing = Standing(self.image, told, bytes(self.memory), frozenset(told.rows))
+        standing = Standing(self.image, told, bytes(self.memory), frozenset())
         see_code(standing)
-        code, steps = self.touched(told)
+        code, steps = self.touched(standing)
         code += stub.stub(self.at + len(code), told.registers, told.pc)
         self.extra = steps + stub.STEPS
         return written.elf_file(written.segments(standing, self.at, code), self.symbols, self.at)
 
-    def touched(self, told: Report) -> tuple[bytes, int]:
+    def touched(self, standing: Standing) -> tuple[bytes, int]:
         """The code that loads what may be in the caches, and its steps."""
         if self.caches is None:
             return b"", 0
-        codes = [(start, start + len(data)) for start, data in self.image.pieces]
-        lines = touching.lines_of(self.memory, self.image.base, self.caches.line, codes)
-        lines = touching.chosen(lines, told.rows, self.caches.line, self.caches.lines)
-        return touching.touching(touching.stretches(lines, self.caches.line), self.caches.line)
+        line, codes = self.caches.line, [(start, start + len(data)) for start, data in self.image.pieces]
+        late = touching.lines_in(standing.report.changed, line)
+        lines = touching.chosen(touching.lines_of(standing.memory, self.image.base, line, codes), late, self.caches.lines)
+        again = [address for address in lines if address in late]
+        return touching.touching(touching.stretches(lines, line) + touching.stretches(again, line), line)
 
     def check_end(self) -> None:
         """The run of the last image ends as the whole run does, with what all put out: so the program used the place of the first instructions
@@ -83,9 +86,8 @@ class Chain:
         told = report(self.program, self.path, left + (not self.whole.goes_on), self.description)
         self.moved(told, self.whole.retired)
         memory = bytearray(self.image.memory)
-        for address, row in self.whole.rows.items():
-            memory[address - self.image.base:address - self.image.base + len(row)] = row
-        ended = told._replace(rows={}, retired=told.retired - left, out=self.out) == self.whole._replace(rows={}, retired=0)
+        put(memory, self.image.base, self.whole.changed)
+        ended = told._replace(changed=(), retired=told.retired - left, out=self.out) == self.whole._replace(changed=(), retired=0)
         if not ended or memory != self.memory:
             raise Fault(f"{self.image.name}: gone on with from one place to the next, the run ends otherwise than the whole one: it uses "
                         f"{self.at:08x}, where the instructions stand that set the registers; --at ADDRESS names another place")

@@ -6,7 +6,7 @@ from wadrelwy import Fault
 
 FEWEST = 10
 # of so many windows the warm-up is halved, to see what is left of the cold start
-HALVED = 10
+HALVED = 20
 
 
 class Window(NamedTuple):

@@ -1,15 +1,15 @@
 """The windows of an image under descriptions as a plan (module `wadrelwy.sweep.plan`), and the question that they are of."""
 import json
 import os
-import subprocess
 import sys
 import time
 from argparse import Namespace
-from typing import Any, NamedTuple, Optional
+from concurrent.futures import Future, ThreadPoolExecutor, as_completed
+from types import TracebackType
+from typing import Any, Iterator, NamedTuple, Optional
 
 from wadrelwy import Fault
 from wadrelwy.going_on.report import Report
-from wadrelwy.machine import notes
 from wadrelwy.machine.words import MOST
 from wadrelwy.sweep import plan, running, settings
 from wadrelwy.sweep.kept import IMAGE_MAX, cited, content, copied, plain, sha256, source, write
@@ -24,27 +24,32 @@ KEYS = ("windows", "length", "warm", "seed", "steps", "at", "touch", "set", "def
 
 
 class Question(NamedTuple):
-    """What was asked: the image's name, how many instructions it retires and how it ends in each memory that a description gives, and the
-    words of the command."""
+    """What was asked: the image's name, how many instructions it retires and how it ends in each memory that a description gives, the words of
+    the command, and the names of what is counted."""
     program: str
     retired: int
     end: str
     asked: dict[str, Any]
+    names: measuring.Names
 
 
 class Asks:
     """What is run for a window, and what of it is kept; its words have which window it is."""
     more, whole, statuses = measuring.MORE, measuring.WHOLE, measuring.STATUSES
 
+    def __init__(self, names: measuring.Names, length: int) -> None:
+        self.names, self.length = names, length
+
     def script(self, made: plan.Plan) -> str:
-        return measuring.SCRIPT
+        return measuring.script(self.names, self.length)
 
     def kept(self, said: str) -> Optional[str]:
         line = said.strip()
         return line if measuring.read_taken(line) else None
 
 
-SAMPLE = Asks()
+def asks_of(question: Question) -> Asks:
+    return Asks(question.names, question.asked["length"])
 
 
 class Measurer(running.Runner):
@@ -54,43 +59,69 @@ class Measurer(running.Runner):
         if self.stopped:
             return
         self.plan.check(run)
-        began: list[subprocess.Popen[bytes]] = []
+        first, last = map(int, run.words)
+        window = measuring.Window(self.plan.path(self.plan.program), self.plan.path(run.description), self.plan.path(run.image), first, last)
         try:
-            program, description, image = (self.plan.path(name) for name in (self.plan.program, *run.files))
-            first, last = map(int, run.words)
-            taken = measuring.measured(program, description, image, first, last, self.began(began))
+            taken = measuring.measured(window, self.asks.names, self.children)
         except Fault:
             if self.stopped:
                 return
             raise
-        finally:
-            self.children.difference_update(began)
         self.plan.check(run)
         write(self.plan.path(run.result), line_of(run, measuring.line_of(taken)).encode())
 
-    def began(self, kept: list["subprocess.Popen[bytes]"]) -> measuring.Begun:
-        def begun(child: "subprocess.Popen[bytes]") -> None:
-            kept.append(child)
-            self.children.add(child)
-        return begun
+
+class Beside:
+    """Measures windows while the images of further ones are made."""
+
+    def __init__(self, measurer: Measurer) -> None:
+        self.measurer, self.pool = measurer, ThreadPoolExecutor(measurer.jobs)
+        self.waiting: list["Future[None]"] = []
+
+    def __enter__(self) -> "Beside":
+        return self
+
+    def add(self, run: plan.Run) -> None:
+        """A window whose image is there. One that went wrong ends all."""
+        for over in [each for each in self.waiting if each.done()]:
+            self.waiting.remove(over)
+            over.result()
+        if not os.path.exists(self.measurer.plan.path(run.result)):
+            self.waiting.append(self.pool.submit(self.measurer.one, run))
+
+    def __exit__(self, kind: Optional[type[BaseException]], fault: Optional[BaseException], trace: Optional[TracebackType]) -> None:
+        begun = time.monotonic()
+        try:
+            if kind is not None:
+                self.measurer.stop(self.waiting)
+                return
+            for done, over in enumerate(as_completed(self.waiting), 1):
+                over.result()
+                running.tell(self.measurer.screen, "windows", done, len(self.waiting), time.monotonic() - begun)
+        except BaseException:
+            self.measurer.stop(self.waiting)
+            raise
+        finally:
+            running.clear(self.measurer.screen)
+            self.pool.shutdown()
 
 
-def question_of(asked: Namespace, simulator: str) -> dict[str, Any]:
+def question_of(asked: Namespace, programs: list[str]) -> dict[str, Any]:
     """All that the windows and their images follow from."""
-    files = {path: sha256(content(path)) for path in [simulator, asked.image, *asked.descriptions]}
+    files = {path: sha256(content(path)) for path in [*programs, asked.image, *asked.descriptions]}
     return {key: getattr(asked, key) for key in KEYS} | {"files": files}
 
 
-def make(asked: Namespace, simulator: str) -> tuple[plan.Plan, Question]:
+def make(asked: Namespace, simulator: str, counting: str) -> tuple[plan.Plan, Question]:
     """The plan of these words with its images; the one that the folder has, where it is of these very words and files."""
     if content(asked.image)[:4] != b"\x7fELF":
         raise Fault(f"{asked.image}: no ELF image; the image comes first, and the descriptions behind it")
-    words = question_of(asked, simulator)
+    words = question_of(asked, [counting, simulator])
     if os.path.exists(os.path.join(asked.output, QUESTION)):
         found = read_question(asked.output)
         if found.asked == words:
             return plan.read(asked.output, PLAN), found
-    return Maker(asked, simulator, words).made()
+    return Maker(asked, simulator, counting, words).made()
 
 
 def read(folder: str) -> tuple[plan.Plan, Question]:
@@ -107,8 +138,16 @@ def read_question(folder: str) -> Question:
         raise Fault(f"{os.path.join(folder, QUESTION)}: no question of these tools: give the whole command again") from None
 
 
+class Setting(NamedTuple):
+    """A description's name, what is set in it, and the file made of it, with its text."""
+    base: str
+    values: dict[str, Any]
+    description: str
+    text: bytes
+
+
 class Begin(NamedTuple):
-    """An image, and how many steps it takes before it goes on where its name says."""
+    """An image, whose name has digits of its sha256, and how many steps it takes before it goes on where its name says."""
     image: str
     extra: int
 
@@ -119,82 +158,103 @@ def caches_of(values: dict[str, Any]) -> chain.Caches:
     return chain.Caches(number["line"], number["sets"] * number["ways"] + number["second_sets"] * max(number["second_ways"], 1))
 
 
-class Maker:
-    """Makes a plan: the windows are those of the image's run, their images one chain for each memory, and caches, that the descriptions give."""
+class Memory(NamedTuple):
+    """The memory that a description gives, and its caches, where they are touched: what images follow from."""
+    base: int
+    size: int
+    misaligned: int
+    caches: Optional[chain.Caches]
 
-    def __init__(self, asked: Namespace, simulator: str, words: dict[str, Any]) -> None:
+
+class Maker:
+    """Makes a plan: the windows are those of the image's run, their images one chain for each memory, and caches, that the descriptions give.
+    Windows are measured as soon as their image is there, unless lists of them are asked for."""
+
+    def __init__(self, asked: Namespace, simulator: str, counting: str, words: dict[str, Any]) -> None:
         self.asked, self.words, self.folder = asked, words, asked.output
-        self.sources = [source(path) for path in [simulator, asked.image, *asked.descriptions]]
-        self.copy = copied(self.folder, "programs", os.path.basename(simulator), "", content(simulator), executable=True)
-        self.cited = cited(simulator, os.path.basename(simulator))
+        self.sources = [source(path) for path in [counting, asked.image, *asked.descriptions, simulator]]
+        self.simulator, self.copy = (copied(self.folder, "programs", os.path.basename(path), "", content(path), executable=True)
+                                     for path in (simulator, counting))
+        also = f"{os.path.basename(simulator)} sha256 {self.sources[-1].sha256}, "
+        self.cited = also + cited(counting, os.path.basename(counting))
         self.name = os.path.splitext(os.path.basename(asked.image))[0]
+        self.wholes: dict[tuple[int, int, int], Report] = {}
         os.makedirs(os.path.join(self.folder, "results"), exist_ok=True)
 
     def path(self, name: str) -> str:
         return os.path.join(self.folder, name)
 
+    def plan_of(self, runs: list[plan.Run]) -> plan.Plan:
+        return plan.Plan(self.folder, measuring.FOREVER, plan.sets_of(self.asked)[1], self.copy, self.cited, self.sources, runs)
+
     def made(self) -> tuple[plan.Plan, Question]:
-        sets, keys = plan.sets_of(self.asked)
-        runs: list[plan.Run] = []
-        chains: dict[tuple[Any, ...], tuple[list[places.Window], dict[int, Begin]]] = {}
-        wholes: set[tuple[str, int]] = set()
-        for base, values, description, text in plan.described(self.folder, self.asked, sets):
-            memory = self.memory_of(description)
-            if memory not in chains:
-                chains[memory], whole = self.images(description, memory[-1] if self.asked.touch else None)
-                wholes.add(whole)
-            windows, images = chains[memory]
-            runs += [self.run(base, values, description, text, window, images[window.start]) for window in windows]
+        parts: dict[Memory, list[Setting]] = {}
+        names: set[measuring.Names] = set()
+        order: list[str] = []
+        for each in plan.described(self.folder, self.asked, plan.sets_of(self.asked)[0]):
+            setting = Setting(*each)
+            names.add(tuple(measuring.names_of(self.path(self.copy), self.path(setting.description), self.asked.image)))
+            parts.setdefault(self.memory_of(setting.description), []).append(setting)
+            order.append(setting.description)
+        wholes = {(whole.end, whole.retired) for whole in (self.whole(memory, part[0]) for memory, part in parts.items())}
         if len(wholes) > 1:
             raise Fault(f"{self.asked.image} runs otherwise in the descriptions' unlike memories: ask of each by itself")
-        made = plan.Plan(self.folder, measuring.FOREVER, keys, self.copy, self.cited, self.sources, runs)
         end, retired = wholes.pop()
-        question = Question(self.name, retired, end, self.words)
+        question = Question(self.name, retired, end, self.words, names.pop())
+        made = self.plan_of(sorted(self.runs(parts, question), key=lambda run: (order.index(run.description), run.values["halved"], run.values["window"])))
         plan.keep(made, PLAN)
         write(self.path(QUESTION), json.dumps(question._asdict()).encode())
         return made, question
 
-    def memory_of(self, description: str) -> tuple[Any, ...]:
-        """Refuses what the program refuses, and answers what memory the description gives."""
-        said, note, status = running.said_of([self.path(self.copy), "run", self.path(description), self.asked.image, "--cycles", "1"])
-        if status not in running.RAN:
-            raise Fault(f"{description}: status {status}, {notes.told(note, {}) or said[-60:].strip()} (docs/using.md, \"Refusals\")")
-        values = settings.parsed(content(self.path(description)).decode(), description)
-        return *(values.get(f"ram.{key}", 0) for key in ("base", "size", "misaligned")), *((caches_of(values),) if self.asked.touch else ())
-
-    def whole(self, where: str) -> Report:
-        """The instruction set's run. What the budget of all steps ends is no whole run, and is taken for one only where the words say so."""
-        found = chain.report(self.path(self.copy), self.asked.image, self.asked.steps or MOST, where)
-        if found.goes_on and self.asked.steps is None:
-            raise Fault(f"{self.asked.image}: the run doesn't end within {MOST} instructions; --steps N takes the first N for the run")
+    def runs(self, parts: dict[Memory, list[Setting]], question: Question) -> list[plan.Run]:
+        """The windows of all settings, measured on the way."""
+        if self.asked.list or self.asked.gather:
+            return [run for memory, part in parts.items() for run in self.windows(memory, part, question.retired)]
+        found = []
+        with Beside(Measurer(self.plan_of([]), self.asked.jobs, asks_of(question))) as beside:
+            for memory, part in parts.items():
+                for run in self.windows(memory, part, question.retired):
+                    beside.add(run)
+                    found.append(run)
         return found
 
-    def images(self, description: str, caches: Optional[chain.Caches]) -> tuple[tuple[list[places.Window], dict[int, Begin]], tuple[str, int]]:
-        """The windows of the whole run in a description's memory, the image before each by the steps before it, and how the run ends."""
-        asked, program, where = self.asked, self.path(self.copy), self.path(description)
-        image = load(asked.image, read_description(where))
-        whole = self.whole(where)
-        windows = places.windows(whole.retired, asked.windows, asked.length, asked.warm, asked.seed)
+    def memory_of(self, description: str) -> Memory:
+        values = settings.parsed(content(self.path(description)).decode(), description)
+        base, size, misaligned = (values.get(f"ram.{key}", 0) for key in ("base", "size", "misaligned"))
+        return Memory(base, size, misaligned, caches_of(values) if self.asked.touch else None)
+
+    def whole(self, memory: Memory, setting: Setting) -> Report:
+        """The instruction set's run. What the budget of all steps ends is no whole run, and is taken for one only where the words say so."""
+        if memory[:3] not in self.wholes:
+            found = chain.report(self.path(self.simulator), self.asked.image, self.asked.steps or MOST, self.path(setting.description))
+            if found.goes_on and self.asked.steps is None:
+                raise Fault(f"{self.asked.image}: the run doesn't end within {MOST} instructions; --steps N takes the first N for the run")
+            self.wholes[memory[:3]] = found
+        return self.wholes[memory[:3]]
+
+    def windows(self, memory: Memory, part: list[Setting], steps: int) -> Iterator[plan.Run]:
+        """The windows of settings in one memory, as soon as the image before each is there."""
+        asked, where = self.asked, self.path(part[0].description)
+        windows = places.windows(steps, asked.windows, asked.length, asked.warm, asked.seed)
         windows += places.halved(windows)
-        begun, images = time.monotonic(), {}
-        going = chain.Chain(program, image, where, whole, asked.at, caches)
+        begun, going = time.monotonic(), chain.Chain(
+            self.path(self.simulator), load(asked.image, read_description(where)), where, self.whole(memory, part[0]), asked.at, memory.caches)
         starts = sorted({window.start for window in windows})
         for done, start in enumerate(starts, 1):
             data = going.to(start) if start else content(asked.image, IMAGE_MAX)
-            images[start] = Begin(copied(self.folder, "images", f"{self.name}-{start}", ".elf", data), going.extra if start else 0)
-            if start:
-                going.path = self.path(images[start].image)
+            begin = Begin(copied(self.folder, "images", f"{self.name}-{start}", ".elf", data), going.extra if start else 0)
+            going.path = self.path(begin.image) if start else going.path
+            yield from (self.run(setting, window, begin) for window in windows if window.start == start for setting in part)
             running.tell(sys.stderr, "places", done, len(starts), time.monotonic() - begun)
         going.check_end()
         running.clear(sys.stderr)
-        return (windows, images), (whole.end, whole.retired)
 
-    def run(self, base: str, values: dict[str, Any], description: str, text: bytes, window: places.Window, begin: Begin) -> plan.Run:
+    def run(self, setting: Setting, window: places.Window, begin: Begin) -> plan.Run:
         """A window as a run of the plan: its words are how many retire in the new image before the window, and behind it."""
-        image, first = begin.image, begin.extra + window.warm
+        first = begin.extra + window.warm
         words = [str(first), str(first + self.asked.length)]
-        digest = sha256(content(self.path(image)))
-        name = sha256(" ".join([self.sources[0].sha256, digest, sha256(text), *words]).encode())[:16]
-        told = values | {"window": window.number, "begin": window.begin, "warm": window.warm, "halved": window.halved}
-        return plan.Run(self.name, image, os.path.abspath(self.asked.image), base, description, told, os.path.join("results", f"{plain(self.name)}_{name}"),
-                        words, cost=window.warm + self.asked.length)
+        name = sha256(" ".join([self.sources[0].sha256, begin.image, sha256(setting.text), *words]).encode())[:16]
+        told = setting.values | {"window": window.number, "begin": window.begin, "warm": window.warm, "halved": window.halved}
+        result = os.path.join("results", f"{plain(self.name)}_{name}")
+        return plan.Run(self.name, begin.image, os.path.abspath(self.asked.image), setting.base, setting.description, told, result, words,
+                        cost=window.warm + self.asked.length)
