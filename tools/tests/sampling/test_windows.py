@@ -5,6 +5,7 @@ import subprocess
 import unittest
 
 import support
+from wadrelwy.counting.numbers import Figure
 from wadrelwy.sampling import estimate, measuring, places, planned, touching
 from wadrelwy.sampling.measuring import Taken
 from wadrelwy.sampling.places import Window
@@ -130,6 +131,14 @@ class Numbers(unittest.TestCase):
         self.assertIn("+- 5 % may take some 320 windows", "\n".join(estimate.told(question, wide)))
         narrow = {**made.figures, "cycles_per_instruction": made.cycles._replace(half=0.1)}
         self.assertNotIn("that is wide", "\n".join(estimate.told(question, made._replace(figures=narrow))))
+
+    def test_share_of_another_number(self):
+        """A figure that isn't for an instruction is a sum over the sum of what it is divided by, and so is how far each window is off."""
+        windows = [Taken(0, cycles, {"retired": 100, "slots_1": slots}) for cycles, slots in ((100, 300), (300, 100), (100, 100))]
+        share = Figure(("slots_1",), 100, "cycles")
+        self.assertEqual(estimate.ratio(share, windows), 100)
+        # off by 20000, -20000 and 0, where a window has 500 / 3 cycles
+        self.assertAlmostEqual(estimate.half_of(share, 100, windows), estimate.student(1) * ((40000 ** 2 + 20000 ** 2) / 4 / 3) ** 0.5 / (500 / 3))
 
     def test_parts_that_are_unlike(self):
         """Of a run in two halves, each of which is all alike, the interval comes from the one step between them."""

@@ -41,9 +41,15 @@ class Value(NamedTuple):
         return self.half + abs(self.cold or 0)
 
 
+def divisor(figure: Figure) -> str:
+    """By which number a figure is divided."""
+    assert figure.divided is not None
+    return figure.divided
+
+
 def ratio(figure: Figure, windows: Sequence[Taken]) -> Optional[float]:
     """A figure of all these windows together."""
-    return figure.of({name: sum(counts_of(taken)[name] for taken in windows) for name in [*figure.added, RETIRED]})
+    return figure.of({name: sum(counts_of(taken)[name] for taken in windows) for name in [*figure.added, divisor(figure)]})
 
 
 def counts_of(taken: Taken) -> Mapping[str, int]:
@@ -56,16 +62,17 @@ def half_of(figure: Figure, value: float, windows: Sequence[Taken]) -> float:
     count = len(windows)
     if count < 2:
         return math.inf
-    mean = sum(taken.retired for taken in windows) / count
-    off = [figure.factor * sum(counts_of(taken)[name] for name in figure.added) - value * taken.retired for taken in windows]
+    each = [counts_of(taken) for taken in windows]
+    mean = sum(counts[divisor(figure)] for counts in each) / count
+    off = [figure.factor * sum(counts[name] for name in figure.added) - value * counts[divisor(figure)] for counts in each]
     squares = sum((after - before) ** 2 for before, after in zip(off, off[1:])) / (2 * (count - 1))
     return student(max(count // 2, 1)) * math.sqrt(squares / count) / mean
 
 
 def figures_of(names: Iterable[str]) -> dict[str, Figure]:
-    """What is told of a run: cycles per instruction and what else is reckoned of it, and each number for a thousand instructions."""
+    """What is told of a run: cycles per instruction and what else is reckoned as a share of something, and each number for a thousand instructions."""
     there = {CYCLES, *names}
-    found = {name: figure for name, figure in RECKONED.items() if there.issuperset(figure.added)}
+    found = {name: figure for name, figure in RECKONED.items() if figure.divided and there.issuperset([*figure.added, figure.divided])}
     return found | {name: Figure((name,), 1000, RETIRED) for name in names if name != RETIRED}
 
 
