@@ -205,7 +205,7 @@ class Sampling(Folder):
             whole = (sum(costs[int(row["units.mul_latency"])]) + 100) / RETIRED
             self.assertLess(abs(float(row["cycles_per_instruction"]) - whole), float(row["half_interval"]))
             self.assertEqual((row["retired"], row["end"], row["windows"], row["is_proved"]), (str(RETIRED), "exit 0", "10", "False"))
-            self.assertEqual((row["halved_windows"], float(row["halved_adds"])), ("9", 0))
+            self.assertEqual((row["longer_windows"], float(row["longer_changes"])), ("9", 0))
         muls = sum(cost > 1 for cost in costs[3])
         for row in self.rows("figures.csv"):
             if row["figure"] == "mul":
@@ -216,11 +216,22 @@ class Sampling(Folder):
         self.assertEqual(json.loads(open(os.path.join(self.out, "estimates.json"), encoding="utf-8").read())[0]["retired"], RETIRED)
 
     def test_cold_start(self):
-        """Of a warm-up of 60, behind the 63 that set the registers, nothing is cold; with half of it seven of the 100 are."""
-        told = self.sample(*SHORT, "--warm", "60", "--no-touch", "--set", "units.mul_latency=1")
+        """Behind the 63 that set the registers and a warm-up of 30 seven of the 100 are cold; with four times the warm-up nothing is, and so it is
+        in the estimate."""
+        told = self.sample(*SHORT, "--warm", "30", "--no-touch", "--set", "units.mul_latency=1")
         self.assertEqual(told.returncode, 0)
-        self.assertEqual({(row["halved"], int(row["last_cycle"]) - int(row["first_cycle"])) for row in self.rows()}, {("False", 100), ("True", 107)})
-        self.assertIn("with half the warm-up 10 of the windows take +7.0 %", told.stdout)
+        self.assertEqual({(row["longer"], int(row["last_cycle"]) - int(row["first_cycle"])) for row in self.rows()}, {("False", 107), ("True", 100)})
+        self.assertIn("core units.mul_latency=1: 1.0000 cycles per instruction, +- 0.0000", told.stdout)
+        self.assertIn("with 4 times the warm-up 10 of the windows take -7.0 %", told.stdout)
+
+    def test_first_loads(self):
+        """What a window's image touches may be loaded for the first time in the run: each line of the data takes a miss more."""
+        self.assertEqual(self.sample(*SHORT, "--warm", "30").returncode, 0)
+        machine = read_description(self.description)
+        for row in self.rows():
+            # the words from 0x20000 on of the rounds of 255 instructions that are over
+            lines = -(-(4 * ((int(row["begin"]) - int(row["warm"]) - 3) // 256)) // machine.line)
+            self.assertIn(int(row["first_loads"]) // machine.miss_latency - lines, (0, 1), row)
 
     def test_goes_on(self):
         """The same command makes what is missing alone, and so does the folder; other words, or another image, are another question."""

@@ -1,12 +1,14 @@
 """Which windows are measured, what a text of stt_stats tells of one, the figures that come of them, and the code that touches memory: by numbers
 that were reckoned by hand."""
 import os
+import statistics
 import subprocess
 import unittest
 
 import support
 from wadrelwy.counting.numbers import Figure
-from wadrelwy.sampling import estimate, measuring, places, planned, touching
+from wadrelwy.sampling import changes, estimate, measuring, places, planned, touching
+from wadrelwy.sampling.changes import At
 from wadrelwy.sampling.measuring import Taken
 from wadrelwy.sampling.places import Window
 from wadrelwy.verdict.hart import Hart
@@ -40,18 +42,19 @@ class Places(unittest.TestCase):
             found = places.windows(steps, count, length, warm, seed)
             for at, window in enumerate(found):
                 self.assertTrue(at * steps // count <= window.begin <= window.begin + length <= (at + 1) * steps // count, window)
-                self.assertEqual((window.number, window.warm, window.halved), (at, min(warm, window.begin), False))
+                self.assertEqual((window.number, window.warm, window.longer), (at, min(warm, window.begin), False))
             self.assertEqual(found, places.windows(steps, count, length, warm, seed))
             self.assertTrue(steps == count * length or found != places.windows(steps, count, length, warm, seed + 1))
 
-    def test_halved(self):
-        """Twenty of those that begin cold, evenly; each before the same instructions."""
-        whole = [Window(at, 100 * at, min(500, 100 * at), False) for at in range(86)]
-        half = list(places.halved(whole))
-        self.assertEqual([window.number for window in half], [*range(8, 86, 4)])
-        self.assertEqual({(window.begin - 100 * window.number, window.warm, window.halved) for window in half}, {(0, 250, True)})
-        self.assertEqual(list(places.halved(whole[:6])), [])
-        self.assertEqual([window.number for window in places.halved(whole[:8])], [6, 7])
+    def test_longer(self):
+        """Twenty-five of those that begin cold, evenly; each before the same instructions, behind four times the warm-up or all that there is."""
+        whole = [Window(at, 100 * at, min(500, 100 * at), False) for at in range(106)]
+        found = list(places.longer(whole))
+        self.assertEqual([window.number for window in found], [*range(8, 106, 4)])
+        self.assertEqual([(window.begin, window.warm, window.longer) for window in found],
+                         [(100 * window.number, min(2000, 100 * window.number), True) for window in found])
+        self.assertEqual(list(places.longer(whole[:6])), [])
+        self.assertEqual([(window.number, window.warm) for window in places.longer(whole[:8])], [(6, 600), (7, 700)])
 
     def test_refusals(self):
         for words, said in (((1000, 9, 1, 0, 1), "--windows is at least 10"), ((1000, 10, 0, 0, 1), "--length 1"),
@@ -113,23 +116,31 @@ class Numbers(unittest.TestCase):
         self.assertEqual([measuring.every(length) for length in (1, 100, 250, 10000, 1000000)], [1, 1, 2, 100, 100])
 
     def test_estimate(self):
-        """Four windows of 1, 2, 4 and 3 cycles an instruction; two of them with half the warm-up, with which they take a quarter more."""
+        """Four windows of 1, 2, 4 and 3 cycles an instruction; two of them with the longer warm-up, in which they take a quarter less: 0.25 and 1
+        cycles, 0.625 in the mean."""
         each = {0: 1, 1: 2, 2: 4, 3: 3}
         whole = {at: Taken(0, 100 * cycles, {"retired": 100, "load_misses": 10 * at}) for at, cycles in each.items()}
-        made = estimate.estimate("core", {}, whole, {0: Taken(0, 125, {"retired": 100, "load_misses": 0}), 2: Taken(0, 500, {"retired": 100, "load_misses": 25})})
-        self.assertEqual((made.cycles.value, made.windows, made.compared), (2.5, 4, 2))
-        self.assertAlmostEqual(made.cycles.half, estimate.student(2) * ((1 + 4 + 1) / (2 * 3) / 4) ** 0.5)
-        self.assertAlmostEqual(made.cycles.cold, 3.125 - 2.5)
-        self.assertAlmostEqual(made.cycles.wide, made.cycles.half + 0.625)
+        longer = {0: Taken(0, 75, {"retired": 100, "load_misses": 0}), 2: Taken(0, 300, {"retired": 100, "load_misses": 15})}
+        made = estimate.estimate("core", {}, whole, longer, 500)
+        self.assertEqual((made.cycles.value, made.cycles.longer, made.windows, made.compared), (2.5 - 0.625, -0.625, 4, 2))
+        by_windows, by_longer = estimate.student(2) * ((1 + 4 + 1) / (2 * 3) / 4) ** 0.5, estimate.student(1) * statistics.stdev([0.25, 1]) / 2 ** 0.5
+        self.assertAlmostEqual(made.cycles.half, (by_windows ** 2 + by_longer ** 2) ** 0.5)
+        self.assertAlmostEqual(made.cycles.wide, made.cycles.half + 0.625 / 3)
+        # the run takes up to 500 cycles more in 1000 instructions
+        self.assertEqual(made.bounds(1000), (0, 1.875 + made.cycles.wide + 0.5))
         misses = made.figures["load_misses"]
-        self.assertEqual((misses.value, misses.cold, misses.figure.told), (150, 125 - 100, "1000 * load_misses / retired"))
-        self.assertAlmostEqual(misses.half, estimate.student(2) * (3 * 100 ** 2 / (2 * 3) / 4) ** 0.5)
+        self.assertEqual((misses.value, misses.longer, misses.figure.told), (150 - 25, 75 - 100, "1000 * load_misses / retired"))
         self.assertEqual(list(made.figures), ["cycles_per_instruction", "memory_loads_per_thousand", "load_misses"])
-        wide = made._replace(windows=20, figures={**made.figures, "cycles_per_instruction": made.cycles._replace(half=0.5)})
+
+    def test_estimate_without_longer(self):
+        whole = {at: Taken(0, 100 * (at + 1), {"retired": 100, "load_misses": 0}) for at in range(3)}
+        made = estimate.estimate("core", {}, whole, {})
+        self.assertEqual((made.cycles.value, made.cycles.longer, made.cycles.wide), (2, None, made.cycles.half))
+        wide = made._replace(windows=20, figures={"cycles_per_instruction": made.cycles._replace(half=0.4)})
         self.assertEqual(wide.needed, 320)
         question = planned.Question("one", 1000, "exit 0", {"windows": 20, "length": 5, "warm": 7}, ("retired", "load_misses"))
         self.assertIn("+- 5 % may take some 320 windows", "\n".join(estimate.told(question, wide)))
-        narrow = {**made.figures, "cycles_per_instruction": made.cycles._replace(half=0.1)}
+        narrow = {"cycles_per_instruction": made.cycles._replace(half=0.09)}
         self.assertNotIn("that is wide", "\n".join(estimate.told(question, made._replace(figures=narrow))))
 
     def test_share_of_another_number(self):
@@ -144,8 +155,55 @@ class Numbers(unittest.TestCase):
         """Of a run in two halves, each of which is all alike, the interval comes from the one step between them."""
         whole = {at: Taken(0, 100 if at < 50 else 3000, {"retired": 100}) for at in range(100)}
         made = estimate.estimate("core", {}, whole, {})
-        self.assertEqual((made.cycles.value, made.cycles.cold), (15.5, None))
+        self.assertEqual((made.cycles.value, made.cycles.longer), (15.5, None))
         self.assertAlmostEqual(made.cycles.half, estimate.student(50) * (29 ** 2 / (2 * 99) / 100) ** 0.5)
+
+
+class Changes(unittest.TestCase):
+    """Twenty parts of 1000 instructions, with a window of 10 in the middle of each: five cycles an instruction before 7300, one behind."""
+
+    def at(self, begin, change=7300):
+        before = min(max(change - begin, 0), 10)
+        return At(begin, Taken(0, 5 * before + 10 - before, {"retired": 10}))
+
+    def setUp(self):
+        self.windows = [self.at(1000 * at + 495) for at in range(20)]
+
+    def test_levels(self):
+        """A step counts where three windows on each side, or the two that there are, are alike; one that is like no side is no change."""
+        self.assertEqual(list(changes.levels([5, 5, 5, 1, 1, 1])), [2])
+        self.assertEqual(list(changes.levels([5, 5, 1, 1])), [1])
+        for values in ([5, 5, 5, 1, 5, 5], [5, 1, 5, 1, 5, 1], [1, 2, 3, 4, 5, 6], [5, 1, 1, 1], [5, 5, 5, 3, 1, 1, 1], [2, 2, 2, 2]):
+            self.assertEqual(list(changes.levels(values)), [], values)
+        # the small step is less than the hundredth part of all squares
+        self.assertEqual(list(changes.levels([50, 50, 50, 1, 1, 1, 2, 2, 2])), [2])
+
+    def test_narrowed(self):
+        """Each further window halves what is left, until it is two lengths of a window, or they are six. The place is right to a length."""
+        further, lengths = [], []
+        while (found := changes.changes(self.windows, further, 10)) and found[0].is_wanted(10):
+            lengths.append(found[0].high - found[0].low)
+            further.append(self.at(found[0].next(10)))
+        self.assertEqual((len(found), found[0].number, found[0].further, found[0].is_found), (1, 6, len(further), True))
+        self.assertLess(abs(found[0].place - 7300), 10)
+        self.assertEqual(lengths, [990, 490, 240, 115, 52, 21])
+        # one that has the change within itself ends the search
+        self.assertEqual(changes.changes(self.windows, [self.at(7297)], 10)[0][1:4], (7297, 7307, 990))
+        self.assertFalse(changes.changes(self.windows, [], 10)[0].is_found)
+
+    def test_estimate(self):
+        """Without the place the two parts count alike, so that five times seven and thirteen are 48; with it 7300 instructions have five."""
+        whole, figure = {at: window.taken for at, window in enumerate(self.windows)}, Figure(("cycles",), divided="retired")
+        made = estimate.estimate("core", {}, whole, {}).cycles
+        self.assertEqual(made.value, 48 / 20)
+        found = estimate.moved([changes.Change(6, 7290, 7310, 990, 5)], 20000, 20)
+        self.assertAlmostEqual(found[0].parts, 1.3)
+        self.assertAlmostEqual(found[0].unknown, 0.02)
+        better = estimate.estimate("core", {}, whole, {}, 0, found).cycles
+        self.assertAlmostEqual(better.value, (5 * 7300 + 12700) / 20000)
+        self.assertAlmostEqual(better.half, made.half * 0.02 / 6 ** 0.5)
+        self.assertEqual(estimate.moved([changes.Change(6, 7000, 7500, 990, 1)], 20000, 20), [])
+        self.assertEqual(estimate.by_changes(Figure(("retired",), divided="cycles"), list(whole.values()), found), 0)
 
 
 class Touching(unittest.TestCase):

@@ -8,10 +8,12 @@
 `wadrelwy continue` makes them: one in each of M equal parts of the run, by chance within its part. In a core that begins cold there, a word of
 each line of data that isn't zero is loaded, so that the caches aren't empty (--no-touch: they are); W instructions go by, and then L are
 measured, by `stt_stats --every`. What comes is the mean in cycles per instruction, and each other number that stt_stats counts for a thousand
-instructions, with the 95 % interval of a mean; and, of twenty of the windows, what they take with half the warm-up: by so much the cold start may
-still count. What stays cold longest is the predictor. Without more M is 150, L 10000, W 60000. A run that is hardly longer than M times W is better
-run as a whole. --steps N takes the first N instructions for the run; without it a run that doesn't end within 4294967295 is refused. --at names the
-place of the instructions that come first, as for `continue`; a program that uses their place is refused.
+instructions, with the 95 % interval of a mean; twenty-five of the windows are measured with four times the warm-up, too, and what that changes is
+put to the mean, and told: so much the cold start counts. What stays cold longest is the predictor. Without more M is 150, L 10000, W 20000. Where
+the run changes its level, further windows find out where: not in a list, but `wadrelwy sample -o FOLDER` measures them once all others are there.
+A run that is hardly longer than M times W is better run as a whole. --steps N takes the first N instructions for the run; without it a run that
+doesn't end within 4294967295 is refused. --at names the place of the instructions that come first, as for `continue`; a program that uses their
+place is refused.
 
 No theorem ties an estimate to a run. Each image is one of which all promises hold; that they are like the run that was asked for is what the two
 numbers are for.
@@ -29,9 +31,10 @@ what is proved, 2 for a refusal, 130 if interrupted."""
 import os
 import sys
 from argparse import ArgumentParser, BooleanOptionalAction, Namespace
+from typing import Optional
 
 from wadrelwy import Fault, built_programs, statuses
-from wadrelwy.sampling import estimate, planned
+from wadrelwy.sampling import estimate, planned, refining
 from wadrelwy.sweep import lists, plan, results, settings
 from wadrelwy.sweep.kept import write
 
@@ -46,7 +49,7 @@ def words(parser: ArgumentParser) -> None:
     parser.add_argument("-o", dest="output", metavar="FOLDER")
     parser.add_argument("--windows", type=number, default=150, metavar="M")
     parser.add_argument("--length", type=number, default=10000, metavar="L", help="in instructions")
-    parser.add_argument("--warm", type=number, default=60000, metavar="W", help="in instructions")
+    parser.add_argument("--warm", type=number, default=20000, metavar="W", help="in instructions")
     parser.add_argument("--steps", type=number, metavar="N", help="take the first N instructions for the run")
     parser.add_argument("--seed", type=number, default=1, metavar="S", help="of the places within their parts")
     parser.add_argument("--touch", action=BooleanOptionalAction, default=True, help="load what may be in the caches before the warm-up")
@@ -100,6 +103,16 @@ def write_estimates(made: plan.Plan, question: planned.Question) -> int:
     return statuses.CUT if found.missing else statuses.HOLDS
 
 
+def measured(made: plan.Plan, question: planned.Question, jobs: int) -> plan.Plan:
+    """Measures what is missing, and then further windows where the run changes its level, as long as there are any."""
+    further: Optional[plan.Plan] = made
+    while further is not None:
+        made = further
+        planned.Measurer(made, jobs, planned.asks_of(question)).all()
+        further = refining.refined(made, question)
+    return made
+
+
 def main(asked: Namespace) -> int:
     checked(asked)
     made, question = made_of(asked)
@@ -111,7 +124,7 @@ def main(asked: Namespace) -> int:
         if asked.others:
             print(f"{results.brought(made, asks, asked.others)} results came from {', '.join(asked.others)}")
         if not asked.gather:
-            planned.Measurer(made, asked.jobs, asks).all()
+            made = measured(made, question, asked.jobs)
         return write_estimates(made, question)
     except results.Refuted as refuted:
         print(f"wadrelwy sample: refuted: {refuted}", file=sys.stderr)

@@ -36,11 +36,11 @@ class Caches(NamedTuple):
 class Chain:
     """The images of one run, whose end is known. All have the 63 instructions that set the registers at one place, which no segment takes and
     at which the whole run left nothing; before them stand those that touch what may be in the caches, where they are told. `extra` is how
-    many steps the last image takes before it goes on."""
+    many steps the last image takes before it goes on, and `lines` how many lines it touches."""
 
     def __init__(self, program: str, image: Loaded, description: str, whole: Report, at: Optional[int], caches: Optional[Caches] = None) -> None:
         self.program, self.image, self.description, self.whole = program, image, description, whole
-        self.memory, self.path, self.done, self.extra = bytearray(image.memory), image.name, 0, 0
+        self.memory, self.path, self.done, self.extra, self.lines = bytearray(image.memory), image.name, 0, 0, 0
         self.out: tuple[str, ...] = ()
         self.symbols = written.symbols_of(image.name)
         standing = Standing(image, whole._replace(pc=image.entry), bytes(self.memory), frozenset(whole.rows))
@@ -75,6 +75,7 @@ class Chain:
         line, codes = self.caches.line, [(start, start + len(data)) for start, data in self.image.pieces]
         late = touching.lines_in(standing.report.changed, line)
         lines = touching.chosen(touching.lines_of(standing.memory, self.image.base, line, codes), late, self.caches.lines)
+        self.lines = len(lines)
         again = [address for address in lines if address in late]
         return touching.touching(touching.stretches(lines, line) + touching.stretches(again, line), line)
 

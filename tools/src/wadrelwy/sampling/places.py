@@ -5,17 +5,17 @@ from typing import Iterator, NamedTuple
 from wadrelwy import Fault
 
 FEWEST = 10
-# of so many windows the warm-up is halved, to see what is left of the cold start
-HALVED = 20
+# of so many windows the warm-up is so many times as long, too, to see what the cold start adds
+LONGER, TIMES = 25, 4
 
 
 class Window(NamedTuple):
-    """The window of the part `number` of a run: it begins after `begin` instructions, behind `warm` of warm-up. `halved` says that the warm-up
-    is half of what was asked for."""
+    """The window of the part `number` of a run: it begins after `begin` instructions, behind `warm` of warm-up. `longer` says that the warm-up
+    is longer than what was asked for."""
     number: int
     begin: int
     warm: int
-    halved: bool
+    longer: bool
 
     @property
     def start(self) -> int:
@@ -35,9 +35,9 @@ def windows(steps: int, count: int, length: int, warm: int, seed: int) -> list[W
     return [Window(at, begin, min(warm, begin), False) for at, begin in enumerate(begins)]
 
 
-def halved(whole: list[Window]) -> Iterator[Window]:
-    """Some of these windows, evenly over the run, with half their warm-up; those that have all of the run before them are as warm as can be."""
-    able = [window for window in whole if window.start > 0 and window.warm > 1]
-    for at in range(min(HALVED, len(able))):
-        window = able[(2 * at + 1) * len(able) // (2 * min(HALVED, len(able)))]
-        yield window._replace(warm=window.warm // 2, halved=True)
+def longer(whole: list[Window]) -> Iterator[Window]:
+    """Some of these windows, evenly over the run, with a longer warm-up; those that have all of the run before them are as warm as can be."""
+    able = [window for window in whole if window.start > 0 and window.warm > 0]
+    for at in range(min(LONGER, len(able))):
+        window = able[(2 * at + 1) * len(able) // (2 * min(LONGER, len(able)))]
+        yield window._replace(warm=min(TIMES * window.warm, window.begin), longer=True)

@@ -20,6 +20,11 @@ from wadrelwy.view.description import read_description
 from . import chain, measuring, places
 
 PLAN, QUESTION = "windows.json", "sample.json"
+# how many cycles the lines that are touched before a window take from memory, each by itself
+FIRST_LOADS = "first_loads"
+# whether a window is a further one, to find where the run changes its level
+CHANGE = "change"
+OF_A_WINDOW = ("window", "begin", "warm", "longer", FIRST_LOADS, CHANGE)
 KEYS = ("windows", "length", "warm", "seed", "steps", "at", "touch", "set", "defences")
 
 
@@ -31,6 +36,11 @@ class Question(NamedTuple):
     end: str
     asked: dict[str, Any]
     names: measuring.Names
+
+
+def of_setting(run: plan.Run) -> tuple[str, tuple[tuple[str, Any], ...]]:
+    """A description's name and what is set in it."""
+    return run.base, tuple((key, value) for key, value in run.values.items() if key not in OF_A_WINDOW)
 
 
 class Asks:
@@ -147,9 +157,10 @@ class Setting(NamedTuple):
 
 
 class Begin(NamedTuple):
-    """An image, whose name has digits of its sha256, and how many steps it takes before it goes on where its name says."""
+    """An image, whose name has digits of its sha256, how many steps it takes before it goes on where its name says, and how many lines it touches."""
     image: str
     extra: int
+    lines: int
 
 
 def caches_of(values: dict[str, Any]) -> chain.Caches:
@@ -201,7 +212,7 @@ class Maker:
             raise Fault(f"{self.asked.image} runs otherwise in the descriptions' unlike memories: ask of each by itself")
         end, retired = wholes.pop()
         question = Question(self.name, retired, end, self.words, names.pop())
-        made = self.plan_of(sorted(self.runs(parts, question), key=lambda run: (order.index(run.description), run.values["halved"], run.values["window"])))
+        made = self.plan_of(sorted(self.runs(parts, question), key=lambda run: (order.index(run.description), run.values["longer"], run.values["window"])))
         plan.keep(made, PLAN)
         write(self.path(QUESTION), json.dumps(question._asdict()).encode())
         return made, question
@@ -236,13 +247,14 @@ class Maker:
         """The windows of settings in one memory, as soon as the image before each is there."""
         asked, where = self.asked, self.path(part[0].description)
         windows = places.windows(steps, asked.windows, asked.length, asked.warm, asked.seed)
-        windows += places.halved(windows)
+        windows += places.longer(windows)
         begun, going = time.monotonic(), chain.Chain(
             self.path(self.simulator), load(asked.image, read_description(where)), where, self.whole(memory, part[0]), asked.at, memory.caches)
         starts = sorted({window.start for window in windows})
         for done, start in enumerate(starts, 1):
             data = going.to(start) if start else content(asked.image, IMAGE_MAX)
-            begin = Begin(copied(self.folder, "images", f"{self.name}-{start}", ".elf", data), going.extra if start else 0)
+            image = copied(self.folder, "images", f"{self.name}-{start}", ".elf", data)
+            begin = Begin(image, going.extra, going.lines) if start else Begin(image, 0, 0)
             going.path = self.path(begin.image) if start else going.path
             yield from (self.run(setting, window, begin) for window in windows if window.start == start for setting in part)
             running.tell(sys.stderr, "places", done, len(starts), time.monotonic() - begun)
@@ -251,10 +263,12 @@ class Maker:
 
     def run(self, setting: Setting, window: places.Window, begin: Begin) -> plan.Run:
         """A window as a run of the plan: its words are how many retire in the new image before the window, and behind it."""
-        first = begin.extra + window.warm
-        words = [str(first), str(first + self.asked.length)]
+        before = begin.extra + window.warm
+        words = [str(before), str(before + self.asked.length)]
         name = sha256(" ".join([self.sources[0].sha256, begin.image, sha256(setting.text), *words]).encode())[:16]
-        told = setting.values | {"window": window.number, "begin": window.begin, "warm": window.warm, "halved": window.halved}
+        first = begin.lines * settings.parsed(setting.text.decode(), setting.description).get("cache.miss_latency", 0)
+        told = setting.values | {"window": window.number, "begin": window.begin, "warm": window.warm, "longer": window.longer, FIRST_LOADS: first,
+                                 CHANGE: False}
         result = os.path.join("results", f"{plain(self.name)}_{name}")
         return plan.Run(self.name, begin.image, os.path.abspath(self.asked.image), setting.base, setting.description, told, result, words,
                         cost=window.warm + self.asked.length)
