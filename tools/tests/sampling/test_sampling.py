@@ -83,6 +83,8 @@ except BrokenPipeError:
 # 60 rounds of 50 rounds of `addi, bne`, and 50 of `mul, addi, bne`; each stores its number in a word of its own from 0x20000 on
 WORDS = (0x00020437, 0x03c00293, 0x03200313, 0xfff30313, 0xfe031ee3, 0x03200313, 0x026383b3, 0xfff30313, 0xfe031ce3, 0x00542023, 0x00440413,
          0xfff28293, 0xfc029ce3, 0x00000513, 0x05d00893, 0x00000073)
+# 1700 rounds of `addi, bne`, and 2000 of `mul, addi, bne`
+TWO_PHASES = (0x6a400313, 0xfff30313, 0xfe031ee3, 0x7d000313, 0x026383b3, 0xfff30313, 0xfe031ce3, 0x00000513, 0x05d00893, 0x00000073)
 RETIRED = 2 + 60 * (1 + 100 + 1 + 150 + 4) + 3
 
 
@@ -232,6 +234,24 @@ class Sampling(Folder):
             # the words from 0x20000 on of the rounds of 255 instructions that are over
             lines = -(-(4 * ((int(row["begin"]) - int(row["warm"]) - 3) // 256)) // machine.line)
             self.assertIn(int(row["first_loads"]) // machine.miss_latency - lines, (0, 1), row)
+
+    def test_changes(self):
+        """Where the run goes from a cycle an instruction to two, further windows find the place, and the estimate is the whole run's number but for
+        a length of a window. Once they are there nothing more is measured, and without one of them it is measured again."""
+        shutil.copy(support.image_of_words("two_phases", TWO_PHASES), self.image)
+        words = (*SHORT, "--warm", "200", "--set", "units.mul_latency=4")
+        told = self.sample(*words)
+        self.assertEqual((told.returncode, told.stderr), (0, ""))
+        further, costs = [row for row in self.rows() if row["change"] == "True"], self.costs(4)
+        self.assertEqual({row["window"] for row in further}, {str(int(further[0]["window"]))})
+        self.assertTrue(0 < len(further) <= 6)
+        row, ran = self.rows("estimates.csv")[0], self.measured()
+        self.assertLess(abs(float(row["cycles_per_instruction"]) * len(costs) - sum(costs)), 250)
+        self.assertEqual((self.sample(*words).stdout, self.sample(image=False).stdout, self.measured()), (told.stdout, told.stdout, ran))
+        with open(os.path.join(self.out, "windows.json"), encoding="utf-8") as file:
+            last = json.load(file)["runs"][-1]
+        os.remove(next(os.path.join(self.out, word) for word in last if isinstance(word, str) and word.startswith("results/")))
+        self.assertEqual((self.sample("--gather", image=False).returncode, self.sample(image=False).stdout, self.measured()), (3, told.stdout, ran + 1))
 
     def test_goes_on(self):
         """The same command makes what is missing alone, and so does the folder; other words, or another image, are another question."""
