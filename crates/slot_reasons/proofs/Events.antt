@@ -1,5 +1,5 @@
 -- Events that come one after the other, walked over.
-use Rattle.std.proofs.Common.{◌≡◌, ℕ, zero, suc, ◌+◌, ◌-◌, ◌<◌, ◌≤◌, false, arith, List, [], ◌∷◌, Bool, length, drop, get_or, Option, Some, None, refl, ap, ap₂, sym, ◌∙◌, drop-cons, add-one}
+use Rattle.std.proofs.Common.{◌≡◌, ℕ, zero, suc, ◌+◌, ◌<◌, arith, List, [], ◌∷◌, length, drop, get_or, Option, Some, None, refl, ap, ap₂, sym, ◌∙◌, drop-cons, add-one}
 use Rattle.std.specs.Prelude.{slice_get}
 use Rattle.window_model.specs.declared.Event.{Event}
 use Rattle.window_model.specs.declared.Event.TheVariants.{Ren}
