@@ -233,8 +233,8 @@ class StatsStatuses(Ran):
                 self.written(status, end, *self.words(every=every, **words))
 
     def test_lines(self):
-        """A line for each whole stretch, and behind them one for each of the 35 numbers, and the last."""
-        for every, lines in ((None, 36), ("1", 36 + 100), ("7", 36 + 14), ("100", 36 + 1), ("101", 36)):
+        """A line for each whole stretch, and behind them one for each of the 35 counts and of the 17 reasons of slots, and the last."""
+        for every, lines in ((None, 53), ("1", 53 + 100), ("7", 53 + 14), ("100", 53 + 1), ("101", 53)):
             got, out, note = self.ran(*self.words(path=self.loop, every=every))
             self.assertEqual((got, len(out.splitlines()), out[-1:], note), (3, lines, b"\n", b""))
 
