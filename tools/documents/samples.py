@@ -77,7 +77,7 @@ def lacking(command):
     names = [name for words, name in NEEDS if words in command and shutil.which(name) is None]
     if "--secret" in command and built_programs.secrets() is None:
         names.append("stt_secrets")
-    if "wadrelwy stats" in command and built_programs.program(built_programs.STATS) is None:
+    if ("wadrelwy stats" in command or "wadrelwy sample" in command) and built_programs.program(built_programs.STATS) is None:
         names.append("stt_stats")
     if "build/picolibc" in command and not os.path.isdir(PICOLIBC):
         names.append("picolibc-riscv64-unknown-elf")

@@ -13,7 +13,8 @@ use Rattle.slot_reasons.specs.declared.Reason.TheVariants.{FrontEnd, Mispredicti
 use Rattle.slot_reasons.specs.declared.Past.{Past}
 use Rattle.slot_reasons.specs.declared.Charge.{Charge}
 use Rattle.slot_reasons.specs.Reasons.{past_after}
-use Rattle.slot_reasons.specs.Slots.{charge_of, charges_of, rows_of, seen, slot_names, slots_in, slots_of, sum_of}
+use Rattle.slot_reasons.specs.Slots.{charge_of, charges_of, rows_of, seen, slot_names, slots_in, slots_of}
+use Rattle.slot_reasons.specs.Laws.{sum_of}
 
 -- ---- One cycle
 

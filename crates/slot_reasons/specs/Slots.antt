@@ -38,12 +38,6 @@ seen d code (suc n) x past =
     unless_ended x.end []
     (let c = cycle d code x in record { row = c.row; charge = charge_of d past x c } ∷ seen d code n c.machine (past_after past c.row.events))
 
--- what is known after at most n cycles of the last one
-abbrev pub past_at : Desc → Code → ℕ → Machine → Past → Past
-past_at d code zero x past = past
-past_at d code (suc n) x past =
-    unless_ended x.end past (let c = cycle d code x in past_at d code n c.machine (past_after past c.row.events))
-
 -- the rows of cycles
 abbrev pub rows_of : List Seen → List Row
 rows_of = map (λ s. s.row)
@@ -93,8 +87,3 @@ slots_of name (c ∷ rest) = slots_in name c + slots_of name rest
 -- the numbers of cycles, in their order, as they are told
 abbrev pub slots : List Charge → List ℕ
 slots cs = map (λ name. as_told (slots_of name cs)) slot_names
-
--- the slots of these names together
-abbrev pub sum_of : List (List ℕ) → List Charge → ℕ
-sum_of [] cs = 0
-sum_of (name ∷ rest) cs = slots_of name cs + sum_of rest cs

@@ -76,7 +76,7 @@ def values_of(name, text, descriptions):
         return values_of(words[0], text, descriptions) | {"version": NEWEST}
     if how == "with_stt":
         return values_of(words[0], text, descriptions) | {"model": words[1].lower(), "defence": words[2].lower()}
-    assert how in ("described", "tested"), how
+    assert how in ("desc_of_numbers", "tested"), how
     return numbers_of(words[1], text, descriptions) | {"version": int(words[0]), "model": words[2].lower(), "defence": words[3].lower()}
 
 

@@ -146,7 +146,7 @@ def checked(told: Told, every: Optional[int]) -> Told:
     """Refuses what can't be of one run."""
     parts = {name: sum(row.counts[name] for row in told.rows) for name in NAMES}
     more = [name for name in NAMES if told.counts[name] != MOST and parts[name] > told.counts[name]]
-    slots = all(has_slots(row.counts, row.counts[CYCLES]) for row in (*told.rows, told))
+    slots = all(has_slots(counts, counts[CYCLES]) for counts in (told.counts, *(row.counts for row in told.rows)))
     if more or not slots or told.counts["retired"] != told.end.retired or every and len(told.rows) != told.end.cycles // every:
         raise other_program()
     return told
