@@ -81,7 +81,8 @@ def stack(drawing: Drawing, rows: Sequence[Row]) -> None:
     top, last, began = drawing.height + TOP, max([1, *(row.cycle for row in rows)]), 0
     drawing.text(LEFT, top - 10, "slots of retirement by reason, in percent", "start", 12, 'font-weight="bold"')
     axis(drawing, Scale([100.0], top), LEFT, LEFT + WIDE, lambda value: f"{value:g}")
-    scale, used = Scale([100.0], top), set()
+    scale = Scale([100.0], top)
+    used: set[str] = set()
     for row in rows:
         left, right, below = LEFT + WIDE * began / last, LEFT + WIDE * row.cycle / last, 0.0
         for name, share in shares(row.counts).items():
