@@ -123,7 +123,8 @@ impl Ports {
         }
     }
 
-    // Takes one of a port, where one is left.
+    // Takes one of a port, where one is left. Called and not built into its callers, which spares them a register.
+    #[inline(never)]
     fn take(&mut self, port: Port) -> bool
         ensures taken { result ≡ nat_lt 0 (left_at (machine_port port) self.old) }
         ensures left { self.new ≡ taken_at (machine_port port) self.old }
