@@ -69,8 +69,7 @@ bound_alone Spectre steps = (refl, refl, refl, refl, refl)
 bound_alone Futuristic steps = (refl, refl, refl, refl, refl)
 bound_alone Off steps = (refl, refl, refl, refl, refl)
 
--- the bytes that the path of the store bypass loads: the bound, a byte past the secret, and a word at an address made
--- of that
+-- what the path of the store bypass loads: the bound, a byte past the secret, and a word at an address made of that
 past_store : List ℕ
 past_store = bound ++ 0x1fff9 ∷ 0x1f7f0 ∷ 0x1f7f1 ∷ 0x1f7f2 ∷ 0x1f7f3 ∷ []
 
@@ -132,8 +131,7 @@ store_bypass_hides d protected = hides d store_bypass past_store protected (stor
 pub fault_hides : FaultShadow
 fault_hides d futuristic = hides d fault [] (ap protects futuristic) (λ steps. ap (λ m. loads m fault (eleven_more steps)) futuristic ∙ fault_loads_none steps) (λ secret. tt)
 
--- behind the fault the spectre path loads the secret: it goes on for as many steps as the window has room, at least
--- four
+-- behind the fault the spectre path loads the secret: it goes on for as many steps as the window has room, at least 4
 pub fault_loads_secret : FaultShadowSpectre
 unfolding memory
 fault_loads_secret d spectre n =

@@ -41,8 +41,7 @@ linked_of pc before (e ∷ es) queue to c l = linked_of pc (e ∷ before) es que
 
 -- ---- all that one run knows of entries
 
--- what one run knows of entries that are looked back on: they stand over the retired state, are guarded, and follow one
--- another
+-- what one run knows of entries looked back on: they stand over the retired state, are guarded, and follow one another
 pub record OneRun (now : ℕ) (d : Desc) (code : Code) (x : Machine) (before : List Entry) : Type 0 where
   pub stands : Behind (EntryInvariant d code (bank_in (hart_of x)) now) before
   pub guarded : Behind (IsGuarded d.stt_model) before

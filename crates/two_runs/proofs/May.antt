@@ -1,5 +1,4 @@
--- Who may be resolved, cleared and issue, who asks for a port and who is granted one is seen alike, where each load
--- that asks has one address.
+-- Two runs see alike who may be resolved, cleared and issue, and who asks for a port, where loads that ask ask alike.
 use Rattle.std.proofs.Common.{◌≡◌, ℕ, ◌+◌, Bool, true, false, not, ◌&&◌, ◌||◌, List, [], ◌∷◌, refl, ap, ap₂, sym, ◌∙◌}
 use Rattle.std.specs.Prelude.{if◌then◌else◌, nat_lt, ◌==◌}
 use Rattle.rv_types.specs.Causes.{load_misaligned, load_outside}

@@ -88,8 +88,7 @@ module _ {M : Type 0} (mask : M → Mask) (S : List Entry → List Entry → Typ
         let r = if_both Left (squashes p.entry) (squashes p2.entry) (squash d p y) (squash d p2 y2) (keep p y) (keep p2 y2) (ap squashes same) (λ h. squash_alike y y2 k) (λ h. keep_alike y y2 k) in
         record { events = ap₂ (λ a b. a ++ b) (ap (λ (l : Learnt). l.events) l) r.events; others = r.others; window = r.window }
 
--- Resolve leaves alike what is alike under masks, where two runs see alike who may be resolved, and what is resolved is
--- so alike
+-- Resolve leaves alike what is alike under masks, where who may be resolved is seen alike and what is resolved is equal
 pub resolve_alike : {M : Type 0} (mask : M → Mask) (S : List Entry → List Entry → Type 0) (d : Desc) (ms : List M) (x x2 : Machine) → without_contents x ≡ without_contents x2 → MaskedAlike mask ms x.window x2.window →
     AnswerAlike (may_resolve d) (may_resolve d) S [] [] x.window x2.window →
     ((p p2 : Place) → first (may_resolve d) x.window ≡ Some p → (s : SamePlace mask S ms p p2) →
