@@ -8,7 +8,7 @@ from wadrelwy.view.image import words_of
 
 from .report import Report, read_report
 
-# memory of a run of `isa` without a description (docs/formats.md, "The words")
+# memory of a run of `isa` without a description (docs/formats.md, "Words")
 BASE, SIZE = 0x00010000, 1 << 20
 
 
