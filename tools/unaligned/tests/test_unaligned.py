@@ -1,5 +1,6 @@
 """Random programs with accesses at any address come out as under qemu-riscv32."""
 import os
+import subprocess
 import sys
 import unittest
 
@@ -18,6 +19,15 @@ class Unaligned(unittest.TestCase):
     def test_a_number_makes_one_program(self):
         self.assertEqual(generate.program(7), generate.program(7))
         self.assertNotEqual(generate.program(7), generate.program(8))
+
+    def test_a_simulator_that_is_named_has_to_be_there(self):
+        """It isn't left out, as one that nobody names is where none is built."""
+        for words, named in ((["--program", "/nowhere/a"], None), ([], "/nowhere/a")):
+            kept = {name: value for name, value in os.environ.items() if name != "STT_CLI"}
+            ran = subprocess.run([sys.executable, os.path.join(HERE, "run"), "--programs", "1", *words], capture_output=True, text=True,
+                                 check=False, env=kept | ({"STT_CLI": named} if named else {}))
+            self.assertEqual((ran.returncode, ran.stdout), (2, ""))
+            self.assertIn("no program stt_cli at /nowhere/a", ran.stderr)
 
     def compared(self, program):
         same, wrong, accesses = compare.compare(PROGRAMS, program)
