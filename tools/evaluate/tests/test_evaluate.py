@@ -78,6 +78,17 @@ class Evaluate(unittest.TestCase):
                 wanted = "".join(f"    {line}\n" for line in content(RUNS, name, "trace").decode().splitlines())
                 self.assertTrue(case.endswith(f"\nout\n{wanted}"))
 
+    def test_names_that_are_none_write_nothing(self):
+        """One that no run has is refused, also beside others, and so are names without --cases, which would write the facts of all runs."""
+        with tempfile.TemporaryDirectory() as folder:
+            cases, crate = os.path.join(folder, "runs.cases"), os.path.join(folder, "crate")
+            for words, word in ((["--cases", cases, NAMES[0], "no_such_run"], "has no run no_such_run"),
+                                (["--crate", crate, NAMES[0]], "--cases alone")):
+                ran = write(*words)
+                self.assertEqual((ran.returncode, ran.stdout), (2, ""))
+                self.assertIn(word, ran.stderr)
+            self.assertEqual(os.listdir(folder), [])
+
     def test_the_stored_cases_are_as_they_would_be_written(self):
         stored = os.path.join(ROOT, "crates", "case_runs", "data", "independent.cases")
         names = re.findall(r"(?m)^case (\w+)$", content(stored).decode())

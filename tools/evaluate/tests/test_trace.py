@@ -3,6 +3,7 @@ import importlib.util
 import os
 import subprocess
 import sys
+import tempfile
 import unittest
 
 HERE = os.path.dirname(os.path.dirname(os.path.realpath(__file__)))
@@ -41,11 +42,24 @@ class Trace(unittest.TestCase):
         self.assertRegex(one, r"^A: 15 .*ld:6:0001f900:m")
         self.assertRegex(two, r"^B: 15 .*ld:6:0001fa10:m")
 
+    def test_a_pair_that_the_budget_cuts_is_not_told_equal(self):
+        """The two differ in cycle 15 (docs/traces.md, "Bounds check bypass"): before it nothing tells them apart."""
+        images = example("bounds_check.elf"), example("bounds_check_other.elf")
+        self.assertEqual(asked(example("core_unprotected.toml"), *images, "--cycles", "14"), (3, "equal until the budget ended both\n", NOTE))
+        self.assertEqual(asked(example("core_unprotected.toml"), *images, "--cycles", "15")[0], 1)
+
     def test_what_is_refused_is_told_in_a_line(self):
-        for words in ((example("gone.toml"), example("bounds_check.elf")), (example("core.toml"), example("core.toml"))):
-            status, told, said = asked(*words)
-            self.assertEqual((status, told), (2, ""))
-            self.assertRegex(said, r"^unproved: .*\ntools/evaluate/trace: .*\n$")
+        with tempfile.TemporaryDirectory() as folder:
+            lacking = []
+            for line in ("rob = 16", "btb = 4"):
+                lacking.append(os.path.join(folder, f"{line.split()[0]}.toml"))
+                with open(example("core.toml"), encoding="utf-8") as core, open(lacking[-1], "w", encoding="utf-8") as file:
+                    file.write(core.read().replace(line, ""))
+            for words in ((example("gone.toml"), example("bounds_check.elf")), (example("core.toml"), example("core.toml")),
+                          *((path, example("bounds_check.elf")) for path in lacking)):
+                status, told, said = asked(*words)
+                self.assertEqual((status, told), (2, ""), said)
+                self.assertRegex(said, r"^unproved: .*\ntools/evaluate/trace: .*\n$")
 
 
 if __name__ == "__main__":
