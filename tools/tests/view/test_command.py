@@ -108,6 +108,20 @@ class Command(unittest.TestCase):
         for cut in (gzip.compress(self.text.encode())[:-12], gzip.compress(self.text.encode(), 0)[:500]):
             self.assertIn("none: the trace is cut", view("stats", support.file_of("cut.gz", cut), *self.files).stdout)
 
+    def test_a_trace_that_is_cut_is_told(self):
+        """By one line on standard error, where it was read so far; two that are equal as far as they go aren't told to be equal."""
+        cut = support.file_of("torn.trace", "".join(support.worked_trace("Bounds check bypass")[:9]).encode())
+        told = f"wadrelwy view: {cut}: the trace is cut: it has no last line, and ends with cycle 9\n"
+        for what in ("stats", "stack", "annotate", "why", "list", "konata", "o3", "index"):
+            with self.subTest(what=what):
+                self.assertEqual(view(what, cut, *self.files).stderr, told)
+        os.remove(cut + ".index")
+        self.assertEqual(view("stats", cut, self.trace, *self.files).stderr, told)
+        for last, said in (("8", ""), ("15", told)):
+            self.assertEqual(view("stack", cut, *self.files, "--to", last).stderr, said)
+        self.assertIn("both traces are cut, in cycle 9, and equal up to there", self.refused("diff", cut, cut, *self.files))
+        self.assertEqual(view("diff", cut, self.trace, *self.files).returncode, 1)
+
     def test_where_nothing_can_be_written(self):
         for path in ("/nowhere/x.html", support.FOLDER.name, "/dev/full"):
             self.assertIn(path, self.refused("html", self.trace, *self.files, "-o", path))

@@ -94,6 +94,8 @@ class Inputs:
         if getattr(words, "function", None) is not None:
             words.function = self.images[0].function_named(words.function)
         self.descriptions = [read_description(name) for name in words.description]
+        # the runs that are taken through, by their sides
+        self.taken: dict[int, Replay] = {}
 
     def of(self, values: list, side: int) -> Any:
         return values[min(side, len(values) - 1)]
@@ -111,7 +113,18 @@ class Inputs:
         description = self.of(self.words.description, side)
         image = self.of(self.images, side)
         found = index.replay_from(self.names[side], image, description, first) if first > 1 else None
-        return found or Replay(self.trace(side), self.of(self.images, side), self.of(self.descriptions, side))
+        self.taken[side] = found or Replay(self.trace(side), self.of(self.images, side), self.of(self.descriptions, side))
+        return self.taken[side]
+
+    def cut(self) -> Iterator[str]:
+        """What is told of each trace that stops short of a last line, where it was read so far: not of pictures, which say up to where they are,
+        nor of `diff`, which tells it among its differences."""
+        last = getattr(self.words, "last", None)
+        if self.words.what in ("svg", "html", "diff"):
+            return
+        for side, run in self.taken.items():
+            if run.trace.end is None and (last is None or run.pipeline.cycle < last):
+                yield f"{self.names[side]}: the trace is cut: it has no last line, and ends with cycle {run.pipeline.cycle}"
 
     def disassembler(self, side: int) -> Disassembler:
         return self.of(self.disassemblers, side)
@@ -148,7 +161,7 @@ def index_made(inputs: Inputs) -> str:
     if name == "-" or not os.path.isfile(name):
         raise Fault("index wants the file of a trace")
     told = index.Told(Progress(open_trace(name), name))
-    replay = Replay(Trace(told), inputs.images[0], inputs.descriptions[0])
+    replay = inputs.taken[0] = Replay(Trace(told), inputs.images[0], inputs.descriptions[0])
     path, states = index.write(replay, inputs.images[0], inputs.words.description[0], name, told)
     return f"{path}: {states} states of {replay.pipeline.cycle} cycles"
 
@@ -181,6 +194,8 @@ def there(lines: Iterator[str], replay: Replay, first: int) -> Iterator[str]:
 def lines_of_diff(inputs: Inputs) -> Generator[str, None, int]:
     replays = [inputs.replay(side) for side in (0, 1)]
     found = difference.Difference([replay.trace for replay in replays], replays)
+    if found.cycle is None and replays[0].trace.end is None:
+        raise Fault(f"both traces are cut, in cycle {replays[0].pipeline.cycle}, and equal up to there: what follows isn't known")
     yield from difference.lines_of(found, [inputs.disassembler(side) for side in (0, 1)])
     return 0 if found.cycle is None else 1
 
@@ -218,10 +233,12 @@ def main(asked: argparse.Namespace) -> int:
     # what is gone is let go of by `forget`, so nothing is left for a search of cycles of references
     if sys.implementation.name == "cpython":
         gc.disable()
-    lines = lines_of(asked, Inputs(asked))
-    if asked.output:
-        return write_file(lines, asked.output)
-    return write(lines, sys.stdout)
+    inputs = Inputs(asked)
+    lines = lines_of(asked, inputs)
+    status = write_file(lines, asked.output) if asked.output else write(lines, sys.stdout)
+    for told in inputs.cut():
+        print(f"wadrelwy view: {told}", file=sys.stderr)
+    return status
 
 
 def write_file(lines: Generator[str, None, int], name: str) -> int:
