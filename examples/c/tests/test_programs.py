@@ -26,6 +26,7 @@ LIBRARIES = [name for name, there in (("picolibc", GCC), ("picolibc-clang", GCC 
 
 needs_program = unittest.skipUnless(PROGRAM, "the program isn't built")
 needs_gcc = unittest.skipUnless(GCC, "no make or gcc for RISC-V")
+needs_compiler = unittest.skipUnless(COMPILERS, "no make or compiler for RISC-V")
 
 CONSTRUCTED = "static volatile int first; static int x; __attribute__((constructor)) static void begin(void) { x = first + 5; }\n" \
               "int main(void) { return x; }\n"
@@ -96,7 +97,7 @@ def source(name, text):
 
 
 class Victims(unittest.TestCase):
-    @unittest.skipUnless(COMPILERS, "no make or compiler for RISC-V")
+    @needs_compiler
     @unittest.skipUnless(importlib.util.find_spec("elftools"), "no python3-pyelftools")
     def test_a_victim_in_cplusplus(self):
         """It is linked with each key, and the two images differ in these bytes alone: the keys of secret_a.c and secret_b.c."""
@@ -126,6 +127,7 @@ class Programs(unittest.TestCase):
                 self.assertRegex(expected, f"^{name} [0-9a-f]{{8}}\n$")
                 self.assertEqual(written(f"gcc/programs/{name}.elf"), (expected, "end exit 0"))
 
+    @needs_compiler
     def test_what_compilers_call_by_themselves(self):
         source("copies.c", COPIES)
         for compiler in COMPILERS:
@@ -133,6 +135,7 @@ class Programs(unittest.TestCase):
                 self.assertEqual(make(f"{compiler}/copies.elf").stderr, "")
                 self.assertEqual(written(f"{compiler}/copies.elf"), ("", "end exit 14"))
 
+    @needs_compiler
     def test_cplusplus(self):
         for compiler in [*COMPILERS, *LIBRARIES]:
             with self.subTest(compiler=compiler):
@@ -154,6 +157,7 @@ class Programs(unittest.TestCase):
         self.assertEqual(make("gcc/constructed.elf", "CONSTRUCTORS=1").stderr, "")
         self.assertEqual(written("gcc/constructed.elf"), ("", "end exit 5"))
 
+    @needs_compiler
     def test_guard_below_the_stack(self):
         """With GUARD a stack that is too deep is told where it leaves memory, and data is as it was; else it writes over data first."""
         source("deep.c", DEEP)

@@ -71,20 +71,25 @@ class Paths(unittest.TestCase):
 
     def test_table(self):
         for compiler in NEEDS:
-            if missing(compiler):
-                continue
-            for name, (every, publishing, value) in table().items():
-                for level in OTHER_LEVEL.get(name, ("2",)):
-                    path = os.path.join(folder(), f"{compiler}-O{level}", f"{name}.elf")
-                    ended = make("-s", path)
-                    self.assertEqual((ended.returncode, ended.stderr), (0, ""))
-                    with self.subTest(name=name, compiler=compiler, level=level):
-                        self.assertEqual(self.answer(path, value)[0], said(every, compiler))
-                        word, count = self.answer(path, value, "--public-stream", "2")
-                        self.assertEqual(word, said(publishing, compiler))
-                        bytes_told = re.search(r"(\d+) bytes", publishing)
-                        if word == "hidden":
-                            self.assertEqual(count, int(bytes_told[1]) if bytes_told else 0)
+            with self.subTest(compiler=compiler):
+                if missing(compiler):
+                    self.skipTest(missing(compiler))
+                for name, cells in table().items():
+                    for level in OTHER_LEVEL.get(name, ("2",)):
+                        self.check(compiler, level, name, *cells)
+
+    def check(self, compiler, level, name, every, publishing, value):
+        """What the table says of a program is what the built one answers."""
+        path = os.path.join(folder(), f"{compiler}-O{level}", f"{name}.elf")
+        ended = make("-s", path)
+        self.assertEqual((ended.returncode, ended.stderr), (0, ""))
+        with self.subTest(name=name, level=level):
+            self.assertEqual(self.answer(path, value)[0], said(every, compiler))
+            word, count = self.answer(path, value, "--public-stream", "2")
+            self.assertEqual(word, said(publishing, compiler))
+            bytes_told = re.search(r"(\d+) bytes", publishing)
+            if word == "hidden":
+                self.assertEqual(count, int(bytes_told[1]) if bytes_told else 0)
 
 
 if __name__ == "__main__":
