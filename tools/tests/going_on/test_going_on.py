@@ -2,10 +2,7 @@
 import os
 import random
 import subprocess
-import sys
 import unittest
-
-sys.path.append(os.path.dirname(os.path.dirname(os.path.abspath(__file__))))
 
 import support
 from generate.generated import generated_image
