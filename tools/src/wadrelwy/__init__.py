@@ -17,6 +17,6 @@ class Fault(Exception):
 
 
 class Unwritten(Fault):
-    """Standard output couldn't be written whole."""
+    """Standard output, or a file, couldn't be written whole."""
 
     status = 7

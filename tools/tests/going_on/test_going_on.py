@@ -120,6 +120,14 @@ class GoingOn(unittest.TestCase):
         self.assertEqual((told.returncode, told.stdout), (2, ""))
         self.assertIn("the run ends after 14 steps, with 3 calls of the number 1000", told.stderr)
 
+    def test_the_file(self):
+        """It may be read by whoever may read other files that are written; and where it can't be, it is named."""
+        path, out = support.image_of_words("marked", MARKED), os.path.join(support.FOLDER.name, "as_others.elf")
+        self.assertEqual(go_on(path, out, "--steps", "2").returncode, 0)
+        self.assertEqual(os.stat(out).st_mode, os.stat(path).st_mode)
+        told = go_on(path, "/nowhere/at/all.elf", "--steps", "2")
+        self.assertEqual((told.returncode, told.stdout, told.stderr), (2, "", "wadrelwy continue: /nowhere/at/all.elf: No such file or directory\n"))
+
     def test_refusals(self):
         path, over = support.image_of_words("marked", MARKED), support.image_of_words("over", OVER_CODE)
         out = os.path.join(support.FOLDER.name, "none.elf")

@@ -7,6 +7,7 @@ import hashlib
 import json
 import os
 import re
+import resource
 import shutil
 import signal
 import subprocess
@@ -21,7 +22,7 @@ TOOLS = os.path.dirname(os.path.dirname(os.path.dirname(os.path.abspath(__file__
 ROOT = os.path.dirname(TOOLS)
 from wadrelwy import built_programs
 from wadrelwy.counting import numbers
-from wadrelwy.sweep import kept, lists, plots, results, settings
+from wadrelwy.sweep import kept, lists, plan, plots, results, settings
 from wadrelwy.view import Fault, description
 
 PROGRAM, STATS = built_programs.simulator(), built_programs.program(built_programs.STATS)
@@ -272,6 +273,22 @@ class Files(Folder):
             self.assertEqual(told.returncode, 2)
             self.assertIn("/dev/full: more than ", told.stderr)
 
+    def test_a_file_that_cant_be_written_whole(self):
+        """It is told by its name, with the status of what can't be written, and nothing of it is left."""
+        self.assertGreater(len(STAND_IN), 500)
+        told = self.sweep(*self.words(), env=os.environ | {"PYTHONDONTWRITEBYTECODE": "1"},
+                          preexec_fn=lambda: resource.setrlimit(resource.RLIMIT_FSIZE, (500, 500)))
+        self.assertEqual((told.returncode, told.stdout), (7, ""))
+        self.assertRegex(told.stderr, rf"\Awadrelwy sweep: {re.escape(self.out)}/programs/stand_in_[0-9a-f]{{16}}: File too large\n\Z")
+        self.assertEqual(os.listdir(os.path.join(self.out, "programs")), [])
+        with self.assertRaisesRegex(Fault, "^/nowhere/at/all: No such file or directory$"):
+            kept.write("/nowhere/at/all", b"")
+
+    def test_names(self):
+        """As much of the folders as tells files apart, however deep that is."""
+        deep = "/".join("abcdefghij")
+        self.assertEqual(plan.names_of([f"/{build}/{deep}/x.elf" for build in ("one", "two")]), [f"{build}/{deep}/x" for build in ("one", "two")])
+
 
 class Sweeps(Folder):
     def test_every_combination(self):
@@ -304,6 +321,23 @@ class Sweeps(Folder):
         self.write("one.elf", "another program")  # whose results are others
         self.assertEqual(self.sweep(*words).returncode, 0)
         self.assertEqual(self.runs(), 23)
+
+    def test_another_budget(self):
+        """The folder alone goes on with its own budget, and is refused with another."""
+        self.assertEqual(self.sweep(*self.words("--cycles", "5000", "--list")).returncode, 0)
+        told = self.sweep(self.out, "--cycles", "700")
+        self.assertEqual((told.returncode, told.stdout, told.stderr.count("\n")), (2, "", 1))
+        self.assertIn("was planned with --cycles 5000, and not with 700", told.stderr)
+        self.assertEqual((self.sweep(self.out, "--cycles", "5000").returncode, self.runs()), (0, 2))
+
+    def test_two_descriptions_of_one_text(self):
+        """What they ask for is one run of each program, which is made once, and each description has its rows."""
+        words = ["--programs", *self.images, "--descriptions", self.description, self.write("other.toml", DESCRIPTION), "--program", self.program]
+        told = self.sweep(self.out, *words)
+        self.assertEqual((told.returncode, told.stderr, self.runs()), (0, "", 2))
+        self.assertEqual([(row["description"], row["program"], row["cycles"]) for row in self.rows()],
+                         [(name, program, "844") for name in ("core", "other") for program in ("one", "two")])
+        self.assertIn("2 commands in ", self.sweep(f"{self.out}_listed", *words, "--list").stdout)
 
     def test_interrupt(self):
         words = [sys.executable, os.path.join(TOOLS, "wadrelwy"), "sweep", *self.words("--set", "core.rob=1,2,3,4,5,6", "--jobs", "2")]
@@ -549,6 +583,10 @@ class Sweeps(Folder):
             ([self.out, "--programs", *self.images, "--descriptions", text, "--program", self.program], "no text"),
             ([self.out, "--programs", *self.images, "--descriptions", self.images[0], "--program", self.program], "no TOML"),
             ([os.path.join(self.folder, "none")], "plan.json"),
+            ([self.out, "--programs", *self.images, self.images[0], "--descriptions", self.description, "--program", self.program],
+             "a file is named twice, or two have one name but for its ending"),
+            ([self.out, "--programs", *self.images, self.write("one.bin", "one"), "--descriptions", self.description, "--program", self.program],
+             f"one name but for its ending: {self.images[0]} and {self.folder}/one.bin"),
             ([self.out, "--set", "core.rob=1"], "a sweep has programs and descriptions"),
         ]
         for words, note in cases:

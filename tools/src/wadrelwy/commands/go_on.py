@@ -16,13 +16,12 @@ down from its high end. The last line says what was made of what, and where the 
 
 Refused by name: a run that ends before; one that wrote over its own code, since an image has one word for what is fetched and what is loaded; one
 without room. Memory is that of `isa`, 1 MiB from 0x00010000 on, or that of the description of --desc."""
-import os
-import tempfile
 from argparse import ArgumentParser, Namespace
 
 from wadrelwy import Fault, built_programs, statuses
 from wadrelwy.going_on import room, standing, stub, written
 from wadrelwy.riscv.kinds import CALL
+from wadrelwy.sweep.kept import write
 from wadrelwy.verdict.hart import Hart
 from wadrelwy.verdict.loaded import Loaded, load
 from wadrelwy.view.description import read_description
@@ -68,14 +67,6 @@ def steps_to_call(image: Loaded, wanted: int, count: int) -> int:
             if found == count:
                 return hart.retired
     raise Fault(f"{image.name}: no such call")
-
-
-def write(path: str, content: bytes) -> None:
-    """Writes a file whole or not at all."""
-    folder = os.path.dirname(os.path.abspath(path))
-    with tempfile.NamedTemporaryFile(dir=folder, delete=False) as file:
-        file.write(content)
-    os.replace(file.name, path)
 
 
 def main(asked: Namespace) -> int:

@@ -11,7 +11,7 @@ copies of the simulator, the images and the descriptions, whose names have their
 results.csv, results.json and the plots: bars.svg, the slowdown of each program under each defence, and curve-KEY.svg, the mean of the
 slowdowns over each size that is set. Where it was stopped, the command that began it, or `wadrelwy sweep FOLDER` alone, goes on: only what
 is missing is run. FOLDER alone is refused where an image, a description or the simulator isn't what it was; --copies goes on with those
-that the folder has.
+that the folder has. With --cycles it is refused where that isn't the budget that it was planned with.
 
 --against BUILD compares builds: programs of one name, told apart by their folders, as build-O0/sort.elf and build-O2/sort.elf. The column `against` of
 the tables, and a line for each build, say how many cycles more each takes than that of the build's folder, under the same description.
@@ -40,6 +40,7 @@ import os
 import sys
 
 from wadrelwy import Fault, built_programs, statuses
+from wadrelwy.machine.words import MOST
 from wadrelwy.sweep import lists, plan, plots, results, running, settings
 from wadrelwy.sweep.kept import write
 
@@ -53,7 +54,7 @@ def words(parser):
     parser.add_argument("--descriptions", nargs="+", default=[], metavar="DESCRIPTION")
     parser.add_argument("--set", action="append", default=[], metavar="KEY=VALUE,..")
     parser.add_argument("--defences", action="store_true", help=settings.TOLD)
-    parser.add_argument("--cycles", type=int, default=4294967295, metavar="N")
+    parser.add_argument("--cycles", type=int, metavar="N")
     parser.add_argument("--jobs", type=int, default=len(os.sched_getaffinity(0)), metavar="N")
     parser.add_argument("--program", metavar="P")
     parser.add_argument("--stats-program", metavar="P2")
@@ -67,7 +68,7 @@ def checked(asked):
     """Refuses words that don't go together."""
     if bool(asked.programs) != bool(asked.descriptions) or not asked.programs and (asked.set or asked.defences):
         raise Fault("a sweep has programs and descriptions")
-    if min(asked.jobs, asked.cycles) < 1:
+    if asked.jobs < 1 or asked.cycles is not None and asked.cycles < 1:
         raise Fault("jobs and cycles are at least 1")
     lists.checked(asked)
 
@@ -81,6 +82,7 @@ def planned(asked):
     if asked.programs:
         if program is None:
             raise Fault("no simulator: build it (docs/using.md, \"Before you start\"), or name it with --program")
+        asked.cycles = asked.cycles or MOST
         made = running.Checked(plan.make(asked.folder, program, asked, counting=counting), asked.jobs).checked()
         if counting:
             running.of_one_machine(made, asked.jobs)
@@ -90,6 +92,7 @@ def planned(asked):
     if asked.program and program is None:
         raise Fault(f"no simulator {asked.program}")
     made = plan.read(asked.folder)
+    plan.check_cycles(made, asked.cycles)
     if not asked.copies:
         named = built_programs.said(built_programs.STATS, asked.stats_program) if made.counting or asked.stats_program else None
         plan.check_sources(made, built_programs.said(built_programs.SIMULATOR, asked.program), named)

@@ -1,5 +1,6 @@
 """What the runs of a folder are made of: copies of the program, of images and of descriptions, each with the first digits of its sha256 in its
 name. So none is taken for another, here or on another machine; and where each comes from is kept, with what it had."""
+import contextlib
 import hashlib
 import os
 import re
@@ -9,7 +10,7 @@ from functools import cache
 from importlib import metadata
 from typing import NamedTuple
 
-from wadrelwy import built_programs
+from wadrelwy import Unwritten, built_programs
 from wadrelwy.view import Fault
 
 DIGITS = 16
@@ -44,12 +45,30 @@ def text(path, most=None):
         raise Fault(f"{path}: no text, and so no description") from None
 
 
-def write(path, data):
-    """A file as a whole or not at all."""
+@contextlib.contextmanager
+def whole(path):
+    """The name of a part, which takes the place of a file once it is written, and is taken away where that fails."""
     part = f"{path}.{os.getpid()}.part"
-    with open(part, "wb") as file:
-        file.write(data)
-    os.replace(part, path)
+    try:
+        yield part
+        os.replace(part, path)
+    except BaseException as error:
+        with contextlib.suppress(OSError):
+            os.remove(part)
+        if not isinstance(error, OSError):
+            raise
+        # a write that fails, as where the disk is full, names no file
+        named = path if error.filename in (None, part) else error.filename
+        raise (Fault if error.filename else Unwritten)(f"{named}: {error.strerror}") from None
+
+
+def write(path, data, executable=False):
+    """A file as a whole or not at all."""
+    with whole(path) as part:
+        with open(part, "wb") as file:
+            file.write(data)
+        if executable:
+            os.chmod(part, 0o755)
 
 
 def sha256(data):
@@ -71,9 +90,7 @@ def copied(folder, kind, name, ending, data, executable=False):
     file = os.path.join(kind, f"{plain(name)}_{sha256(data)[:DIGITS]}{ending}")
     path = os.path.join(folder, file)
     if not os.path.exists(path) or content(path) != data:
-        write(path, data)
-        if executable:
-            os.chmod(path, 0o755)
+        write(path, data, executable)
     return file
 
 

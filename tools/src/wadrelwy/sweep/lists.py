@@ -9,7 +9,7 @@ import tarfile
 
 from wadrelwy.view import Fault
 
-from .kept import write
+from .kept import whole, write
 from .results import TASK, Store
 
 # of a Slurm array: its own limit is 1001 without a word of the administrator
@@ -142,7 +142,7 @@ def remove(path):
 
 def missing(plan, asks):
     store = Store(plan, asks)
-    return [run for run in plan.runs if not run.refused and run.id not in store.found]
+    return list({run.id: run for run in plan.runs if not run.refused and run.id not in store.found}.values())
 
 
 def command(folder, run):
@@ -194,9 +194,7 @@ class Lists:
         for name in os.listdir(plan.path("tasks")):
             os.remove(plan.path(os.path.join("tasks", name)))
         for name, text in self.texts.items():
-            write(plan.path(name), text.encode())
-            if name in ("run", "array.sh"):
-                os.chmod(plan.path(name), 0o755)
+            write(plan.path(name), text.encode(), executable=name in ("run", "array.sh"))
 
 
 def pack(plan, asks, file, **asked):
@@ -206,7 +204,7 @@ def pack(plan, asks, file, **asked):
     lists = Lists(plan, asks, folder, **asked)
     names = {file, *plan.programs} | {name for run in lists.runs for name in (run.description, run.image)}
     archive = os.path.join(os.path.dirname(os.path.abspath(plan.folder)), f"{folder}.tar.gz")
-    with tarfile.open(f"{archive}.part", "w:gz") as packed:
+    with whole(archive) as part, tarfile.open(part, "w:gz") as packed:
         for name in ("results", "said"):
             packed.addfile(directory(f"{folder}/{name}"))
         for name in sorted(names):
@@ -215,7 +213,6 @@ def pack(plan, asks, file, **asked):
             made = tarfile.TarInfo(f"{folder}/{name}")
             made.size, made.mode = len(text.encode()), 0o755 if name in ("run", "array.sh") else 0o644
             packed.addfile(made, io.BytesIO(text.encode()))
-    os.replace(f"{archive}.part", archive)
     return archive
 
 

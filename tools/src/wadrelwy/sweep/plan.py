@@ -16,7 +16,8 @@ from .kept import IMAGE_MAX, Source, check, changed, cited, content, copied, pla
 
 PLAN = "plan.json"
 CYCLES, STEPS = "cycles", "steps"
-GIVE_ANEW = "give the whole command again, or --copies to go on with what the folder has"
+ANEW = "give the whole command again"
+GIVE_ANEW = f"{ANEW}, or --copies to go on with what the folder has"
 
 
 class Run(NamedTuple):
@@ -85,9 +86,12 @@ def names_of(paths):
     """A short name for each file: its own, with as much of its folders as tells it from the others."""
     def short(path, parts):
         return os.path.splitext("/".join(os.path.abspath(path).split("/")[-parts:]))[0]
-    parts = next((parts for parts in range(1, 9) if len({short(path, parts) for path in paths}) == len(paths)), None)
+    most = max((os.path.abspath(path).count("/") for path in paths), default=0) + 1
+    parts = next((parts for parts in range(1, most + 1) if len({short(path, parts) for path in paths}) == len(paths)), None)
     if parts is None:
-        raise Fault("a file is named twice: " + next(path for path in paths if paths.count(path) > 1))
+        whole = [short(path, most) for path in paths]
+        one, other = next((paths[whole.index(name)], path) for at, (name, path) in enumerate(zip(whole, paths)) if name in whole[:at])
+        raise Fault(f"a file is named twice, or two have one name but for its ending: {one} and {other}")
     return [short(path, parts) for path in paths]
 
 
@@ -163,11 +167,17 @@ def read(folder, file=PLAN):
         raise Fault(f"{os.path.join(folder, file)}: no plan of these tools: give the whole command again") from None
 
 
-def check_sources(plan, program=None, counting=None):
+def check_sources(plan, program=None, counting=None, anew=GIVE_ANEW):
     """What the plan was made of is as it was then, where it is there, and so are the programs that are named now."""
     other = changed(plan.sources)
     if other is not None:
-        raise Fault(f"{other.path} isn't what it was when {plan.folder} was planned: {GIVE_ANEW}")
+        raise Fault(f"{other.path} isn't what it was when {plan.folder} was planned: {anew}")
     for named, of in ((program, plan.sources[0]), (counting, plan.sources[-1] if plan.counting else None)):
         if named is not None and (of is None or sha256(content(named)) != of.sha256):
-            raise Fault(f"{named} isn't the program by which {plan.folder} was planned: {GIVE_ANEW}")
+            raise Fault(f"{named} isn't the program by which {plan.folder} was planned: {anew}")
+
+
+def check_cycles(plan, cycles):
+    """A folder alone goes on with the budget that it was planned with: another one that is named is refused."""
+    if cycles not in (None, plan.cycles):
+        raise Fault(f"{plan.folder} was planned with --cycles {plan.cycles}, and not with {cycles}: {ANEW}")

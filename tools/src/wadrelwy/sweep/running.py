@@ -165,7 +165,9 @@ class Runner:
     def all(self):
         """Answers how many runs were done now: those that cost most first."""
         store = Store(self.plan, self.asks)
-        left = sorted((run for run in self.plan.runs if not run.refused and run.id not in store.found), key=lambda run: -run.cost)
+        # runs of one name are one, such as those of two descriptions of one text
+        left = {run.id: run for run in self.plan.runs if not run.refused and run.id not in store.found}
+        left = sorted(left.values(), key=lambda run: -run.cost)
         for run in left:
             self.plan.check(run)
         begun = time.monotonic()
@@ -197,6 +199,8 @@ class Runner:
         begun = time.monotonic()
         child = subprocess.Popen(self.command(run), stdout=subprocess.PIPE, stderr=subprocess.PIPE, text=True, errors="replace", start_new_session=True)
         self.children.add(child)
+        if self.stopped:
+            child.terminate()
         said, note = child.communicate()
         self.children.discard(child)
         if self.stopped:
