@@ -16,7 +16,7 @@ import unittest
 import support
 from generate.generated import generated_image
 from wadrelwy import built_programs
-from wadrelwy.sampling import chain
+from wadrelwy.sampling import chain, planned, refining
 from wadrelwy.verdict.hart import Hart
 from wadrelwy.verdict.loaded import load
 from wadrelwy.view import Fault
@@ -262,6 +262,7 @@ class Sampling(Folder):
             os.remove(os.path.join(self.out, "results", name))
         told = self.sample("--gather", image=False)
         self.assertEqual((told.returncode, told.stderr.count("missing: two_loops core")), (3, 4))
+        self.assertIn("\n4 of 20 windows are missing: what follows is of the others\n", told.stdout)
         again = self.sample(image=False)
         self.assertEqual((again.returncode, again.stdout, self.measured()), (0, first.stdout, 24))
         self.assertEqual((self.sample(*words).returncode, self.measured()), (0, 24))
@@ -271,6 +272,69 @@ class Sampling(Folder):
         self.assertEqual(told.returncode, 2)
         self.assertIn("isn't what it was", told.stderr)
         self.assertEqual((self.sample(*words).returncode, self.measured()), (0, 64))
+
+    def test_one_window_alone(self):
+        """It has no interval, so nothing is estimated of it; that the others are missing is told."""
+        self.assertEqual(self.sample(*SHORT, "--warm", "60").returncode, 0)
+        runs = self.runs()
+        kept = next(run["result"] for run in runs if not run["values"]["longer"])
+        for run in runs:
+            if run["result"] != kept:
+                os.remove(os.path.join(self.out, run["result"]))
+        told = self.sample("--gather", image=False)
+        self.assertEqual(told.returncode, 3, told.stderr)
+        self.assertIn("\n19 of 20 windows are missing: what follows is of the others\n", told.stdout)
+        self.assertNotIn("cycles per instruction", told.stdout)
+        self.assertEqual((len(self.rows()), self.rows("estimates.csv")), (1, []))
+
+    def runs(self):
+        """The runs that the folder's plan has."""
+        with open(os.path.join(self.out, "windows.json"), encoding="utf-8") as file:
+            made = json.load(file)
+        return [dict(zip(made["columns"], run)) for run in made["runs"]]
+
+    def test_other_words_for_the_folder(self):
+        """The folder alone goes on with what was asked, and is refused with other words."""
+        self.assertEqual(self.sample(*SHORT, "--warm", "60").returncode, 0)
+        for words, said in ((("--windows", "12"), "windows 10, and not with 12"), (("--no-touch",), "touch True, and not with False"),
+                            (("--steps", "9000"), "steps None, and not with 9000"), (("--set", "core.rob=32"), "set [], and not with ['core.rob=32']"),
+                            (("--defences",), "defences False, and not with True")):
+            with self.subTest(words):
+                told = self.sample(*words, image=False)
+                self.assertEqual((told.returncode, told.stdout, told.stderr.count("\n")), (2, "", 1))
+                self.assertIn(f"was asked with {said}: give the whole command again", told.stderr)
+        self.assertEqual(self.sample(*SHORT, "--warm", "60", "--touch", image=False).returncode, 0)
+
+    def test_between_two_questions(self):
+        """While images are made for another question the folder has none: alone it doesn't go on with the one before."""
+        self.assertEqual(self.sample(*SHORT, "--warm", "60").returncode, 0)
+        self.assertEqual(self.sample(*SHORT, "--warm", "60", "--seed", "2", KILL="1").returncode, 2)
+        told = self.sample(image=False)
+        self.assertEqual((told.returncode, told.stdout, told.stderr.count("\n")), (2, "", 1))
+        self.assertIn("sample.json isn't there, so the images of", told.stderr)
+        self.assertEqual(self.sample(*SHORT, "--warm", "60", "--seed", "2").returncode, 0)
+        self.assertEqual(self.sample(image=False).returncode, 0)
+
+    def test_a_further_window_is_of_the_same_files(self):
+        """Where the image isn't the one that was planned, or the folder's simulator isn't its copy, no further window is made."""
+        first = support.image_of_words("two_phases", TWO_PHASES)
+        shutil.copy(first, self.image)
+        self.assertEqual(self.sample(*SHORT, "--warm", "200", "--set", "units.mul_latency=4", "--list").returncode, 0)
+        with open(os.path.join(self.out, "commands"), encoding="utf-8") as file:
+            self.assertEqual({self.shell(line) for line in file.read().splitlines()}, {0})
+        made, question = planned.read(self.out)
+        with open(self.image, "ab") as file:
+            file.write(b"#")
+        with self.assertRaisesRegex(Fault, "two_loops.elf isn't what it was when .* was planned: give the whole command again$"):
+            refining.refined(made, question)
+        shutil.copy(first, self.image)
+        copy = os.path.join(self.out, refining.simulator(made))
+        with open(copy, "ab") as file:
+            file.write(b"#\n")
+        with self.assertRaisesRegex(Fault, "isn't what was asked of"):
+            refining.refined(made, question)
+        shutil.copy(self.program, copy)
+        self.assertGreater(len(refining.refined(made, question).runs), len(made.runs))
 
     def test_lists(self):
         """The lines of `commands`, run by a shell where the folder is, come to what is measured here; what is killed leaves no result."""

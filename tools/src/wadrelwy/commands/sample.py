@@ -23,8 +23,9 @@ is the simulator, and P2 of --stats-program what counts: without them as for `wa
 
 FOLDER, without -o IMAGE's name and `.sample`, gets copies of the images, the descriptions and the programs by names that have their digests, a
 file for each window that was measured, and at the end estimates.csv and estimates.json with a row for each description, figures.csv with one for
-each figure of each, windows.csv with one for each window, and the file summary. Where it was stopped the same command, or
-`wadrelwy sample -o FOLDER` alone, goes on. --list, --gather and the words with them are those of `wadrelwy sweep`.
+each figure of each, windows.csv with one for each window, and the file summary. Where it was stopped the same command goes on; so does
+`wadrelwy sample -o FOLDER` alone once all images are there, with what was asked then: another M, L or the like is refused. An estimate is of two
+windows and more; where some are missing, it is of the others, and says so. --list, --gather and the words with them are those of `wadrelwy sweep`.
 
 The status is 0 where all windows are measured, 3 where some are missing, 16 where a window has two results, which contradicts
 what is proved, 2 for a refusal, 130 if interrupted."""
@@ -39,6 +40,10 @@ from wadrelwy.sweep import lists, plan, results, settings
 from wadrelwy.sweep.kept import write
 
 
+# what is asked where the words say nothing else
+DEFAULTS = {"windows": 150, "length": 10000, "warm": 20000, "seed": 1, "touch": True, "set": [], "defences": False}
+
+
 def number(text: str) -> int:
     return int(text, 0)
 
@@ -47,15 +52,15 @@ def words(parser: ArgumentParser) -> None:
     parser.add_argument("image", nargs="?", metavar="IMAGE")
     parser.add_argument("descriptions", nargs="*", default=[], metavar="DESCRIPTION")
     parser.add_argument("-o", dest="output", metavar="FOLDER")
-    parser.add_argument("--windows", type=number, default=150, metavar="M")
-    parser.add_argument("--length", type=number, default=10000, metavar="L", help="in instructions")
-    parser.add_argument("--warm", type=number, default=20000, metavar="W", help="in instructions")
+    parser.add_argument("--windows", type=number, metavar="M")
+    parser.add_argument("--length", type=number, metavar="L", help="in instructions")
+    parser.add_argument("--warm", type=number, metavar="W", help="in instructions")
     parser.add_argument("--steps", type=number, metavar="N", help="take the first N instructions for the run")
-    parser.add_argument("--seed", type=number, default=1, metavar="S", help="of the places within their parts")
-    parser.add_argument("--touch", action=BooleanOptionalAction, default=True, help="load what may be in the caches before the warm-up")
+    parser.add_argument("--seed", type=number, metavar="S", help="of the places within their parts")
+    parser.add_argument("--touch", action=BooleanOptionalAction, help="load what may be in the caches before the warm-up; without either it is so")
     parser.add_argument("--at", type=number, metavar="ADDRESS")
-    parser.add_argument("--set", action="append", default=[], metavar="KEY=VALUE,..")
-    parser.add_argument("--defences", action="store_true", help=settings.TOLD)
+    parser.add_argument("--set", action="append", metavar="KEY=VALUE,..")
+    parser.add_argument("--defences", action="store_true", default=None, help=settings.TOLD)
     parser.add_argument("--jobs", type=number, default=len(os.sched_getaffinity(0)), metavar="N")
     parser.add_argument("--program", metavar="P")
     parser.add_argument("--stats-program", metavar="P2")
@@ -77,15 +82,20 @@ def checked(asked: Namespace) -> None:
 def made_of(asked: Namespace) -> tuple[plan.Plan, planned.Question]:
     """The plan of the words, or the one that the folder has."""
     if asked.image:
+        vars(asked).update({name: value for name, value in DEFAULTS.items() if getattr(asked, name) is None})
         simulator = built_programs.needed(built_programs.SIMULATOR, asked.program)
         counting = built_programs.counting(asked.program, asked.stats_program)
         if counting is None:
             raise Fault(f"no program {built_programs.STATS} {asked.stats_program or f'beside {simulator}'}: build it (docs/using.md, \"Count a run\"), "
                         f"or name it by --stats-program or {built_programs.STATS.upper()}")
         return planned.make(asked, simulator, counting)
-    made = planned.read(asked.output)
-    plan.check_sources(made[0], built_programs.said(built_programs.STATS, asked.stats_program))
-    return made
+    made, question = planned.read(asked.output)
+    for name in planned.KEYS:
+        given = getattr(asked, name)
+        if given not in (None, question.asked.get(name)):
+            raise Fault(f"{asked.output} was asked with {name} {question.asked.get(name)}, and not with {given}: {plan.ANEW}")
+    plan.check_sources(made, built_programs.said(built_programs.STATS, asked.stats_program), anew=plan.ANEW)
+    return made, question
 
 
 def write_estimates(made: plan.Plan, question: planned.Question) -> int:

@@ -185,7 +185,8 @@ class Found(NamedTuple):
             of = {longer: {run.values["window"]: taken for run, taken in here if run.values["longer"] == longer and not run.values[CHANGE]}
                   for longer in (False, True)}
             first = max((run.values[FIRST_LOADS] for run, _ in here), default=0)
-            if of[False]:
+            # one window alone has no interval
+            if len(of[False]) > 1:
                 yield estimate(base, dict(values), of[False], of[True], first, self.moved(here))
 
 
@@ -240,6 +241,8 @@ HOW = (f"+- is the {SHARE} % interval of a mean over parts of the run: Student's
 
 def summary(question: Question, found: Found) -> Iterator[str]:
     yield from about(question)
+    if found.missing:
+        yield f"{len(found.missing)} of {len(found.missing) + len(found.measured)} windows are missing: what follows is of the others"
     for made in found.estimates():
         yield from told(question, made)
     yield from HOW

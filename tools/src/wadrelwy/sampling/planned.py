@@ -11,8 +11,8 @@ from typing import Any, Iterator, NamedTuple, Optional
 from wadrelwy import Fault
 from wadrelwy.going_on.report import Report
 from wadrelwy.machine.words import MOST
-from wadrelwy.sweep import plan, running, settings
-from wadrelwy.sweep.kept import IMAGE_MAX, cited, content, copied, plain, sha256, source, write
+from wadrelwy.sweep import lists, plan, running, settings
+from wadrelwy.sweep.kept import IMAGE_MAX, changed, cited, content, copied, plain, sha256, source, write
 from wadrelwy.sweep.results import line_of
 from wadrelwy.verdict.loaded import load
 from wadrelwy.view.description import read_description
@@ -87,6 +87,7 @@ class Beside:
     def __init__(self, measurer: Measurer) -> None:
         self.measurer, self.pool = measurer, ThreadPoolExecutor(measurer.jobs)
         self.waiting: list["Future[None]"] = []
+        self.begun: set[str] = set()
 
     def __enter__(self) -> "Beside":
         return self
@@ -96,7 +97,8 @@ class Beside:
         for over in [each for each in self.waiting if each.done()]:
             self.waiting.remove(over)
             over.result()
-        if not os.path.exists(self.measurer.plan.path(run.result)):
+        if run.id not in self.begun and not os.path.exists(self.measurer.plan.path(run.result)):
+            self.begun.add(run.id)
             self.waiting.append(self.pool.submit(self.measurer.one, run))
 
     def __exit__(self, kind: Optional[type[BaseException]], fault: Optional[BaseException], trace: Optional[TracebackType]) -> None:
@@ -137,15 +139,18 @@ def make(asked: Namespace, simulator: str, counting: str) -> tuple[plan.Plan, Qu
 def read(folder: str) -> tuple[plan.Plan, Question]:
     """What a folder has. What it was made of has to be what it was."""
     question, made = read_question(folder), plan.read(folder, PLAN)
-    plan.check_sources(made)
+    plan.check_sources(made, anew=plan.ANEW)
     return made, question
 
 
 def read_question(folder: str) -> Question:
+    path = os.path.join(folder, QUESTION)
+    if os.path.isdir(folder) and not os.path.exists(path):
+        raise Fault(f"{path} isn't there, so the images of {folder} aren't all: {plan.ANEW}")
     try:
-        return Question(**json.loads(content(os.path.join(folder, QUESTION))))
+        return Question(**json.loads(content(path)))
     except (ValueError, TypeError):
-        raise Fault(f"{os.path.join(folder, QUESTION)}: no question of these tools: give the whole command again") from None
+        raise Fault(f"{path}: no question of these tools: {plan.ANEW}") from None
 
 
 class Setting(NamedTuple):
@@ -212,7 +217,11 @@ class Maker:
             raise Fault(f"{self.asked.image} runs otherwise in the descriptions' unlike memories: ask of each by itself")
         end, retired = wholes.pop()
         question = Question(self.name, retired, end, self.words, names.pop())
+        # until all images are there the folder has no question: neither one of its own, nor one that was asked before
+        lists.remove(self.path(QUESTION))
         made = self.plan_of(sorted(self.runs(parts, question), key=lambda run: (order.index(run.description), run.values["longer"], run.values["window"])))
+        if changed(self.sources[1:2]):
+            raise Fault(f"{self.asked.image} was written while its images were made: {plan.ANEW}")
         plan.keep(made, PLAN)
         write(self.path(QUESTION), json.dumps(question._asdict()).encode())
         return made, question

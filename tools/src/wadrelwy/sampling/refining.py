@@ -2,9 +2,10 @@
 import os
 from typing import Any, Optional
 
+from wadrelwy import Fault
 from wadrelwy.going_on.report import Report
 from wadrelwy.sweep import plan, settings
-from wadrelwy.sweep.kept import content, copied, sha256
+from wadrelwy.sweep.kept import changed, check, content, copied, plain, sha256
 from wadrelwy.sweep.results import Store
 from wadrelwy.verdict.loaded import load
 from wadrelwy.view.description import read_description
@@ -44,7 +45,11 @@ def refined(made: plan.Plan, question: Question) -> Optional[plan.Plan]:
 
 
 def window(made: plan.Plan, question: Question, before: plan.Run, begin: int) -> plan.Run:
-    """A further window, whose image is made of that of the window before it."""
+    """A further window, whose image is made of that of the window before it, where all of which it is made is what it was."""
+    other = changed([each for each in made.sources if each.path == before.origin])
+    if other is not None:
+        raise Fault(f"{other.path} isn't what it was when {made.folder} was planned: {plan.ANEW}")
+    check(made.folder, [simulator(made), *before.files])
     asked, description = question.asked, made.path(before.description)
     image, path = load(before.origin, read_description(description)), made.path(before.image)
     stands, text = load(path, read_description(description)), content(description)
@@ -65,4 +70,4 @@ def window(made: plan.Plan, question: Question, before: plan.Run, begin: int) ->
 def simulator(made: plan.Plan) -> str:
     """The folder's copy of the simulator."""
     source = made.sources[-1]
-    return os.path.join("programs", f"{os.path.basename(source.path)}_{source.sha256[:16]}")
+    return os.path.join("programs", f"{plain(os.path.basename(source.path))}_{source.sha256[:16]}")
