@@ -53,9 +53,13 @@ def seen(path):
     return [line.strip() for line in asked_of(path) if not line.startswith("/") and " --" not in line]
 
 
-def sha256(path):
+def contents(path):
     with open(path, "rb") as file:
-        return hashlib.sha256(file.read()).hexdigest()
+        return file.read()
+
+
+def sha256(path):
+    return hashlib.sha256(contents(path)).hexdigest()
 
 
 class Set(unittest.TestCase):
@@ -110,6 +114,21 @@ class Set(unittest.TestCase):
         self.assertEqual((told.returncode, told.stdout), (2, ""))
         self.assertIn(f": {CORE} with core.rob 8 {image()} with 0x{SECRET:x} 22 --secret ", told.stderr)
         self.assertIn("status 4, description K5 cache.line 128: cache.line is 4 to 64, and 128 isn't (", told.stderr)
+
+
+class Written(unittest.TestCase):
+    """A file that is written while the verdict is made."""
+
+    def test_it_is_refused(self):
+        """Whichever of them it is: parts of the verdict may be of the old file, and parts of the new."""
+        for name in ("description", "image", "program"):
+            described, imaged = (support.file_of(f"written.{ending}", contents(path)) for ending, path in (("toml", CORE), ("elf", image())))
+            place = {"description": described, "image": imaged, "program": "$0"}[name]
+            asked = program(HIDDEN.replace("\n", "\\n"), 0, "writing", f"printf '#' >> {place}")
+            told = command("verdict", described, imaged, "--secret", WORD, "--secrets-program", asked)
+            with self.subTest(name=name):
+                self.assertEqual((told.returncode, told.stdout, told.stderr.count("\n")), (2, "", 1))
+                self.assertIn(f"{asked if name == 'program' else place} was written while the verdict was made: ask again", told.stderr)
 
 
 class Value(unittest.TestCase):
@@ -198,6 +217,14 @@ class Objects(unittest.TestCase):
         self.assertEqual((found["code"], found["premises"]), ({"one_entry": True, "differ": []}, {"met": False, "promised": False}))
         self.assertEqual((found["path"]["end"], found["path"]["differ"]), ("exit 0", []))
         self.assertEqual((found["one_run"]["asked"], found["one_run"]["shown"]["entry"]), (True, 6))
+
+    def test_why_none_was_asked(self):
+        """A refusal of what looks for secrets names the files that were given, and not their copies."""
+        refusing = program("", 2, "refusing", "echo secret 0 outside >&2")
+        told = command("verdict", CORE, victim(), victim(0x22), "--set", "core.rob=16", "--json", "--program", simulator(), "--secrets-program", refusing)
+        found = json.loads(told.stdout)
+        self.assertEqual((told.returncode, found["one_run"]["asked"]), (14, False))
+        self.assertTrue(found["one_run"]["why"].startswith(f"{CORE} with core.rob 16 {victim()} --secret "), found["one_run"]["why"])
 
     def test_a_refusal_is_no_object(self):
         told = command("verdict", CORE, "/nowhere", "--secret", WORD, "--json", "--secrets-program", secrets())

@@ -11,6 +11,7 @@ import sys
 import tempfile
 import unittest
 from types import SimpleNamespace
+from unittest import mock
 
 import material  # finds the modules below
 from wadrelwy import built_programs
@@ -50,6 +51,13 @@ def traces():
     return path
 
 
+def killed():
+    """A simulator that is killed in the second cycle."""
+    path = support.file_of("killed", b"#!/bin/sh\necho 1\nkill -9 $$\n")
+    os.chmod(path, 0o755)
+    return path
+
+
 def program(said, status=0, name="stand_in", head=""):
     """A program that says this, whatever it is asked; it leaves its words in a file beside it."""
     path = support.file_of(name, f"#!/bin/sh\necho \"$@\" >> $0.asked\n{head}\nprintf '{said}'\nexit {status}\n".encode())
@@ -83,6 +91,15 @@ class Ranges(unittest.TestCase):
                            ("9" * 5000 + ":1", "at most 4294967295"), ("key+" + "9" * 5000, "at most 4294967295")]:
             with self.subTest(word=word), self.assertRaises(Fault) as told:
                 ranges.named(self.IMAGE, word)
+            self.assertIn(note, str(told.exception))
+
+    def test_of_an_image(self):
+        """Of several words an image takes those whose symbols it has. A word that names one of its symbols wrongly is refused, not left out."""
+        self.assertEqual(certifying.secrets_of(self.IMAGE, ["key", "kee", "label:2"]), ["0x00000100:16", "0x00000200:2"])
+        for words, note in [(["kee"], "no symbol `kee`"), (["key", "key:17"], "has 16 bytes"), (["key", "twice"], "at 00000300 and at 00000400"),
+                            (["key", "label"], "doesn't say how many bytes")]:
+            with self.subTest(words=words), self.assertRaises(Fault) as told:
+                certifying.secrets_of(self.IMAGE, words)
             self.assertIn(note, str(told.exception))
 
     def test_of_addresses(self):
@@ -230,6 +247,17 @@ class Fates(unittest.TestCase):
         with self.assertRaises(Fault):
             self.fate(pc=0x10028)
 
+    def test_a_trace_that_was_cut(self):
+        """Where it stops without its last line it tells nothing, nor does a line without its end; so there is no verdict."""
+        lines = LINES.splitlines(keepends=True)
+        for cut in ([], lines[:3], lines[:6], [*lines[:6], lines[6].rstrip("\n")]):
+            with self.subTest(cut=cut), self.assertRaisesRegex(Fault, "the simulator's trace was cut"):
+                wrong_path.Scan(5, 4, 0x10024).fate(cut)
+        words = "--secret", WORD, "--secrets-program", program(SHOWN.replace("\n", "\\n"), 1), "--program", killed()
+        told = command("verdict", CORE, loading(), *words)
+        self.assertEqual((told.returncode, told.stdout, told.stderr.count("\n")), (2, "", 1))
+        self.assertIn("the simulator's trace was cut", told.stderr)
+
     def test_lines(self):
         """The verdict tells it of the worked trace, and --all lists what takes effect on the secret: there nothing does."""
         image, secrets = support.example("bounds_check.elf"), program(SHOWN.replace("\n", "\\n"), 1)
@@ -356,6 +384,17 @@ class Table(unittest.TestCase):
             found = [line.split(" | ") for line in told.stdout.splitlines() if line.startswith("| `same`")]
             self.assertEqual([[row[1], re.split("[ ;]", row[3])[0]] for row in found], rows)
 
+    def test_folders_of_one_name(self):
+        """Images in folders of one name are told apart by the folders above these, and each has its row."""
+        images = [os.path.join(os.path.dirname(self.folder), above, "gcc-O2", "same.elf") for above in ("old", "new")]
+        for image, number in zip(images, (LOADS, STORES[0])):
+            os.makedirs(os.path.dirname(image))
+            shutil.copy(loading(number, *EXITS), image)
+        told = self.certify("--programs", *images, "--secret", WORD, "--descriptions", CORE)
+        self.assertEqual((told.returncode, told.stderr), (13, ""))
+        found = [line.split(" | ") for line in told.stdout.splitlines() if line.startswith("| `same`")]
+        self.assertEqual([[row[1], re.split("[ ;]", row[3])[0]] for row in found], [["old/gcc-O2", "certified"], ["new/gcc-O2", "vacuous"]])
+
     BUILD = os.path.basename(os.path.dirname(loading()))
     NAME = os.path.splitext(os.path.basename(loading()))[0]
 
@@ -401,6 +440,40 @@ class Table(unittest.TestCase):
         os.remove(os.path.join(results, min(os.listdir(results))))
         again = self.certify()
         self.assertEqual((again.returncode, again.stdout.splitlines()[-1], len(self.runs())), (1, "1 certified, 1 exposed", 3))
+
+    def test_another_budget(self):
+        """The folder alone goes on with its own budget, and is refused with another."""
+        self.assertEqual(self.certify(*self.words("--cycles", "5000")).returncode, 0)
+        told = self.certify("--cycles", "700")
+        self.assertEqual((told.returncode, told.stdout, told.stderr.count("\n")), (2, "", 1))
+        self.assertIn("was planned with --cycles 5000, and not with 700", told.stderr)
+        self.assertEqual((self.certify("--cycles", "5000").returncode, len(self.runs())), (0, 1))
+
+    def test_two_descriptions_of_one_text(self):
+        """What they ask for is one run, which is made once, and each has its column."""
+        descriptions = [self.stand_in(name, material.read("examples", "core.toml")) for name in ("first.toml", "second.toml")]
+        told = self.certify("--programs", loading(), "--secret", WORD, "--descriptions", *descriptions, "--set", "stt.model=off")
+        self.assertEqual((told.returncode, told.stderr, len(self.runs())), (1, "", 1))
+        cell = "**address**, `00010018`, cycle 15, on the path"
+        self.assertEqual(told.stdout.splitlines()[:3], ["| Program | Build | Secret | first, `off` | second, `off` |", "|---|---|---|---|---|",
+                                                        f"| `{self.NAME}` | {self.BUILD} | 0001fff8, 1 byte | {cell} | {cell} |"])
+
+    def test_what_became_of_it_is_kept_whole_or_not(self):
+        """Of a simulator that was killed nothing is kept; and what is kept and was cut is refused."""
+        told = command("certify", self.folder, *self.words("--set", "stt.model=off"), "--secrets-program", self.program, "--program", killed())
+        self.assertEqual((told.returncode, told.stdout), (2, ""))
+        self.assertIn("the simulator's trace was cut", told.stderr)
+        self.assertEqual(glob.glob(f"{self.folder}/fates/*"), [])
+        told = self.certify()
+        self.assertEqual((told.returncode, told.stderr), (1, ""))
+        self.assertIn("cycle 15, on the path |", told.stdout)
+        [kept] = glob.glob(f"{self.folder}/fates/*")
+        for text in ("", '[15, "acc', "[]", "7"):
+            with open(kept, "w", encoding="ascii") as file:
+                file.write(text)
+            told = self.certify()
+            self.assertEqual((told.returncode, told.stdout, told.stderr.count("\n")), (2, "", 1))
+            self.assertIn(f"{kept} is of another answer, or was cut", told.stderr)
 
     def test_statuses(self):
         told = self.certify(*self.words())
@@ -492,6 +565,23 @@ class Table(unittest.TestCase):
         self.assertEqual(told.returncode, 16)
         self.assertIn("traces that are proved equal aren't", told.stderr)
 
+    def test_what_has_no_answer(self):
+        """A run of the table that has no answer is told, and has a status: what is held against the machine isn't all of the table."""
+        self.certify(*self.words("--set", "stt.model=off,spectre"))
+        with open(os.path.join(self.folder, "certify.json"), encoding="utf-8") as file:
+            made = json.load(file)
+        [gone] = [run["result"] for run in (dict(zip(made["columns"], run)) for run in made["runs"]) if run["values"] == {"stt.model": "spectre"}]
+        os.remove(os.path.join(self.folder, gone))
+        pairs = self.stand_in("pairs", PAIRS)
+        for more in ([], ["--record", f"{self.folder}.csv"]):
+            told = command("draw", self.folder, "--draws", "3", *more, "--program", pairs)
+            self.assertEqual((told.returncode, told.stderr), (3, ""))
+            missing, off = told.stdout.splitlines()
+            self.assertEqual(missing, f"{self.NAME} {self.BUILD} spectre: no result; skipped: `wadrelwy certify {self.folder}` goes on")
+            self.assertIn(f"{self.NAME} {self.BUILD} off: exposed; unequal in cycle 15", off)
+        told = command("draw", self.folder, "--draws", "3", "--except", " spectre", "--program", pairs)
+        self.assertEqual((told.returncode, len(told.stdout.splitlines())), (0, 1))
+
     def test_conservative(self):
         self.certify(*self.words("--set", "stt.model=off,spectre"))
         equal = self.stand_in("equal", "#!/bin/sh\nprintf 'premise no\\nequal\\nretired 5 cycles 21\\n'\n")
@@ -565,6 +655,16 @@ class Builds(unittest.TestCase):
                 [image] = certifying.built(folder, os.path.join(folder, "out"), ["gcc"], ["2"], "", 1)
                 with open(image, encoding="utf-8") as file:
                     self.assertIn(text, file.read())
+
+    def test_no_compiler(self):
+        """Where none is there nothing is made, not even what the Makefile makes without a name."""
+        with tempfile.TemporaryDirectory() as folder:
+            with open(os.path.join(folder, "st.c"), "w", encoding="ascii") as file:
+                file.write("")
+            with mock.patch.object(certifying, "is_there", return_value=False), mock.patch.object(subprocess, "run") as ran:
+                with self.assertRaisesRegex(Fault, "can't be built: of gcc and clang none is there"):
+                    certifying.built(folder, os.path.join(folder, "out"), ["gcc", "clang"], ["2"], "", 1)
+            ran.assert_not_called()
 
 
 @needs_secrets

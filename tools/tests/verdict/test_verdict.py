@@ -198,6 +198,9 @@ class PathCommand(unittest.TestCase):
     def test_loads(self):
         told = command("path", "loads", support.example("fault_shadow.elf"), "--desc", CORE, "--model", "spectre").stdout
         self.assertRegex(told, r"(?m)^0001fff8 .*first at 00010008 <_start\+0x8>$")
+        for steps, note in (("2", "wadrelwy path: the run goes on behind these 2 steps; --steps N looks further\n"), ("1000", "")):
+            told = command("path", "loads", support.example("fault_shadow.elf"), "--desc", CORE, "--model", "spectre", "--steps", steps)
+            self.assertEqual((told.returncode, told.stderr), (0, note))
 
     def test_refusal(self):
         told = command("path", "log", "/nowhere")

@@ -33,7 +33,7 @@ row for each run, and so has FOLDER/table.json, with the status of each and the 
 standard output in place of the table. With --together all builds of a program that have the same cells are one row of the table. Where it
 was stopped, the command that began it, or `wadrelwy certify FOLDER` alone, goes on: only what is missing is asked. FOLDER has copies of all
 that was asked of. FOLDER alone is refused where an image, a description or the program isn't what it was; --copies goes on with those that
-the folder has. --build builds all images anew.
+the folder has. With --cycles it is refused where that isn't the budget that it was asked with. --build builds all images anew.
 
 N of --cycles is 4294967295 without it, of steps where the run is one of the instruction set, and as many --jobs as processors. P of --secrets-program is the program that is asked: without it the
 variable STT_SECRETS, else crates/stt_secrets/out/stt_secrets. The status is that of the worst cell: 0 certified, 1 something shows, 3 a
@@ -55,7 +55,7 @@ def words(parser):
     programs.add_argument("--programs", nargs="+", default=[], metavar="IMAGE")
     programs.add_argument("--build", metavar="SOURCES")
     parser.add_argument("--compilers", nargs="+", choices=certifying.NEEDS, default=list(certifying.NEEDS))
-    parser.add_argument("--levels", nargs="+", choices="0123s", default=["1", "2"])
+    parser.add_argument("--levels", nargs="+", choices=list("0123s"), default=["1", "2"])
     parser.add_argument("--only", default="", metavar="NAME")
     parser.add_argument("--secret", nargs="+", action="extend", default=[], metavar="SYMBOL[+OFFSET][:BYTES]")
     asking.public_streams(parser)
@@ -63,7 +63,7 @@ def words(parser):
     parser.add_argument("--every-core", action="store_true", help="with --descriptions: every core that delays is asked of, too")
     parser.add_argument("--set", action="append", default=[], metavar="KEY=VALUE,..")
     parser.add_argument("--defences", action="store_true", help=settings.TOLD)
-    parser.add_argument("--cycles", type=int, default=4294967295, metavar="N")
+    parser.add_argument("--cycles", type=int, metavar="N")
     parser.add_argument("--jobs", type=int, default=len(os.sched_getaffinity(0)), metavar="N")
     parser.add_argument("--secrets-program", metavar="P")
     parser.add_argument("--program", metavar="P")
@@ -78,7 +78,7 @@ def checked(asked):
         raise Fault("a table has programs and secrets, and descriptions where cores are asked of")
     if asked.secret and not asked.descriptions and (asked.set or asked.defences):
         raise Fault(f"{'--set' if asked.set else '--defences'} is of descriptions, and there are none")
-    if asked.jobs < 1 or asked.cycles < 1:
+    if asked.jobs < 1 or asked.cycles is not None and asked.cycles < 1:
         raise Fault("jobs and cycles are at least 1")
 
 
@@ -86,9 +86,11 @@ def planned(asked, program):
     """The plan of the words, or the one that the folder has."""
     if not asked.secret:
         made = certifying.read(asked.folder, asked.public_stream)
+        plan.check_cycles(made, asked.cycles)
         if not asked.copies:
             plan.check_sources(made, built_programs.said(built_programs.SECRETS, asked.secrets_program))
         return made
+    asked.cycles = asked.cycles or asking.MOST
     if asked.build:
         folder = os.path.join(asked.folder, "build")
         asked.programs = certifying.built(asked.build, folder, asked.compilers, asked.levels, asked.only, asked.jobs)

@@ -8,8 +8,9 @@ image's own to begin with, whether they have one trace: two that haven't contrad
 is asked until a value with another trace than the image's own is found. The values are zeros and ones; words that are addresses within memory,
 all of them and one at a time; where a branch shows, what it compares on the path, at each place of the secret; N that are drawn; and for what
 shows the image's own with one byte changed. Where none is found, what shows may be conservative (docs/secrets.md, "What stays conservative"), or
-is met by few values only, and the line says by how few. What is asked of every core that delays is of no one machine, so such a run is skipped, and told. A secret of which there are no more than N values is tried with each. A secret that
-the file has no bytes for (.bss) is skipped, and told. A line is written for each run; its NAME, of --only and --except, is a part of
+is met by few values only, and the line says by how few. What is asked of every core that delays is of no one machine, so such a run is skipped, and
+told; and so is one that has no answer yet, as where `wadrelwy certify` was interrupted. A secret of which there are no more than N values is tried
+with each. A secret that the file has no bytes for (.bss) is skipped, and told. A line is written for each run; its NAME, of --only and --except, is a part of
 `chacha20 gcc-O2 spectre`, with the description behind the second word where there are several. The cycles are those that the run was looked at.
 
 Where FOLDER was asked with public streams, only values are compared with which the program publishes what it does with the image's own, in as
@@ -63,7 +64,7 @@ def words(parser):
 
 def name_of(plan, run):
     """The program, its folder, the description where there are several, and what is set: `chacha20 gcc-O2 spectre`."""
-    build, file = run.origin.split("/")[-2:]
+    build, file = certificates.build_of(run), os.path.basename(run.origin)
     several = len({other.base for other in plan.runs}) > 1
     return " ".join([file.removesuffix(".elf"), build, *[run.base] * several, *certificates.told_setting(plan, run)])
 
@@ -216,14 +217,17 @@ class Drawing:
 
 
 def drawings(asked, program, screen):
-    """The runs that are over and asked for; how long a pair goes on is told on a screen."""
+    """The runs that are over and asked for, and a line with its status for each that is asked for and has no answer; how long a pair goes on is told
+    on a screen."""
     made = certifying.read(asked.folder, asked.public_stream)
     store = Store(made, certifying.Asks(made))
-    runs = [run for run in made.runs if run.id in store.found and asked.only in name_of(made, run)]
-    found = [Drawing(made, run, program, store, screen) for run in runs if asked.left_out is None or asked.left_out not in name_of(made, run)]
+    names = [(name_of(made, run), run) for run in made.runs if not run.refused]
+    asked_for = [(name, run) for name, run in names if asked.only in name and (asked.left_out is None or asked.left_out not in name)]
+    found = [Drawing(made, run, program, store, screen) for _, run in asked_for if run.id in store.found]
     if not found:
         raise Fault(f"{asked.folder} has no answer of such a name: names are as `chacha20 gcc-O2 spectre`")
-    return found
+    return found, [(f"{name}: {store.why(run)}; skipped: `wadrelwy certify {asked.folder}` goes on", statuses.CUT)
+                   for name, run in asked_for if run.id not in store.found]
 
 
 def side_by_side_of(found, asked, record, folder):
@@ -257,14 +261,17 @@ def outcome_of(going):
 def lines(asked, program):
     """The line and the status of each run."""
     if asked.record is None:
-        found = drawings(asked, program, sys.stderr)
+        found, missing = drawings(asked, program, sys.stderr)
+        yield from missing
         with ThreadPoolExecutor(asked.jobs) as pool:
             yield from pool.map(lambda each: each.tried(asked.draws, asked.seed), found)
         return
     with stretches.Locked(asked.record), tempfile.TemporaryDirectory() as folder:
         record = stretches.Record(asked.record)
         # the rest of all cells is told, and not how long a pair goes on
-        yield from side_by_side_of(drawings(asked, program, io.StringIO()), asked, record, folder)
+        found, missing = drawings(asked, program, io.StringIO())
+        yield from missing
+        yield from side_by_side_of(found, asked, record, folder)
 
 
 def main(asked):

@@ -5,9 +5,11 @@
     wadrelwy path loads IMAGE [--steps N] [--desc D] [--model M]
 
 `log` writes a line a step: pc, word, the register written and its value, the bytes accessed, the instruction, its symbol. `report`
-writes what the simulator's `isa` writes. `loads` writes each byte that is loaded with the first load's pc. Without --desc memory is that
+writes what the simulator's `isa` writes. `loads` writes each byte that is loaded with the first load's pc. N is 1000000 without --steps: where the run
+goes on behind N steps the last line says so, and of `loads` a line on standard error. Without --desc memory is that
 of `isa`: 1 MiB from 0x00010000 on. --model spectre and --model off pass over loads and stores that would trap, as the path of these
 models does; without --model they trap."""
+import sys
 from argparse import ArgumentParser, Namespace
 from typing import Iterator
 
@@ -34,8 +36,11 @@ def log(image: Loaded, run: hart.Hart, steps: int) -> Iterator[str]:
 
 
 def loads(image: Loaded, model: str, steps: int) -> Iterator[str]:
-    for address, pc in sorted(path.walk(image, model, steps).loads.items()):
+    walked = path.walk(image, model, steps)
+    for address, pc in sorted(walked.loads.items()):
         yield f"{image.named(address)} first at {image.named(pc)}"
+    if walked.end is None:
+        print(f"wadrelwy path: the run goes on behind these {walked.steps} steps; --steps N looks further", file=sys.stderr)
 
 
 def main(asked: Namespace) -> int:

@@ -58,10 +58,12 @@ that looks for secrets: without --secrets-program the variable STT_SECRETS, else
 images are judged without it. The notation is that of instructions: as compilers write them, or with numbers of registers and no aliases.
 docs/using.md, "Does my routine leak?", goes through an example."""
 import json
+import os
 import tempfile
 
 from wadrelwy import Fault, built_programs
 from wadrelwy.machine import words as asking
+from wadrelwy.sweep.kept import digest
 from wadrelwy.verdict import certificate, given, judge, record, report
 from wadrelwy.view.disassembly import CALLERS, MANUAL
 
@@ -84,6 +86,18 @@ def words(parser):
     parser.add_argument("--notation", choices=(CALLERS, MANUAL), default=CALLERS)
 
 
+def see(asked, *paths):
+    """Keeps what these files have before anything is asked of them."""
+    asked.seen |= {path: digest(path) for path in paths if path is not None and os.path.isfile(path)}
+
+
+def see_again(asked):
+    """Refuses a verdict of files of which one was written meanwhile: parts of it may be of the old one, and parts of the new."""
+    for path, before in asked.seen.items():
+        if not os.path.isfile(path) or digest(path) != before:
+            raise Fault(f"{path} was written while the verdict was made: ask again")
+
+
 def secrets_program(asked):
     """The program that is asked of secrets."""
     program = built_programs.secrets(asked.secrets_program)
@@ -95,6 +109,7 @@ def secrets_program(asked):
 def of_path(asked, files):
     """The verdict on one image and its secrets, on every core that delays."""
     program = secrets_program(asked)
+    see(asked, program)
     asked.one, asked.desc = files.images[0].copy, files.description and files.description.copy
     case = certificate.case_of_path(program, asked)
     tell(asked, files, case, certificate.lines(case, asked.notation), record.of_one, (program,))
@@ -107,6 +122,7 @@ def of_one(asked, files):
     simulator = built_programs.simulator(asked.program)
     if simulator is None and (asked.all or asked.program):
         raise Fault("no simulator: build it (docs/using.md, \"Before you start\"), or name it with --program")
+    see(asked, program, simulator)
     asked.description, asked.one = (file.copy for file in files.files)
     case = certificate.case_of(program, asked, simulator)
     tell(asked, files, case, certificate.lines(case, asked.notation), record.of_one, (program, simulator))
@@ -119,6 +135,7 @@ def of_two(asked, files):
     if program is None:
         raise Fault("no simulator: build it (docs/using.md, \"Before you start\"), or name it with --program")
     secrets = built_programs.secrets(asked.secrets_program)
+    see(asked, program, secrets)
     case = judge.case_of(program, *(file.copy for file in files.files), asked.cycles, secrets)
     tell(asked, files, case, report.lines(case, asked.notation), record.of_two, (program, secrets))
     return case.status()
@@ -127,6 +144,7 @@ def of_two(asked, files):
 def tell(asked, files, case, lines, as_record, programs):
     """Writes the verdict, as lines or as an object."""
     lines = [files.told(line) for line in lines]
+    see_again(asked)
     if asked.json:
         lines = [json.dumps(as_record(case, files, asked.cycles or asked.steps, programs, lines), indent=1)]
     print("\n".join(lines))
@@ -159,6 +177,8 @@ def checked(asked):
 
 def main(asked):
     images = checked(asked)
+    asked.seen = {}
+    see(asked, asked.description, asked.desc, *images)
     with tempfile.TemporaryDirectory() as folder:
         files = given.of_words(asked.description or asked.desc, images, asked.set, asked.secret, asked.value, folder)
         answer = of_two if len(files.images) == 2 else of_one if asked.description else of_path

@@ -80,11 +80,11 @@ def rows(plan, asks):
 
 def with_fates(plan, found, simulator, jobs):
     """The rows, each exposure with what became of its instruction; a walk that was made is kept."""
-    done = [run for run in plan.runs if run.id in {row.id for row in found}]
-    rows_of = {row.id: row for row in found}
+    # rows of one name are of one run, such as those of two descriptions of one text
+    runs, rows_of = {run.id: run for run in plan.runs}, {row.id: row for row in found}
     with ThreadPoolExecutor(jobs) as pool:
-        fates = pool.map(lambda run: fate_of_run(plan, run, rows_of[run.id], simulator), done)
-        return [rows_of[run.id]._replace(fate=fate) for run, fate in zip(done, fates)]
+        fates = dict(zip(rows_of, pool.map(lambda row: fate_of_run(plan, runs[row.id], row, simulator), rows_of.values())))
+    return [row._replace(fate=fates[row.id]) for row in found]
 
 
 def fate_of_run(plan, run, row, simulator):
@@ -96,9 +96,12 @@ def fate_of_run(plan, run, row, simulator):
         found = fate_of(simulator, plan.path(run.description), row.image, row.answer.shown, plan.cycles)
         os.makedirs(plan.path("fates"), exist_ok=True)
         write(path, json.dumps([*row.answer.shown, *found]).encode())
-    kept = json.loads(text(path))
-    if kept[:4] != [*row.answer.shown]:
-        raise Fault(f"{path} is of another answer. Remove it, and ask again")
+    try:
+        kept = json.loads(text(path))
+    except ValueError:
+        kept = None
+    if not isinstance(kept, list) or len(kept) != 7 or kept[:4] != [*row.answer.shown]:
+        raise Fault(f"{path} is of another answer, or was cut. Remove it, and ask again")
     return Fate(*kept[4:])
 
 
@@ -111,8 +114,13 @@ def told_setting(plan, run):
     return [settings.told(values), *more]
 
 
+def build_of(run):
+    """The folder of an image, which is named for what built it, with as much of the folders above it as tells it from the others."""
+    return os.path.dirname(run.program) or os.path.basename(os.path.dirname(run.origin))
+
+
 def row_of(plan, run, store):
-    build, program = run.origin.split("/")[-2:]
+    build, program = build_of(run), os.path.basename(run.origin)
     image, streams, setting = plan.path(run.image), secrecy.streams_in(run.words), (run.base, *told_setting(plan, run))
     row = Row(os.path.splitext(program)[0], build, secret_of(image, run.words), setting, run.values, None, image, refused=run.refused, id=run.id,
               streams=streams)

@@ -26,6 +26,8 @@ def built(sources, folder, compilers, levels, only, jobs):
     if not names:
         raise Fault(f"{sources} has no program in C or C++" + f" with `{only}` in its name" * bool(only))
     there = [compiler for compiler in compilers if is_there(compiler)]
+    if not there:
+        raise Fault(f"{sources} can't be built: of {' and '.join(compilers)} none is there")
     images = [os.path.join(os.path.abspath(folder), f"{compiler}-O{level}", f"{name}.elf")
               for name in names for compiler in there for level in levels]
     words = ["make", "-B", "-s", f"-j{jobs}", "-C", sources, f"BUILD={os.path.abspath(folder)}", "EXTRA=-g", *images]
@@ -43,12 +45,12 @@ def is_there(compiler):
 
 
 def secrets_of(image, words):
-    """The ranges of those words whose symbols an image has, at least one."""
+    """The ranges of those words whose symbols an image has, at least one. A word that names a symbol of it wrongly is refused, and not left out."""
     found, last = [], None
     for word in words:
         try:
             found.append(ranges.named(image, word).word)
-        except Fault as fault:
+        except ranges.NoSymbol as fault:
             last = fault
     if not found:
         raise last
@@ -82,7 +84,7 @@ def has(image, word):
     """Whether an image has the symbol of a word."""
     try:
         return ranges.named(image, word) is not None
-    except Fault:
+    except ranges.NoSymbol:
         return False
 
 

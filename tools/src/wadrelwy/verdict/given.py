@@ -7,7 +7,7 @@ from typing import Callable, NamedTuple, Optional, Sequence
 
 from wadrelwy.machine.notes import NAMES, RANGES
 from wadrelwy.sweep import settings
-from wadrelwy.sweep.kept import text
+from wadrelwy.sweep.kept import text, write
 from wadrelwy.view import Fault
 from wadrelwy.view.description import DESCRIPTION_MAX
 from wadrelwy.view.image import Image
@@ -88,8 +88,7 @@ def described(path: str, values: dict, folder: str) -> File:
     if not values:
         return File(path, path, {})
     copy = os.path.join(folder, "description.toml")
-    with open(copy, "w", encoding="utf-8") as file:
-        file.write(settings.with_values(text(path, DESCRIPTION_MAX), values, path))
+    write(copy, settings.with_values(text(path, DESCRIPTION_MAX), values, path).encode())
     return File(path, copy, values)
 
 

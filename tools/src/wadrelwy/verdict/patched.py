@@ -1,5 +1,6 @@
 """Copies of an image with other bytes: other values of a secret."""
 from wadrelwy.elf import ELFFile
+from wadrelwy.sweep.kept import write
 from wadrelwy.view import Fault
 
 
@@ -46,6 +47,5 @@ class Patches:
 
     def write_as(self, path: str) -> str:
         """Writes a copy."""
-        with open(path, "wb") as file:
-            file.write(self.content)
+        write(path, self.content)
         return path

@@ -14,6 +14,10 @@ MOST = 0xffffffff
 MOST_RANGES = 256
 
 
+class NoSymbol(Fault):
+    """An image has no symbol of a name."""
+
+
 class Range(NamedTuple):
     """Some bytes of memory, by the address of the first and how many they are."""
     address: int
@@ -57,7 +61,7 @@ def symbol(image: "Image", name: str) -> tuple:
     """Address and size of the one symbol of this name."""
     places = sorted({(address, size) for address, size, other in image.symbols if other == name})
     if not places:
-        raise Fault(f"{image.name} has no symbol `{name}`" + ("" if image.symbols else ", as it has none at all"))
+        raise NoSymbol(f"{image.name} has no symbol `{name}`" + ("" if image.symbols else ", as it has none at all"))
     if len(places) > 1:
         raise Fault(f"{image.name} has `{name}` at {' and at '.join(f'{address:08x}' for address, _ in places)}: name one by its address")
     return places[0]

@@ -112,7 +112,7 @@ def of_two(case: "report.Case", given: Given, cycles: int, asked: Sequence[Optio
         "path": {"steps": premises.path.steps, "end": ended, "loaded": len(premises.path.loads),
                  "differ": [{"byte": f"{address:08x}", "first_by": place(pc, texts)} for address, pc in premises.shown.items()]},
         "premises": {"met": case.met, "promised": case.promised}, "first_unequal_cycle": case.pair.unequal,
-        "one_run": of_asked(case.asked, texts),
+        "one_run": of_asked(case.asked, texts, given),
         "held": [place(pc, texts) | {"what": what, "times": held.times, "cycles": held.cycles, "dropped": held.dropped, "let_go_on": held.retired}
                  for (pc, what), held in case.telling.held.items()],
         "wrong_paths": {"loads": sum(case.telling.wrong_loads.values()), "values": case.telling.wrong_values},
@@ -120,9 +120,9 @@ def of_two(case: "report.Case", given: Given, cycles: int, asked: Sequence[Optio
         "programs": programs(asked), "text": lines}
 
 
-def of_asked(asked: secrecy.Asked, texts: Disassembler) -> dict:
+def of_asked(asked: secrecy.Asked, texts: Disassembler, given: Given) -> dict:
     """Whether the first one's run certifies the bytes that differ."""
     answer = asked.answer
     if answer is None:
-        return {"asked": False, "why": asked.why}
+        return {"asked": False, "why": given.told(asked.why)}
     return {"asked": True, "shown": of_shown(answer.shown, texts), "run": of_end(answer.end)}

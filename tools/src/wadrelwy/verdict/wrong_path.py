@@ -30,9 +30,11 @@ class Scan:
         self.lines = deque(maxlen=KEPT)
 
     def fate(self, lines):
-        """What became of the entry, as far as these lines tell."""
-        number = 0
+        """What became of the entry, as far as these lines tell. Lines that stop without the last one are of a simulator that was ended, and tell
+        nothing."""
         for number, line in enumerate(lines, 1):
+            if not line.endswith("\n"):
+                break
             if line.startswith("end "):
                 return Fate(TRAPPED if line.startswith("end trap") else UNTOLD)
             self.lines.append(line)
@@ -43,7 +45,7 @@ class Scan:
                 found = self.became(line, number == self.cycle)
                 if found is not None:
                     return found
-        return Fate(UNTOLD)
+        raise Fault("the simulator's trace was cut, so it doesn't tell whether what shows is on the path: ask again")
 
     def became(self, line, first):
         """What a line tells of it; in the first one what stands before the entry's own event was before it showed."""
