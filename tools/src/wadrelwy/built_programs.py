@@ -20,6 +20,12 @@ def is_unproved(program: str) -> bool:
     return UNPROVED in os.path.basename(os.path.realpath(program))
 
 
+def told_name(program: str) -> str:
+    """A program's name as a table cites it: by whichever link it is named, an unproved one is told as such."""
+    name = os.path.basename(program)
+    return f"{name}, {UNPROVED}," if is_unproved(program) and UNPROVED not in name else name
+
+
 def refuse_unproved(program: str) -> None:
     """Refuses an unproved program, where what is said of its answers rests on proofs."""
     if is_unproved(program):

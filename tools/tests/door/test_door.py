@@ -99,7 +99,8 @@ class Help(unittest.TestCase):
             with open(os.path.join(folder, "elftools", "__init__.py"), "w", encoding="utf-8") as file:
                 file.write("raise ModuleNotFoundError(name='elftools')\n")
             with_none = {"env": os.environ | {"PYTHONPATH": folder}}
-            self.assertEqual(run("verdict", "--help", **with_none).returncode, 0)
+            for name in COMMANDS:
+                self.assertEqual(run(name, "--help", **with_none).returncode, 0, name)
             told = run("path", "log", TWO_FILES[1], **with_none)
         self.assertEqual((told.returncode, told.stdout, told.stderr.count("\n")), (2, "", 1))
         self.assertIn("apt-get install python3-pyelftools", told.stderr)

@@ -162,6 +162,16 @@ class Counted(Folder):
         self.assertEqual(self.sweep(self.out).returncode, 0)
         self.assertEqual((self.runs(), self.rows()), (ran, rows))
 
+    def test_a_list_from_before(self):
+        """A result that was counted is there for a line of a list, too: nothing is made, and nothing that was counted is lost."""
+        self.assertEqual(self.sweep(*self.words("--list")).returncode, 0)
+        lines = self.read("out/commands").splitlines()
+        self.assertEqual(self.sweep(self.out).returncode, 0)
+        ran, rows = self.runs(), self.rows()
+        self.assertEqual([subprocess.run(["sh", "-c", line], check=False).returncode for line in lines], [0, 0])
+        self.assertEqual(self.sweep(self.out, "--gather").returncode, 0)
+        self.assertEqual((self.runs(), self.rows(), "host_seconds" in rows[0]), (ran, rows, True))
+
     def test_results_of_two_folders(self):
         """How long a run took may differ; what was counted may not; and a result without counts is one, too."""
         self.sweep(*self.words())
@@ -568,6 +578,15 @@ class Sweeps(Folder):
         sum_of = hashlib.sha256(self.read("stand_in").encode()).hexdigest()
         self.assertEqual({row["made_by"].split(", ")[0] for row in self.rows()}, {f"stand_in sha256 {sum_of}"})
         self.assertRegex(json.loads(self.read("out/plan.json"))["cited"], rf"^stand_in sha256 {sum_of}, kit \S.*, commit \S+")
+
+    def test_an_unproved_simulator_by_another_name(self):
+        """Tables say so, though the name by which it was given doesn't."""
+        unproved, link = self.write("stt_cli-unproved", self.read("stand_in")), os.path.join(self.folder, "linked")
+        os.chmod(unproved, 0o755)
+        os.symlink(unproved, link)
+        self.assertEqual(self.sweep(self.out, "--programs", *self.images, "--descriptions", self.description, "--program", link).returncode, 0)
+        sum_of = hashlib.sha256(self.read("stand_in").encode()).hexdigest()
+        self.assertEqual({row["made_by"].split(", kit ")[0] for row in self.rows()}, {f"linked, unproved, sha256 {sum_of}"})
 
     def test_refusals(self):
         self.write("cut", "")

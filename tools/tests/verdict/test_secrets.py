@@ -248,15 +248,19 @@ class Fates(unittest.TestCase):
             self.fate(pc=0x10028)
 
     def test_a_trace_that_was_cut(self):
-        """Where it stops without its last line it tells nothing, nor does a line without its end; so there is no verdict."""
+        """Where it stops without its last line it tells nothing, nor does a line without its end; so there is no verdict. Nor is one by a simulator
+        of which nothing is proved."""
         lines = LINES.splitlines(keepends=True)
         for cut in ([], lines[:3], lines[:6], [*lines[:6], lines[6].rstrip("\n")]):
             with self.subTest(cut=cut), self.assertRaisesRegex(Fault, "the simulator's trace was cut"):
                 wrong_path.Scan(5, 4, 0x10024).fate(cut)
-        words = "--secret", WORD, "--secrets-program", program(SHOWN.replace("\n", "\\n"), 1), "--program", killed()
-        told = command("verdict", CORE, loading(), *words)
-        self.assertEqual((told.returncode, told.stdout, told.stderr.count("\n")), (2, "", 1))
-        self.assertIn("the simulator's trace was cut", told.stderr)
+        unproved = support.file_of("stt_cli-unproved", b"#!/bin/sh\nexit 0\n")
+        os.chmod(unproved, 0o755)
+        for simulates, note in ((killed(), "the simulator's trace was cut"), (unproved, "stt_cli-unproved is unproved")):
+            words = "--secret", WORD, "--secrets-program", program(SHOWN.replace("\n", "\\n"), 1), "--program", simulates
+            told = command("verdict", CORE, loading(), *words)
+            self.assertEqual((told.returncode, told.stdout, told.stderr.count("\n")), (2, "", 1))
+            self.assertIn(note, told.stderr)
 
     def test_lines(self):
         """The verdict tells it of the worked trace, and --all lists what takes effect on the secret: there nothing does."""

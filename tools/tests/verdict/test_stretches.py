@@ -1,5 +1,6 @@
 """What `wadrelwy draw --record` keeps, and how it goes on (docs/secrets.md, "Against the machine"), by stand-ins for the programs."""
 import csv
+import errno
 import hashlib
 import io
 import os
@@ -9,11 +10,13 @@ import sys
 import tempfile
 import time
 import unittest
+from unittest import mock
 
 import material
 from material import BOUND_0, CORE, SECRET, command, support
 from test_published import UNEQUAL
 from test_secrets import EXITS, LOADS, traces
+from wadrelwy import Fault
 from wadrelwy.verdict import drawing, side_by_side, stretches
 
 # answers for each pair that it is equal, and leaves a line with the last words of the two images, which are their secrets, and the
@@ -229,6 +232,10 @@ class Recorded(unittest.TestCase):
         with open(f"{self.record}.lock", "w", encoding="ascii") as file:
             file.write("12345\n")
         self.assertEqual(self.draw("--draws", "3").returncode, 0, "a process that was killed has no lock, though its file may be there")
+        with mock.patch.object(stretches.fcntl, "flock", side_effect=OSError(errno.ENOLCK, "No locks available")):
+            with self.assertRaisesRegex(Fault, "record.csv.lock: No locks available$"):
+                stretches.Locked(self.record).take()
+        os.remove(f"{self.record}.lock")
         self.assertEqual(len(self.pairs()), 2 * 6)
         self.assertEqual(sorted(name for name in os.listdir(os.path.dirname(self.record)) if name.startswith("record")), ["record.csv"])
 

@@ -4,7 +4,7 @@ import subprocess
 import sys
 from typing import IO, Callable, Iterator, Mapping, NamedTuple, Optional
 
-from wadrelwy import Fault, statuses
+from wadrelwy import Fault, built_programs, statuses
 from wadrelwy.machine import passing
 from wadrelwy.sweep.kept import cited, digest
 
@@ -63,7 +63,7 @@ def digests_of(question: Question) -> dict[str, Optional[str]]:
 
 def of(question: Question) -> Of:
     """What the files and the program are now."""
-    return Of(question, digests_of(question), cited(question.program, os.path.basename(question.program)))
+    return Of(question, digests_of(question), cited(question.program, built_programs.told_name(question.program)))
 
 
 def lines_of(out: IO[bytes], screen: passing.Screen) -> Iterator[str]:

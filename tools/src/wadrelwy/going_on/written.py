@@ -3,7 +3,7 @@ import struct
 from itertools import accumulate
 from typing import Iterator, NamedTuple
 
-from elftools.elf.elffile import ELFFile
+from wadrelwy.elf import ELFFile
 
 from .standing import Standing
 

@@ -8,7 +8,7 @@ from concurrent.futures import Future, ThreadPoolExecutor, as_completed
 from types import TracebackType
 from typing import Any, Iterator, NamedTuple, Optional
 
-from wadrelwy import Fault
+from wadrelwy import Fault, built_programs
 from wadrelwy.going_on.report import Report
 from wadrelwy.machine.words import MOST
 from wadrelwy.sweep import lists, plan, running, settings
@@ -191,8 +191,8 @@ class Maker:
         self.sources = [source(path) for path in [counting, asked.image, *asked.descriptions, simulator]]
         self.simulator, self.copy = (copied(self.folder, "programs", os.path.basename(path), "", content(path), executable=True)
                                      for path in (simulator, counting))
-        also = f"{os.path.basename(simulator)} sha256 {self.sources[-1].sha256}, "
-        self.cited = also + cited(counting, os.path.basename(counting))
+        also = f"{built_programs.told_name(simulator)} sha256 {self.sources[-1].sha256}, "
+        self.cited = also + cited(counting, built_programs.told_name(counting))
         self.name = os.path.splitext(os.path.basename(asked.image))[0]
         self.wholes: dict[tuple[int, int, int], Report] = {}
         os.makedirs(os.path.join(self.folder, "results"), exist_ok=True)

@@ -27,7 +27,8 @@ name=$1 description=$2 image=$3 program={program}
 folder=$(dirname "$0") && cd "$folder" || exit 2
 said=
 [ -n "$RESULTS" ] && [ -f "$RESULTS" ] && said=$(grep " of $name\\$" "$RESULTS" | tail -n 1)
-[ -z "$said" ] && [ -f "results/$name" ] && said=$(grep " of $name\\$" "results/$name")
+# a result that was counted has its name on a line of its own
+[ -z "$said" ] && [ -f "results/$name" ] && said=$(tail -n 2 "results/$name" | tr '\\n' ' ' | grep " of $name \\$")
 if [ -z "$said" ]; then
   sha256sum "$program" "$description" "$image" | {{
     same=0

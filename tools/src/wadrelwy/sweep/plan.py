@@ -8,6 +8,7 @@ import json
 import os
 from typing import NamedTuple, Optional
 
+from wadrelwy import built_programs
 from wadrelwy.view import Fault
 from wadrelwy.view.description import DESCRIPTION_MAX
 
@@ -143,8 +144,8 @@ def make(folder, simulator, words, file=PLAN, more=lambda image: [], memories=la
                 name = f"{plain(program_name.replace('/', '-'))}_{sha256(' '.join(parts).encode())[:16]}"
                 result = os.path.join("results", name)
                 runs.append(Run(program_name, image, os.path.abspath(path), base, description, values, result, further, unit=unit))
-    also = f"{os.path.basename(counting)} sha256 {sources[-1].sha256}, " if counting else ""
-    return Plan(folder, words.cycles, keys, copy, also + cited(simulator, os.path.basename(simulator)), sources, runs, counter)
+    also = f"{built_programs.told_name(counting)} sha256 {sources[-1].sha256}, " if counting else ""
+    return Plan(folder, words.cycles, keys, copy, also + cited(simulator, built_programs.told_name(simulator)), sources, runs, counter)
 
 
 def keep(plan, file=PLAN):

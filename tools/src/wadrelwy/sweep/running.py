@@ -207,7 +207,8 @@ class Runner:
             return
         found = self.kept(said, time.monotonic() - begun)
         if child.returncode not in RAN or found is None:
-            raise Fault(f"{run.name}: status {child.returncode}, {notes.told(note.strip(), {}) or said[-60:].strip()} (docs/using.md, \"Refusals\")")
+            told = notes.told(built_programs.note_of(note), {}) or said[-60:].strip()
+            raise Fault(f"{run.name}: status {child.returncode}, {told} (docs/using.md, \"Refusals\")")
         self.plan.check(run)
         kept.write(self.plan.path(run.result), line_of(run, found).encode())
 

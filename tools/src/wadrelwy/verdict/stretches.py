@@ -155,6 +155,9 @@ class Locked:
             holder = os.read(self.file, 20).decode(errors="replace").strip()
             os.close(self.file)
             raise Fault(f"{self.record} is written by another wadrelwy draw{f', process {holder}' * bool(holder)}: one at a time may") from None
+        except OSError as error:
+            os.close(self.file)
+            raise Fault(f"{self.path}: {error.strerror}") from None
 
     def stands(self) -> bool:
         """Whether what is locked is the file of that name still, and not one that its process has just taken away."""

@@ -4,6 +4,7 @@ import subprocess
 from collections import deque
 from typing import NamedTuple, Optional
 
+from wadrelwy import built_programs
 from wadrelwy.view import Fault
 
 # so many lines are kept, in which what is in flight was renamed
@@ -82,6 +83,7 @@ class Scan:
 
 def fate_of(program, description, image, shown, cycles):
     """What became of the entry that shows something, in a run of the simulator that goes on until that is told."""
+    built_programs.refuse_unproved(program)
     words = [program, "trace", description, image, "--cycles", str(cycles)]
     with subprocess.Popen(words, stdout=subprocess.PIPE, stderr=subprocess.DEVNULL, text=True, errors="replace") as child:
         try:
