@@ -77,6 +77,10 @@ DIFFERENCES = [
     ("retired 2\n", "retired 2\n    end more\n", "line 35: wanted `end more`, got no line"),
     (GOOD[GOOD.index("report"):], "out ends\n    pc 00010009\n    end exit 0 retired 2\n", "line 33: wanted `pc 00010009`, got `pc 00010008`"),
     (GOOD[GOOD.index("report"):], "out has\n    pc 00010008\n    x2 0010fff0\n", "none of its further lines is `x2 0010fff0`"),
+    (GOOD[GOOD.index("report"):], "out cut\n    pc 00010008\n", "line 1: wanted `pc 00010008`, got `x0 00000000`"),
+    (GOOD[GOOD.index("report"):], "same isa q.elf --steps 2\n", "line 1: wanted no line, got `x0 00000000`"),
+    (GOOD[GOOD.index("report"):], "same but cycles isa p.elf --steps 1\n", "line 33: wanted `pc 00010004`, got `pc 00010008`"),
+    (GOOD[GOOD.index("status 0"):], "fails put 2\nstatus 7\nnote write\n", "line 1: wanted no line, got `x0 00000000`"),
     ("status 0", "status 1", "the status is 0, wanted 1"),
     ("status 0", "status 0\nnote words", "the note is ``, wanted `words\n`"),
 ]
