@@ -1,5 +1,5 @@
-//! The program that makes the runs of cases, of both programs over files and sinks in memory, and tells of each case
-//! whether its runs went as it says.
+//! The program that makes the runs of cases, of `stt_cli` and `stt_secrets` over files and sinks in memory, and tells of
+//! each case whether its runs went as it says.
 //!
 //! The words of this program are the names of the files. It writes a line a case, a line for each run that differs, and
 //! last how many cases, runs and differences there were. Status: 0 nothing differs, 1 something does, 2 a file can't be
@@ -7,10 +7,10 @@
 //!
 //! Rules: `docs/cases.md`.
 //!
-//! Promises: where nothing is told to differ, status, note and whole output are those that are wanted; the gate
-//! compares what it tells.
+//! Promises: a whole text, and a status with its note, that aren't told to differ from those that are wanted are equal
+//! to them. That each run is compared is tested (`tools/cases/tests`), and the gate compares what is told.
 //!
-//! Clauses: `main`.
+//! Clauses: `end_differs`, `whole_differs`.
 #![tactic(auto)]
 
 mod comparing;

@@ -8,7 +8,7 @@
 //! to the trace's text; `Runs.antt`, the list of the runs.
 //!
 //! Promises: the written machine's trace of each of its small programs is the one that an independent model wrote.
-//! There are 183 programs, 43 in version 1 and 140 in version 2. Each is under its own description, and goes from the
+//! There are 187 programs, 43 in version 1 and 144 in version 2. Each is under its own description, and goes from the
 //! description's text and the image's bytes to the trace's text.
 //!
 //! Clauses: `model_is_met`.

@@ -1,7 +1,7 @@
 //! Why slots of retirement stay empty: each slot of each cycle has one reason, and they are counted by reason.
 //!
 //! Rules: `specs/Reasons.antt`, the reason of a cycle, from the written machine's state once it is over and from the
-//! events of it and the cycle before; `specs/Slots.antt`, the slots of a run; `docs/formats.md`, "The slots of a run".
+//! events up to then; `specs/Slots.antt`, the slots of a run; `docs/formats.md`, "The slots of a run".
 //!
 //! Promises: `specs/Laws.antt`: the slots of all reasons are as many as the cycles have. What is counted cycle by cycle
 //! is what the definition counts of a run.
