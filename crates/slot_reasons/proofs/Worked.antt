@@ -28,6 +28,7 @@ use Rattle.window_model.specs.Rename.{rename}
 use Rattle.window_model.specs.Fetch.{fetch}
 use Rattle.window_model.proofs.Worked.{code_of, memory, bounds_check}
 use Rattle.run_counts.specs.Counted.{as_told}
+use Rattle.slot_reasons.specs.declared.Charge.{Charge}
 use Rattle.slot_reasons.specs.declared.Past.{Past}
 use Rattle.slot_reasons.specs.declared.Reason.{Reason}
 use Rattle.slot_reasons.specs.declared.Reason.TheVariants as reason
@@ -36,19 +37,21 @@ use Rattle.slot_reasons.specs.Slots.{charges_of, seen, slot_names, slots}
 
 -- ---- What comes late
 
--- behind a branch and a JALR that were wrongly predicted, a load that had passed a store wrongly, a call, and neither
+-- behind a branch and a JALR that were wrongly predicted, a load that had passed a store wrongly, a call, none of them,
+-- and the second of two squashes
 abbrev lates : List Past
 lates =
     map (past_after first_past)
     ((Res 2 Taken ∷ Bp 2 2 ∷ Sq 7 ∷ Ret 0 ∷ []) ∷ (Res 2 Jump ∷ Bt 1 64 ∷ Sq 0 ∷ []) ∷ (Clr 1 ∷ Vio 4 ∷ Dp 0 1 ∷ Sq 3 ∷ []) ∷ (Ret 5 ∷ Call 5 3 ∷ [])
-    ∷ (Res 2 Taken ∷ Bp 2 2 ∷ Fet 64 ∷ []) ∷ [])
+    ∷ (Res 2 Taken ∷ Bp 2 2 ∷ Fet 64 ∷ []) ∷ (Res 2 Taken ∷ Bp 2 2 ∷ Sq 7 ∷ Clr 1 ∷ Vio 4 ∷ Dp 0 1 ∷ Sq 3 ∷ []) ∷ [])
 
 lates_are : lates
     ≡ record { renamed = None; late = reason.Misprediction; next = reason.Misprediction }
     ∷ record { renamed = None; late = reason.Misprediction; next = reason.Misprediction }
     ∷ record { renamed = None; late = reason.Violation; next = reason.Violation }
     ∷ record { renamed = None; late = reason.Call; next = reason.Call }
-    ∷ first_past ∷ []
+    ∷ first_past
+    ∷ record { renamed = None; late = reason.Violation; next = reason.Violation } ∷ []
 lates_are = refl
 
 -- the first that is renamed behind a squash comes late for it, and what comes next doesn't
@@ -74,9 +77,9 @@ entry k state issued cleared = record {
   cleared = cleared;
 }
 
--- the example, where a hit takes 2 cycles, with a second level that takes 6
+-- the example, where a hit takes 2 cycles, with a second level of one set that takes 6
 abbrev second_number : Key → ℕ
-second_number CacheSecondSets = 4
+second_number CacheSecondSets = 1
 second_number CacheSecondLatency = 6
 second_number key = key_number example key
 
@@ -134,9 +137,30 @@ renaming_tells :
     ≡ reason.Misprediction ∷ reason.Misprediction ∷ reason.Misprediction ∷ reason.Divider ∷ reason.Divider ∷ reason.Divider ∷ []
 renaming_tells = refl
 
+-- a call goes alone, though it was renamed in this cycle behind a misprediction
+call_tells : reason_of d quiet (renamed 8) None (Some (entry kind.Call Waiting None true)) ≡ reason.Call
+call_tells = refl
+
 -- without an entry for what comes late, and once the run has ended for that
 none_tells : (reason_of d quiet (renamed 8) None None ≡ reason.Misprediction) × (reason_of d quiet quiet (Some (Exit 0)) (Some (entry kind.Alu Done None true)) ≡ reason.End)
 none_tells = (refl, refl)
+
+-- ---- Slots by reason
+
+-- a cycle in which one slot retires an instruction, and so many stay empty for a reason
+abbrev charged : ℕ → Reason → Charge
+charged empty r = record { retired = 1; empty = empty; reason = r }
+
+-- each reason has a number of its own
+each_counted :
+    slots
+    (charged 2 reason.FrontEnd ∷ charged 3 reason.Misprediction ∷ charged 4 reason.Violation ∷ charged 5 reason.Call
+    ∷ charged 6 reason.Simple ∷ charged 7 reason.Multiplier ∷ charged 8 reason.Divider ∷ charged 9 reason.Store
+    ∷ charged 10 reason.LoadFirst ∷ charged 11 reason.LoadSecond ∷ charged 12 reason.LoadMemory ∷ charged 13 reason.Registers
+    ∷ charged 14 reason.Resolve ∷ charged 15 reason.Clear ∷ charged 16 reason.StorePort ∷ charged 17 reason.End ∷ [])
+    ≡ 16 ∷ 2 ∷ 3 ∷ 4 ∷ 5 ∷ 6 ∷ 7 ∷ 8 ∷ 9 ∷ 10 ∷ 11 ∷ 12 ∷ 13 ∷ 14 ∷ 15 ∷ 16 ∷ 17 ∷ []
+unfolding slot_names as_told
+each_counted = refl
 
 -- ---- A run
 

@@ -1,5 +1,5 @@
 -- A short run whose text was written by hand.
-use Rattle.std.proofs.Common.{◌≡◌, ℕ, List, [], ◌∷◌, ◌++◌, Some, codes, refl}
+use Rattle.std.proofs.Common.{◌≡◌, ℕ, List, [], ◌∷◌, ◌++◌, Some, None, codes, refl}
 use Rattle.std.specs.Fmt.{digits}
 use Rattle.rv_types.specs.declared.End.TheVariants.{Exit}
 use Rattle.line_text.specs.EndLine.{end_line}
@@ -8,7 +8,7 @@ use Rattle.window_model.specs.Cycle.{Trace}
 use Rattle.run_counts.specs.Counted.{names, as_told}
 use Rattle.slot_reasons.specs.declared.Reason.TheVariants.{FrontEnd, Divider, End}
 use Rattle.slot_reasons.specs.Slots.{Seen, rows_of, slot_names}
-use Rattle.stats_top.specs.Stats.{stretch_line, stats_from}
+use Rattle.stats_top.specs.Stats.{stretch_line, stats_from, way_text}
 
 -- cycles 7 to 11 of a run, with two slots each: three fetches and two renamings, an operation and a division, and a
 -- call that ends it
@@ -54,3 +54,9 @@ slot_lines =
 text_told : stats_from (Some 2) 6 worked_seen worked_trace ≡ way_lines ++ ((count_lines ++ slot_lines) ++ codes "end exit 0 retired 6 cycles 11\n")
 unfolding worked_seen worked_trace stats_from stretch_line names slot_names as_told end_line digits
 text_told = refl
+
+-- a stretch as long as the run has a line, and without stretches there is none
+way_told : (way_text (Some 5) 6 worked_seen
+    ≡ codes "11 2 3 2 1 0 1 20 0 0 0 0 0 0 0 0 0 0 0 1 0 0 0 0 0 0 0 0 0 0 0 0 0 0 1 3 2 6 0 0 0 0 0 1 0 0 0 0 0 0 0 0 1\n") × (way_text None 6 worked_seen ≡ [])
+unfolding worked_seen stretch_line names slot_names as_told digits
+way_told = (refl, refl)
