@@ -5,6 +5,7 @@ import resource
 import shutil
 import signal
 import subprocess
+import sys
 import tempfile
 import unittest
 
@@ -287,6 +288,18 @@ class StatsStatuses(Ran):
     def test_memory(self):
         self.starved(*self.words())
         self.starved(*self.words(every="4"))
+
+
+class Hostile(unittest.TestCase):
+    """tools/hostile/run, which no program has to be built for."""
+
+    def test_no_tries_are_refused(self):
+        """A run that tried nothing has found nothing wrong."""
+        for number in ("0", "-1", "many"):
+            ran = subprocess.run([sys.executable, os.path.join(ROOT, "tools", "hostile", "run"), "--tries", number], capture_output=True,
+                                 text=True, timeout=60, check=False)
+            self.assertEqual((ran.returncode, ran.stdout), (2, ""))
+            self.assertIn(f"`{number}` is no number from 1 to ", ran.stderr)
 
 
 if __name__ == "__main__":

@@ -48,6 +48,30 @@ class Budgets(unittest.TestCase):
             self.assertRegex(line, r"^\w+, budget 10*: status 5, b'image E14 0\\n'$")
 
 
+class EachAllocation(unittest.TestCase):
+    def refused(self, asked, **ended):
+        """The answer where a command asks so often, and each run ends so that is refused one."""
+        tool = load()
+
+        def counted(_library, _command, number):
+            if number <= asked:
+                return SimpleNamespace(returncode=8, stdout=b"", stderr=b"memory\n"), asked
+            return SimpleNamespace(**{"returncode": 0, "stdout": b"", "stderr": b""} | ended), asked
+        with mock.patch.object(tool, "counted", counted):
+            return tool.refuse_each("refuse.so", "isa", ["stt_cli"])
+
+    def test_each_in_turn(self):
+        self.assertEqual(self.refused(3), (3, []))
+
+    def test_a_run_that_isnt_refused_has_to_end(self):
+        self.assertEqual(self.refused(3, returncode=5), (3, ["isa, none refused: status 5, b''"]))
+
+    def test_where_none_is_counted_none_was_refused(self):
+        number, wrong = self.refused(0)
+        self.assertEqual((number, len(wrong)), (0, 1))
+        self.assertIn("isa: no allocation is counted", wrong[0])
+
+
 class Words(unittest.TestCase):
     def test_a_description_that_is_none(self):
         with tempfile.TemporaryDirectory() as folder:

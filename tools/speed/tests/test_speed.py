@@ -91,6 +91,27 @@ class Table(Scripts):
                             take(["sh", "-c", end])
                         self.assertIn(told, str(ended.exception.code))
 
+    def test_a_row_that_isnt_there_is_refused(self):
+        """A table without a row would tell nothing, and look as one that does."""
+        for words, only, there in (([], "nothing", "sort small spectre"), (["--windows"], "isa", "sort 192 spectre"),
+                                   ([], "desktop", "sort large futuristic"), (["--settings"], "futuristic", "sort desktop off, passing"),
+                                   (["--questions", "a/b.elf@0:1"], "sort", "b small, b middle, b large, b isa")):
+            ran = subprocess.run([sys.executable, os.path.join(HERE, "table"), "--only", only, *words], capture_output=True, text=True, check=False)
+            self.assertEqual((ran.returncode, ran.stdout), (2, ""), words)
+            self.assertIn(f"--only {only}: no row has this in its name; they are ", ran.stderr)
+            self.assertIn(there, ran.stderr)
+
+    def test_the_rows_that_are_chosen(self):
+        """What --only is looked for in is the name of each row that is written."""
+        table = load()
+        settings = dict.fromkeys(["spectre", "off"])
+        for told, machines, rows in (
+                (mock.Mock(questions=None, windows=False), ["small"],
+                 ["bench small spectre", "bench small off", "sort small spectre", "sort small off", "hash small spectre", "hash small off",
+                  "search small spectre", "search small off", "isa loop", "isa bench", "isa sort", "isa hash", "isa search"]),
+                (mock.Mock(questions=["x.elf@4096:16"], windows=False), ["small"], ["x small", "x middle", "x large", "x isa"])):
+            self.assertEqual(table.rows_of(told, machines, settings), rows)
+
     def test_cycles_that_are_none(self):
         for word in ("0", "-1", "many"):
             ran = subprocess.run([sys.executable, os.path.join(HERE, "table"), "--cycles", word], capture_output=True, text=True, check=False)

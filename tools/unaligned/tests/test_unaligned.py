@@ -29,6 +29,13 @@ class Unaligned(unittest.TestCase):
             self.assertEqual((ran.returncode, ran.stdout), (2, ""))
             self.assertIn("no program stt_cli at /nowhere/a", ran.stderr)
 
+    def test_no_programs_are_refused(self):
+        """A run that compared nothing has found nothing wrong."""
+        for number in ("0", "-1", "many"):
+            ran = subprocess.run([sys.executable, os.path.join(HERE, "run"), "--programs", number], capture_output=True, text=True, check=False)
+            self.assertEqual((ran.returncode, ran.stdout), (2, ""))
+            self.assertIn(f"`{number}` is no number from 1 to ", ran.stderr)
+
     def compared(self, program):
         same, wrong, accesses = compare.compare(PROGRAMS, program)
         self.assertEqual((same, wrong), (len(PROGRAMS), 0))
