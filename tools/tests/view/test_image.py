@@ -1,4 +1,5 @@
 """Images: code as loaded, and symbols (docs/formats.md, "Placing" and "Code"); descriptions; texts of instructions."""
+import re
 import shutil
 import struct
 import unittest
@@ -107,6 +108,35 @@ class Descriptions(unittest.TestCase):
         for text in (b"[core", b"[core]\nrob = 4\n", b"core = 4\n", b"\xff"):
             with self.assertRaises(Fault, msg=text):
                 read_description(support.file_of("wrong.toml", text))
+
+    def test_what_is_of_another_kind_is_refused_by_name(self):
+        """The text is that of core_version_2.toml, with a line in place of another."""
+        with open(support.example("core_version_2.toml"), encoding="utf-8") as file:
+            known = file.read()
+        for old, new, told in (
+                (r"rob = \d+", 'rob = "16"', "core.rob is a whole number from 1 to 4294967295, and '16' isn't"),
+                (r"rob = \d+", "rob = true", "core.rob is a whole number from 1 to 4294967295, and True isn't"),
+                (r"rob = \d+", "rob = 16.0", "core.rob is a whole number from 1 to 4294967295, and 16.0 isn't"),
+                (r"rob = \d+", "", "the description has no core.rob"),
+                (r"line = \d+", "line = 0", "cache.line is a whole number from 1 to 4294967295, and 0 isn't"),
+                (r"retire_width = \d+", "retire_width = 0", "core.retire_width is a whole number from 1 to 4294967295, and 0 isn't"),
+                (r"base = \S+", "base = -16", "ram.base is a whole number from 0 to 4294967295, and -16 isn't"),
+                (r"base = \S+", "base = 4294967296", "ram.base is a whole number from 0 to 4294967295, and 4294967296 isn't"),
+                (r"\[predictor\]", "[predictor]\ndepend = [1]", "predictor.depend is a whole number from 0 to 4294967295, and [1] isn't"),
+                (r"\[stt\]", '[stt]\ndefence = ["hold"]', "stt.defence is none of stt, hold, delay"),
+                (r"model = \S+", "model = 1", "stt.model is none of spectre, futuristic, off"),
+                (r"version = 2", "version = 3", "version is 1 or 2"), (r"version = 2", 'version = "2"', "version is 1 or 2"),
+                (r"version = 2", "version = true", "version is 1 or 2")):
+            text, places = re.subn(rf"(?m)^{old}", new, known)
+            self.assertEqual(places, 1, old)
+            path = support.file_of("wrong.toml", text.encode())
+            with self.subTest(new=new), self.assertRaises(Fault) as refused:
+                read_description(path)
+            self.assertEqual(str(refused.exception), f"{path}: {told}")
+        for text, told in ((b"core = 4\n", "core is a table, [core]"), (b"a = " + b"[" * 60000, "no TOML text")):
+            with self.assertRaises(Fault) as refused:
+                read_description(support.file_of("wrong.toml", text))
+            self.assertIn(told, str(refused.exception))
 
 
 class Texts(unittest.TestCase):

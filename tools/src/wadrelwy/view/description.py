@@ -1,9 +1,9 @@
 """The sizes and latencies of the core (docs/formats.md, "Machine descriptions").
 
-The simulator refuses what is no description; here only what the reasons need is asked for.
+The simulator refuses what is no description; here only what the reasons need is asked for: that each key is there, and of its kind.
 """
 import tomllib
-from typing import NamedTuple, Optional
+from typing import Any, NamedTuple, Union
 
 from . import Fault
 
@@ -12,8 +12,11 @@ STT, HOLD, DELAY = "stt", "hold", "delay"
 MODELS = (SPECTRE, FUTURISTIC, OFF)
 # each defence, and what it does to an instruction that it lets wait, in words
 DEFENCES = {STT: "held by taint", HOLD: "held back", DELAY: "delayed"}
+TEXTS = {"model": MODELS, "defence": tuple(DEFENCES)}
 # the most bytes of a description (docs/formats.md, "Words")
 DESCRIPTION_MAX = 65536
+# above the range of every number (docs/formats.md, "Keys")
+MOST = 4294967295
 
 KEYS = {
     "fetch_width": "core", "retire_width": "core", "rob": "core", "stations": "core", "loads": "core", "stores": "core",
@@ -77,14 +80,29 @@ def read_description(name: str) -> "Description":
         tables = tomllib.loads(found.decode())
     except OSError as error:
         raise Fault(f"{name}: {error.strerror}") from None
-    except ValueError as error:
+    except (ValueError, RecursionError) as error:
         raise Fault(f"{name}: no TOML text ({error})") from None
-    try:
-        values = {key: tables[table][key] for key, table in KEYS.items()}
-        values |= {key: tables.get(table, {}).get(key, default) for key, (table, default) in OPTIONAL.items()}
-    except (KeyError, TypeError, AttributeError) as error:
-        raise Fault(f"{name}: the description has no {error}") from None
-    for key, texts in (("model", MODELS), ("defence", DEFENCES)):
-        if values[key] not in texts:
-            raise Fault(f"{name}: stt.{key} is none of {', '.join(texts)}")
-    return Description(version=tables.get("version", 1), **values)
+    version = tables.get("version", 1)
+    if type(version) is not int or version not in (1, 2):
+        raise Fault(f"{name}: version is 1 or 2")
+    values = {key: value_of(name, tables, table, key) for key, table in KEYS.items()}
+    values |= {key: value_of(name, tables, table, key, default) for key, (table, default) in OPTIONAL.items()}
+    return Description(version=version, **values)
+
+
+def value_of(name: str, tables: dict, table: str, key: str, default: "Union[int, str, None]" = None) -> Any:
+    """The value of a key. One of another kind is refused, and a number by which nothing can be reckoned; the ranges are the simulator's matter."""
+    found = tables.get(table, {})
+    if not isinstance(found, dict):
+        raise Fault(f"{name}: {table} is a table, [{table}]")
+    value = found.get(key, default)
+    if value is None:
+        raise Fault(f"{name}: the description has no {table}.{key}")
+    if key in TEXTS:
+        if value not in TEXTS[key]:
+            raise Fault(f"{name}: {table}.{key} is none of {', '.join(TEXTS[key])}")
+        return value
+    least = 0 if key == "base" or default is not None else 1
+    if type(value) is not int or not least <= value <= MOST:
+        raise Fault(f"{name}: {table}.{key} is a whole number from {least} to {MOST}, and {value!r} isn't")
+    return value
