@@ -61,6 +61,12 @@ class Command(unittest.TestCase):
         self.assertIn("the image has no such symbol, but verify.constprop.0", places.nothing_of(named, "verify"))
         self.assertEqual(places.nothing_of(named, "main"), "no instruction of <main> was fetched")
 
+    def test_up_to_the_cycle_before_the_last(self):
+        """The last line has been read by then, and isn't of these cycles."""
+        told = view("stats", self.trace, *self.files, "--to", "20").stdout
+        self.assertRegex(told, r"(?m)^end +not read so far$")
+        self.assertRegex(told, r"(?m)^unexplained +0$")
+
     def test_diff_tells_by_its_status(self):
         self.assertEqual(view("diff", self.trace, self.trace, *self.files).returncode, 0)
         answer = view("diff", self.trace, self.other, *self.files)

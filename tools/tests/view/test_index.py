@@ -66,9 +66,58 @@ class Index(unittest.TestCase):
         self.assertIsNone(self.found(12))
         support.file_of("indexed.trace", "".join(self.lines).encode())
 
+    def test_a_trace_of_the_same_size_is_another_one(self):
+        """By what it begins or ends with, by when it was written, or by which file it is."""
+        self.make(10)
+        text, status = "".join(self.lines).encode(), os.stat(self.trace)
+        times = status.st_atime_ns, status.st_mtime_ns
+
+        def written(data, later=0):
+            support.file_of("indexed.trace", data)
+            os.utime(self.trace, ns=(times[0], times[1] + later))
+        for data in (b"9" + text[1:], text[:-2] + b"?\n"):
+            self.assertEqual(len(data), len(text))
+            written(data)
+            self.assertIsNone(self.found(12), data[-40:])
+        written(text, 10 ** 9)
+        self.assertIsNone(self.found(12))
+        written(text)
+        self.assertIsNotNone(self.found(12))
+        copy = support.file_of("copied.trace", text)
+        os.utime(copy, ns=times)
+        os.replace(copy, self.trace)
+        self.assertIsNone(self.found(12))
+
+    def test_a_long_trace_is_summed_at_both_ends(self):
+        """What stands between them is told by the time of change alone."""
+        middle = bytearray(b"a" * 3 * index.ENDS)
+        path = support.file_of("long.trace", middle)
+        times = os.stat(path).st_atime_ns, os.stat(path).st_mtime_ns
+        before = index.trace_identity(path)
+        for place, same in ((0, False), (index.ENDS - 1, False), (2 * index.ENDS, False), (len(middle) - 1, False), (index.ENDS, True)):
+            changed = middle.copy()
+            changed[place] += 1
+            support.file_of("long.trace", changed)
+            os.utime(path, ns=times)
+            self.assertEqual(index.trace_identity(path) == before, same, place)
+
+    def test_an_index_without_its_trace(self):
+        """What isn't there is the trace: the index isn't told to be damaged."""
+        self.make(10)
+        os.remove(self.trace)
+        self.addCleanup(support.file_of, "indexed.trace", "".join(self.lines).encode())
+        self.assertIsNone(self.found(12))
+
     @unittest.skipIf(support.NO_IMAGES, support.NO_IMAGES)
     def test_a_damaged_one_is_refused(self):
-        for data in (b"", b"no zip at all"):
+        self.make(10)
+        with zipfile.ZipFile(self.trace + ".index") as file:
+            place = file.getinfo(index.HEAD).header_offset + 30 + len(index.HEAD)
+        with open(self.trace + ".index", "rb") as file:
+            whole = file.read()
+        # the first byte of what is packed there: no kind of block is 3
+        packed = whole[:place] + b"\xff" + whole[place + 1:]
+        for data in (b"", b"no zip at all", whole[:100], packed):
             support.file_of("indexed.trace.index", data)
             with self.assertRaisesRegex(Fault, "no index of a trace, or damaged"):
                 self.found(12)

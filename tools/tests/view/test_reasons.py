@@ -3,6 +3,10 @@ import unittest
 
 import support
 from programs import PROGRAMS
+from wadrelwy.view import Fault
+from wadrelwy.view.checks import Checks
+from wadrelwy.view.items import Item
+from wadrelwy.view.rows import Event
 from wadrelwy.view.why import cycles
 
 
@@ -174,6 +178,78 @@ class Unexplained(unittest.TestCase):
     def test_a_hit_where_the_line_is_not_there(self):
         told = self.told(self.changed(3, "ld:0:0001fff0:m", "ld:0:0001fff0:h"))
         self.assertTrue(any("`h` for line 0001fff0, where `m` is right" in text for text in told), told)
+
+    def test_where_a_run_may_end(self):
+        """By an exit of the call that retires last, or by a trap of the oldest entry, with a cause of its kind."""
+        for heading, image, ends in (("Bounds check bypass", "bounds_check.elf", ("trap 5 00010020",)),
+                                     ("Fault shadow", "fault_shadow.elf", ("trap 5 00010008", "trap 7 00010004", "trap 2 00010004", "exit 0"))):
+            *lines, last = support.worked_trace(heading)
+            for end in ends:
+                other = f"end {end} retired {last.split('retired ')[1]}"
+                told = self.told([*lines, other], image)
+                self.assertEqual(told, [f"cycle {len(lines)}: the run ends by `{end}`, which is neither an exit of the call that retires last "
+                                        "nor a trap of the oldest entry"])
+        *lines, last = support.worked_trace("Fault shadow")
+        self.assertEqual(self.told([*lines, last.replace("trap 5", "trap 4")], "fault_shadow.elf"), [], "an address isn't told")
+
+    def test_what_the_last_line_counts(self):
+        *lines, last = support.worked_trace("Bounds check bypass")
+        for other, told in ((last.replace("retired 5", "retired 6"), "tells of 6 retired in 21 cycles"),
+                            (last.replace("cycles 21", "cycles 22"), "tells of 5 retired in 22 cycles")):
+            self.assertEqual(self.told([*lines, other]), [f"cycle 21: the last line {told}, and 5 did in 21"])
+
+    def test_nothing_follows_an_end_in_retire(self):
+        self.assertEqual(self.told(self.changed(21, "call:9:0", "call:9:0 fet:00010028")),
+                         ["cycle 21: the run has ended in Retire, and a later phase has events"])
+
+    def test_the_order_of_the_phases(self):
+        self.assertEqual(self.told(self.changed(17, "done:2 res:2:T bp:2:2 sq:7", "res:2:T bp:2:2 sq:7 done:2")),
+                         ["cycle 17: the events don't stand in the order of the phases"])
+
+    def test_serials_count_up(self):
+        lines = support.worked_trace("Bounds check bypass")
+        for number, old, new in ((18, "ren:8:", "ren:18:"), (19, "alu:8", "alu:18"), (20, "done:8 ret:8 ren:9:", "done:18 ret:18 ren:19:"),
+                                 (21, "ret:9 call:9:0", "ret:19 call:19:0")):
+            self.assertIn(old, lines[number - 1])
+            lines[number - 1] = lines[number - 1].replace(old, new)
+        self.assertEqual(self.told(lines), ["cycle 18: entry 18 is renamed, where entry 8 is the next"])
+
+    def test_where_fetch_goes_on(self):
+        """Behind what is no jump at the next address; behind a branch that squashes where it goes."""
+        self.assertEqual(self.told(self.changed(5, "fet:00010024", "fet:00010028")), ["cycle 5: 00010028 is fetched, where 00010024 is the next"])
+        files = support.example("bounds_check.elf"), support.example("core.toml")
+        run, _ = support.fresh(self.changed(17, "fet:0001001c fet:00010020", "fet:0001000c fet:00010010"), *files)
+        with self.assertRaisesRegex(Fault, "ren:8:0001001c is not of the front of the queue"):
+            list(run.items())
+        self.assertEqual(run.reasons.unexplained, ["cycle 17: 0001000c is fetched, where 0001001c is the next"])
+
+    def test_how_a_branch_is_resolved(self):
+        self.assertEqual(self.told(self.changed(17, "bp:2:2", "bp:2:1")), ["cycle 17: branch 2 leaves counter 2 at 1, where 2 is right"])
+        self.assertIn("cycle 17: entry 2, a branch, is resolved with the events res:2:J bp:2:2 sq:7", self.told(self.changed(17, "res:2:T", "res:2:J")))
+
+    def test_a_counter_goes_up_and_down(self):
+        """From 1 on, up to 3 and down to 0, each counter by itself (docs/machine.md, "Resolve")."""
+        told = []
+        checks, branch = Checks(support.bounds_check()[0].pipeline, told.append), Item()
+        for taken, value in ((True, "2"), (True, "3"), (True, "3"), (False, "2"), (False, "1"), (False, "0"), (False, "0"), (True, "1")):
+            checks.learn(branch, taken, Event("bp", 5, text=value))
+        self.assertEqual(told, [])
+        checks.learn(branch, True, Event("bp", 6, text="1"))
+        self.assertEqual(len(told), 1)
+
+    def test_a_load_that_faults_does_not_retire(self):
+        *lines, _ = support.worked_trace("Fault shadow")
+        lines[22] = lines[22].replace("ret:0", "ret:0 ret:1")
+        self.assertIn("cycle 23: load 1 retires, and it faults", self.told([*lines, "end budget retired 2 cycles 23\n"], "fault_shadow.elf"))
+
+    def test_what_no_access_and_no_division_tells(self):
+        for old, new, told in (("div:0:20", "div:0:2", "cycle 3: division 0 takes 2 cycles, where 3 to 35 are right"),
+                               ("ld:2:0001fff0:m", "ld:2:00020000:m", "cycle 4: load 2 accesses the lines [00020000]"),
+                               ("ld:2:0001fff0:m", "ld:2:0000fff0:m", "cycle 4: load 2 accesses the lines [0000fff0]"),
+                               ("ld:2:0001fff0:m", "ld:2:f", "cycle 4: load 2 is forwarded, but no older store has its address and its data")):
+            text = "".join(support.worked_trace("Fault shadow"))
+            self.assertEqual(text.count(old), 1)
+            self.assertIn(told, self.told(text.replace(old, new).splitlines(keepends=True), "fault_shadow.elf"))
 
     def test_a_trace_under_another_description(self):
         told = self.told(support.worked_trace("Fault shadow"), "fault_shadow.elf", "core_futuristic.toml")

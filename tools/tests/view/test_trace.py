@@ -74,6 +74,14 @@ class Rows(unittest.TestCase):
             self.assertEqual([[event.name for event in phase] for phase in row.phases()],
                              [["fill"], ["done"], resolved, cleared, ["ret"], ["ld"], ["ren"], ["fet"]])
 
+    def test_the_order_of_the_phases(self):
+        """Where events stand in another one, reading letter by letter leaves the line to `split`, which tells it."""
+        for text, ordered in [("1 fill:0001fff0 done:0 ret:0 fet:00010000\n", True), ("1 clr:1 vio:3 dp:3:1 sq:4 ret:1\n", True),
+                              ("1 done:0 fill:0001fff0\n", False), ("1 ret:0 done:1\n", False), ("1 fet:00010000 ren:0:00010000 fet:00010004\n", False)]:
+            row = row_of(text)
+            row.split()
+            self.assertEqual((row.ordered, scan(text) is not None), (ordered, ordered), text)
+
     def test_a_torn_trace_has_its_whole_lines(self):
         trace = Trace(lines("1 fet:00010000\n2 ren:0:000"))
         self.assertEqual(([row.cycle for row in trace], trace.end), ([1], None))
@@ -82,8 +90,9 @@ class Rows(unittest.TestCase):
         for text in ("x0 00000000\n", "2 fet:00010000\n", "1\n3\n", "end what retired 0 cycles 0\n", "\n"):
             with self.assertRaises(Fault, msg=text):
                 list(Trace(lines(text)))
-        with self.assertRaises(Fault):
-            next(iter(Trace(lines("1 nonsense:1\n")))).phases()
+        for text in ("1 nonsense:1\n", "1 res:2:Q\n", "1 res:2\n", "1 st:2:0001fff0:2\n"):
+            with self.assertRaises(Fault, msg=text):
+                next(iter(Trace(lines(text)))).phases()
 
     def test_the_worked_traces_are_read(self):
         self.assertEqual(len(list(Trace(iter(support.worked_trace("Bounds check bypass"))))), 21)

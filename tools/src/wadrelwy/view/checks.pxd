@@ -8,14 +8,16 @@ from wadrelwy.view.rows cimport Event
 cdef class Checks:
     cdef public Pipeline pipeline
     cdef public object tell
-    cdef public dict due
-    cdef public long long line, misaligned, mshrs, prefetches
+    cdef public dict due, counters
+    cdef public long long line, misaligned, mshrs, prefetches, base, behind
     cpdef fill(self, list lines)
     @cython.locals(item=Item)
     cpdef complete(self, list items)
     @cython.locals(last=cython.longlong, place=cython.longlong, event=Event)
     cpdef order(self, list steps)
-    cpdef resolve(self, Item item, list names_told)
+    @cython.locals(names_told=list)
+    cpdef resolve(self, Item item, list events)
+    cpdef learn(self, Item item, bint taken, Event event)
     cpdef retired(self, Item item)
     @cython.locals(due=list)
     cpdef issued(self, Item item)
@@ -34,4 +36,5 @@ cdef class Checks:
     cpdef list older_stores(self, Item item)
     cpdef write(self, Item item, long long line, answer)
     cpdef unit(self, Item item, str name)
+    cpdef division(self, Item item, long long time)
     cpdef squash(self, told, dropped)

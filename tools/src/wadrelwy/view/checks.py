@@ -1,12 +1,16 @@
 """Whether what happens is what the machine's rules ask for: when lines come, when results are there, what loads find."""
-from wadrelwy.riscv.kinds import BRANCH, CALL, STORE
+from wadrelwy.riscv.kinds import BRANCH, CALL, JALR, STOP, STORE
 
 from .items import BY_AGE, DATA_PART
-from .pipeline import PREFETCH, lines_of
+from .pipeline import PREFETCH, is_wide, lines_of
 from .rows import Event, text_of
 
 # the letters of a line that takes a miss register
 TAKES = ("m", "2")
+# the cycles that a division takes, and what a counter is at first (docs/machine.md, "The time of a division" and "State")
+LEAST_TIME, MOST_TIME, COUNTER = 3, 35, 1
+# the last seven bits of a JAL, and an EBREAK
+JAL, EBREAK = 0x6F, 0x00100073
 
 
 class Checks:
@@ -14,7 +18,8 @@ class Checks:
 
     def __init__(self, pipeline, tell):
         self.pipeline, self.tell = pipeline, tell
-        self.due, description = {}, pipeline.description
+        self.due, self.counters, description = {}, {}, pipeline.description
+        self.base, self.behind = description.base, description.base + description.size
         self.line, self.misaligned, self.mshrs, self.prefetches = description.line, description.misaligned, description.mshrs, description.prefetch
 
     def fill(self, lines):
@@ -31,12 +36,22 @@ class Checks:
         if items != due:
             self.tell(f"entries {[item.serial for item in items]} are done, {[item.serial for item in due]} are due")
 
-    def resolve(self, item, names_told):
-        """A branch teaches a counter, a JALR its target unless it faults, and then it drops what is younger."""
-        learns = "bp" if item.kind == BRANCH else "bt"
+    def resolve(self, item, events):
+        """A branch is taken or not and teaches a counter, a JALR its target unless it faults, and then it drops what is younger."""
+        names_told, learns = [event.name for event in events], "bp" if item.kind == BRANCH else "bt"
         right = [["res", learns], ["res", learns, "sq"]] + ([["res", "sq"]] if learns == "bt" else [])
-        if names_told not in right:
-            self.tell(f"entry {item.serial}, a {item.code.kind}, is resolved with the events {' '.join(names_told)}")
+        if names_told not in right or (events[0].text == "J") != (item.kind == JALR):
+            self.tell(f"entry {item.serial}, a {item.code.kind}, is resolved with the events {' '.join(map(text_of, events))}")
+        elif learns == "bp":
+            self.learn(item, events[0].text == "T", events[1])
+
+    def learn(self, item, taken, event):
+        """The counter of a branch goes up to at most 3 where it is taken, else down to at least 0."""
+        before = self.counters.get(event.number, COUNTER)
+        right = min(before + 1, 3) if taken else max(before - 1, 0)
+        if event.text != str(right):
+            self.tell(f"branch {item.serial} leaves counter {event.number} at {event.text}, where {right} is right")
+        self.counters[event.number] = right
 
     def clear(self, store, events):
         """A store is cleared, and where the oldest younger load that passed it shares a byte with it, that load is violated: its bit is
@@ -72,11 +87,34 @@ class Checks:
             self.tell(f"entry {item.serial}, a {item.code.kind}, retires with the events of another kind")
         if store:
             self.lines(item, item.written)
+        if item.unit == "fault":
+            self.tell(f"load {item.serial} retires, and it faults")
+
+    def ends(self, how, retired):
+        """A run ends by an exit, which is a call that retires alone and puts nothing out, or by a trap of the oldest entry."""
+        head, last = self.pipeline.window[0] if self.pipeline.window else None, retired[-1] if retired else None
+        if how.startswith("exit"):
+            right = last is not None and last.kind == CALL and last.output == 0
+        else:
+            right = head is not None and how in [f"trap {cause} {head.pc:08x}" for cause in self.causes(head)]
+        if not right:
+            self.tell(f"the run ends by `{how}`, which is neither an exit of the call that retires last nor a trap of the oldest entry")
+
+    def causes(self, head):
+        """The causes with which this entry may trap, as far as the trace tells it (docs/instruction-set.md, "Traps"); none where it can't yet."""
+        if head.kind == STOP:
+            word = self.pipeline.image.words.get(head.pc)
+            return [1] if word is None else [3] if word == EBREAK else [0] if word & 0x7F == JAL else [2]
+        if head.is_control:
+            return [0] if head.resolved is not None else []
+        if head.done is None:
+            return []
+        return [6, 7] if head.is_store else [4, 5] if head.unit == "fault" else []
 
     def end(self, end, retired):
         """The last line counts the cycles and what retired."""
         if end and (end.cycles != self.pipeline.cycle or end.retired != retired):
-            self.tell(f"the last line tells of {end.retired} retired, and {retired} did")
+            self.tell(f"the last line tells of {end.retired} retired in {end.cycles} cycles, and {retired} did in {self.pipeline.cycle}")
 
     def issued(self, item):
         """Remembers when the entry will be done: a store once both of its parts have issued."""
@@ -109,9 +147,9 @@ class Checks:
         if answer == "f":
             stores = self.older_stores(item)
             hidden = self.first_hidden(stores)
-            if hidden or not stores:
+            if hidden or not any([store.issued is not None for store in stores]):
                 self.tell(f"load {item.serial} is forwarded, but " + (f"store {hidden.serial} has a tainted address" if hidden
-                                                                        else "no older store is in flight"))
+                                                                        else "no older store has its address and its data"))
         taken = 0
         for line, found in lines:
             taken += found == "m" or found == "2"
@@ -145,11 +183,12 @@ class Checks:
         return "j" if line in self.pipeline.misses else "2" if self.pipeline.second.has(line) else "m"
 
     def lines(self, item, lines):
-        """An access has one line; where it may have any address it may have two, the lower first."""
-        size, right = self.line, len(lines) <= 1 + self.misaligned
+        """An access has one line, which has bytes of memory; where it may have any address one of several bytes may have two, the lower first."""
+        size, right = self.line, len(lines) < 2 or len(lines) == 2 and self.misaligned > 0 and is_wide(self.pipeline.image.words.get(item.pc))
         for place in range(len(lines)):
             line = lines[place][0]
-            right = right and line % size == 0 and (place == 0 or line == lines[place - 1][0] + size)
+            right = right and line % size == 0 and self.base < line + size and line < self.behind
+            right = right and (place == 0 or line == lines[place - 1][0] + size)
         if not right:
             self.tell(f"{item.code.kind} {item.serial} accesses the lines {names([line for line, _ in lines])}")
 
@@ -186,6 +225,11 @@ class Checks:
         """The event of an entry's issue is that of its kind. The data part of a store has one in version 2 alone."""
         if name != item.event and (name, item.kind, self.pipeline.description.version) != (DATA_PART, STORE, 2):
             self.tell(f"entry {item.serial}: `{name}` for a {item.kind}")
+
+    def division(self, item, time):
+        """A division takes 3 cycles, and one for each binary digit of its dividend."""
+        if not LEAST_TIME <= time <= MOST_TIME:
+            self.tell(f"division {item.serial} takes {time} cycles, where {LEAST_TIME} to {MOST_TIME} are right")
 
     def squash(self, told, dropped):
         if told != dropped:

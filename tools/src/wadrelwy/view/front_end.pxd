@@ -12,7 +12,8 @@ cdef class Stall:
 cdef class FrontEnd:
     cdef public Pipeline pipeline
     cdef public object tell, last_rename, last_fetch
-    cdef public dict rename, fetch
+    cdef public dict rename, fetch, known_ways
+    cdef public tuple ways
     cdef public long long width, rob, stations, loads, stores, room
     cdef public list stalls
     cdef public bint fetching
@@ -30,5 +31,8 @@ cdef class FrontEnd:
     cpdef after_rename(self, long long count)
     @cython.locals(last=Stall, cycle=cython.longlong)
     cpdef keep_stall(self, reason, long long pc)
-    @cython.locals(width=cython.longlong, number=cython.longlong, last=Item)
+    @cython.locals(width=cython.longlong, number=cython.longlong, last=Item, item=Item)
     cpdef after_fetch(self, list fetched, bint squashed)
+    @cython.locals(ways=tuple)
+    cpdef tuple ways_of(self, long long pc)
+    cpdef tuple ways_behind(self, Item item)

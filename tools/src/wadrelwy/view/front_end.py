@@ -1,5 +1,6 @@
 """Why rename or fetch stops short of the width (docs/machine.md, "Rename" and "Fetch")."""
-from wadrelwy.riscv.kinds import CALL, STOP
+from wadrelwy.riscv.kinds import BRANCH, CALL, JAL, JALR, STOP
+from wadrelwy.riscv.operation import WORD, decode
 
 REORDER_BUFFER, CALL_IN_FLIGHT, LOADS, STORES, CALL_ALONE, STATIONS = (
     "reorder buffer", "call in flight", "loads", "stores", "call waits to be alone", "stations")
@@ -20,7 +21,7 @@ class FrontEnd:
     """Looks at each renaming before it is applied, and at the queue behind the two phases; `tell` gets what no rule explains.
 
     `rename` and `fetch` count the cycles in which they stopped short, by reason; `stalls` are those of rename by their cycles; they may be
-    none.
+    none. `ways` are the addresses of which one is fetched next, as far as the image tells them: none where any may be.
     """
 
     def __init__(self, pipeline, tell):
@@ -29,6 +30,7 @@ class FrontEnd:
         self.loads, self.stores, self.room = description.loads, description.stores, description.queue
         self.rename, self.fetch, self.stalls = {}, {}, []
         self.fetching, self.last_rename, self.last_fetch = True, None, None
+        self.ways, self.known_ways = (), {}
 
     def count(self, counter, reason):
         if self.pipeline.counts:
@@ -121,6 +123,12 @@ class FrontEnd:
         A jump that faults drops what is younger, and nothing is fetched from then on: the trace tells it by that alone.
         """
         queue, width = self.pipeline.queue, self.width
+        if squashed:
+            self.ways = self.ways_behind(self.pipeline.last_squash)
+        for item in fetched:
+            if self.ways and item.pc not in self.ways:
+                self.tell(f"{item.pc:08x} is fetched, where {either(self.ways)} is the next")
+            self.ways = self.ways_of(item.pc)
         self.fetching = self.fetching or squashed
         number, last = len(fetched), fetched[-1] if fetched else None
         if number > width or number and (not self.fetching or len(queue) > self.room):
@@ -134,3 +142,25 @@ class FrontEnd:
                 self.count(self.fetch, self.last_fetch)
             else:
                 self.tell("fetch stops short, and nothing tells why")
+
+    def ways_of(self, pc):
+        """Where fetch may go on behind the item of this address. Behind a branch the address behind it comes first, and then its target."""
+        ways = self.known_ways.get(pc)
+        if ways is None:
+            operation = decode(self.pipeline.image.words.get(pc))
+            kind, behind, target = operation.code.kind, pc + 4 & WORD, pc + operation.imm & WORD
+            ways = () if kind in (JALR, STOP) else (behind, target) if kind == BRANCH else (target,) if kind == JAL else (behind,)
+            self.known_ways[pc] = ways
+        return ways
+
+    def ways_behind(self, item):
+        """Where fetch goes on behind an entry that squashed: behind a branch where it goes. `after_violation` looks at a load."""
+        if item.kind != BRANCH:
+            return ()
+        behind, target = self.ways_of(item.pc)
+        return (target,) if item.outcome == "T" else (behind,)
+
+
+def either(ways):
+    """Addresses of which one is right."""
+    return " or ".join([f"{pc:08x}" for pc in ways])

@@ -1,8 +1,8 @@
 """`index`: a file beside a trace, `TRACE.index`, by which a stretch of a long trace is shown without what comes before it.
 
-It holds the state of the run after every 4,000th cycle and where the trace goes on, and tells the trace's size, the image and the
-description that it belongs to; one that belongs to others is passed over. It is a zip file. A state is a pickle, of which only the
-classes below are taken.
+It holds the state of the run after every 4,000th cycle and where the trace goes on, and tells the trace, the image and the description that
+it belongs to; one that belongs to others is passed over. A long trace isn't summed in whole for that: it is told by its size, its time of
+change, its inode, and a sum of its first and last bytes. It is a zip file. A state is a pickle, of which only the classes below are taken.
 """
 import hashlib
 import io
@@ -11,6 +11,7 @@ import os
 import pickle
 import sys
 import zipfile
+import zlib
 from types import MethodType
 from typing import Any, IO, Iterator, Optional, TYPE_CHECKING
 
@@ -23,7 +24,9 @@ if TYPE_CHECKING:
 
 EVERY = 4000
 # which values a state has: another number where they change, so that an index of before isn't used
-FORM = 5
+FORM = 6
+# how many bytes are summed at either end of a trace
+ENDS = 1 << 20
 HEAD = "head.json"
 CLASSES = {
     "builtins": {"bytearray"}, "collections": {"Counter", "OrderedDict"}, "wadrelwy.riscv.kinds": {"Instruction"},
@@ -66,18 +69,30 @@ class Keeper(pickle.Pickler):
 
 def identity(trace: str, image: str, description: str) -> dict:
     """What an index belongs to."""
-    found: dict = {"form": FORM, "every": EVERY, "size": os.path.getsize(trace)}
+    found: dict = {"form": FORM, "every": EVERY, **trace_identity(trace)}
     for name, path in (("image", image), ("description", description)):
         with open(path, "rb") as file:
             found[name] = hashlib.sha256(file.read()).hexdigest()
     return found
 
 
+def trace_identity(trace: str) -> dict:
+    """What tells a trace from another one that has its name."""
+    with open(trace, "rb") as file:
+        status = os.fstat(file.fileno())
+        sum_of = hashlib.sha256(file.read(ENDS))
+        file.seek(max(0, status.st_size - ENDS))
+        sum_of.update(file.read(ENDS))
+    return {"size": status.st_size, "changed": status.st_mtime_ns, "inode": status.st_ino, "ends": sum_of.hexdigest()}
+
+
 def write(replay: "Replay", image: "Image", description: str, name: str, told: "Told") -> tuple:
-    """Takes the run through, and keeps its state after every so many cycles. `told` gets the lines of the trace, and counts their bytes."""
+    """Takes the run through, and keeps its state after every so many cycles. `told` gets the lines of the trace, and counts their bytes.
+    What the index belongs to is found before: where the trace changes meanwhile it belongs to none."""
     path = file_name(name)
     states = {}
     try:
+        belongs = identity(name, image.name, description)
         with zipfile.ZipFile(path + ".part", "w", zipfile.ZIP_DEFLATED) as file:
             for row in replay.trace:
                 replay.step(row)
@@ -86,7 +101,7 @@ def write(replay: "Replay", image: "Image", description: str, name: str, told: "
                 if row.cycle % EVERY == 0 and not row.ends:
                     states[row.cycle] = told.place(row.cycle)
                     file.writestr(str(row.cycle), state_of(replay, image))
-            file.writestr(HEAD, json.dumps({**identity(name, image.name, description), "states": states, "last": replay.pipeline.cycle}))
+            file.writestr(HEAD, json.dumps({**belongs, "states": states, "last": replay.pipeline.cycle}))
         os.replace(path + ".part", path)
     except OSError as error:
         raise Fault(f"{path}: {error.strerror}") from None
@@ -116,22 +131,22 @@ def replay_from(name: str, image: "Image", description_name: str, first: int) ->
     """The run from the last state on that is kept of a cycle before this one, or None where there is no index of this trace, image and
     description."""
     path = file_name(name)
-    if name == "-" or not os.path.isfile(path):
+    if name == "-" or not os.path.isfile(name) or not os.path.isfile(path):
         return None
     try:
         with zipfile.ZipFile(path) as file:
-            head = json.loads(file.read(HEAD))
-            if {key: head.get(key) for key in ("form", "every", "size", "image", "description")} != identity(name, image.name, description_name):
+            head, belongs = json.loads(file.read(HEAD)), identity(name, image.name, description_name)
+            if {key: head.get(key) for key in belongs} != belongs:
                 return None
             cycle = max((int(cycle) for cycle in head["states"] if int(cycle) < first), default=None)
             if cycle is None:
                 return None
             loading = Careful(io.BytesIO(file.read(str(cycle))))
             loading.image = image
-            replay = loading.load()
-    except (OSError, zipfile.BadZipFile, pickle.UnpicklingError, KeyError, ValueError, EOFError, AttributeError, TypeError) as error:
+            replay, place = loading.load(), int(head["states"][str(cycle)])
+    except (OSError, zipfile.BadZipFile, zlib.error, pickle.UnpicklingError, LookupError, ValueError, EOFError, AttributeError, TypeError) as error:
         raise Fault(f"{path}: no index of a trace, or damaged ({type(error).__name__}); it can be removed") from None
-    return going_on(replay, name, head["states"][str(cycle)], cycle)
+    return going_on(replay, name, place, cycle)
 
 
 def going_on(replay: "Replay", name: str, place: int, cycle: int) -> "Replay":

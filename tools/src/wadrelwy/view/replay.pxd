@@ -18,7 +18,7 @@ cdef class Replay:
     cdef public Slots slots
     cdef public Occupancy occupancy
     cdef public tuple span
-    cdef public long long retired, width
+    cdef public long long retired, width, next_serial
     cdef public bint asked, quiet, skips
     @cython.locals(pipeline=Pipeline, counted=cython.bint, told=cython.longlong, before=cython.longlong)
     cpdef step(self, Row row)

@@ -29,6 +29,7 @@ class Replay:
         self.checks = Checks(self.pipeline, self.reasons.tell)
         self.slots, self.occupancy, self.span = Slots(self.pipeline), None, span
         self.asked, self.retired, self.width = asked, 0, self.pipeline.description.fetch_width
+        self.next_serial = 0
         # whether the last cycle had no event and was explained. A tool that looks at more of each cycle is shown all of them
         self.quiet, self.skips = False, type(self) is Replay
 
@@ -45,6 +46,8 @@ class Replay:
         flight, ends = self.pipeline.flight, False
         for row in self.trace:
             if until is not None and row.cycle > until:
+                # with the last row the last line is read, which isn't of the cycles before that
+                self.trace.end = None
                 break
             self.step(row)
             ends = row.ends
@@ -120,6 +123,8 @@ class Replay:
         """The seven phases, and Clear behind Resolve. After an end in Retire no later phase acts."""
         pipeline = self.pipeline
         fills, completes, resolves, clears, retires, issues, renames, fetches = phases
+        if self.asked and not row.ordered:
+            self.reasons.tell("the events don't stand in the order of the phases")
         if fills or pipeline.now in pipeline.dues:
             self.fill([event.number for event in fills])
         if completes or pipeline.now in self.checks.due:
@@ -133,6 +138,8 @@ class Replay:
             fetched = self.fetch(fetches)
             if self.asked:
                 self.after_fetch(fetched, squashed, violated)
+        elif self.asked and (issues or renames or fetches):
+            self.reasons.tell("the run has ended in Retire, and a later phase has events")
 
     def entries(self, events):
         """The entries in flight that these events are of."""
@@ -182,7 +189,7 @@ class Replay:
         if resolved is None:
             return False
         if self.asked:
-            self.checks.resolve(resolved, [event.name for event in events])
+            self.checks.resolve(resolved, events)
         self.pipeline.resolve(resolved, event.text)
         if squashes:
             self.squash(resolved, last.number, self.pipeline.squash(resolved))
@@ -237,8 +244,10 @@ class Replay:
     def after_retire(self, retired, ends):
         """What retired has told what it has to, and why no more did."""
         for item in retired:
-            if item.is_store or item.kind == CALL or item.written or item.output is not None:
+            if item.is_store or item.kind == CALL or item.written or item.output is not None or item.unit == "fault":
                 self.checks.retired(item)
+        if ends:
+            self.checks.ends(self.trace.end.how, retired)
         self.slots.retire(retired, ends)
 
     def issue(self, events):
@@ -270,6 +279,8 @@ class Replay:
                 self.checks.unit(item, event.name)
             if event.name == "ld":
                 self.checks.access(item, event)
+            elif event.name == "div":
+                self.checks.division(item, event.second)
 
     def begins(self, item, event):
         """An entry issues in this cycle."""
@@ -305,6 +316,9 @@ class Replay:
     def rename(self, events):
         roomy = not self.asked or bool(events) and len(events) <= self.width and self.front.has_room()
         for event in events:
+            if self.asked and event.number != self.next_serial:
+                self.reasons.tell(f"entry {event.number} is renamed, where entry {self.next_serial} is the next")
+            self.next_serial = event.number + 1
             if self.asked and (not roomy or self.front.call_is_next()):
                 self.front.before_rename(event.number)
             item = self.pipeline.rename(event.number, event.second)

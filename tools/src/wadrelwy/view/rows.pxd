@@ -28,7 +28,7 @@ cpdef Row read_row(str line, long long number)
 cdef class Row:
     cdef public long long cycle
     cdef public str line
-    cdef public bint empty, ends
+    cdef public bint empty, ends, ordered
     cpdef begin(self, long long cycle, str line)
     cpdef tuple phases(self)
     @cython.locals(words=list, name=str, text=str, shape=Shape)
@@ -36,7 +36,7 @@ cdef class Row:
 
 
 @cython.locals(pool=list, number=cython.Py_ssize_t, place=cython.Py_ssize_t, last=cython.Py_ssize_t, behind=cython.Py_ssize_t, event=Event,
-               shape=Shape, phases=tuple, letters=bytes, phase=list)
+               shape=Shape, phases=tuple, letters=bytes, phase=list, turn=cython.Py_ssize_t, reached=cython.Py_ssize_t)
 cpdef tuple scan(str line)
 
 

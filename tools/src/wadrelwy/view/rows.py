@@ -16,8 +16,8 @@ EVENTS = {
     "ren": (RENAME, 3, COUNT, PLACE), "fet": (FETCH, 2, PLACE, TEXT),
 }
 WITHOUT_LINE = ("f", "x")
-# how the line of a load, of a store, and one that is prefetched may be found
-FOUND = {"ld": ("h", "m", "j", "2"), "st": ("h", "m"), "pf": ("m", "2")}
+# how the line of a load, of a store, and one that is prefetched may be found, and how a branch or JALR is resolved
+FOUND = {"ld": ("h", "m", "j", "2"), "st": ("h", "m"), "pf": ("m", "2"), "res": ("T", "N", "J")}
 # what stands for a number where an event has none
 NONE = -1
 
@@ -93,13 +93,14 @@ def read_row(line, number):
 
 
 class Row:
-    """A cycle: its number, its line, whether that has no event, and whether the run ended in its Retire."""
+    """A cycle: its number, its line, whether that has no event, whether the run ended in its Retire, and, once its phases are read, whether
+    its events stand in the order of the phases."""
 
-    __slots__ = ("cycle", "line", "empty", "ends")
+    __slots__ = ("cycle", "line", "empty", "ends", "ordered")
 
     def begin(self, cycle, line):
         """Its number and its line."""
-        self.cycle, self.line, self.empty, self.ends = cycle, line, " " not in line, False
+        self.cycle, self.line, self.empty, self.ends, self.ordered = cycle, line, " " not in line, False, True
 
     @property
     def events(self):
@@ -112,7 +113,7 @@ class Row:
 
     def split(self):
         """The events of each phase; what is no event of a trace is refused."""
-        phases = [], [], [], [], [], [], [], []
+        phases, reached = ([], [], [], [], [], [], [], []), FILL
         for text in self.events:
             words = text.split(":")
             name, number = words[0], len(words)
@@ -124,17 +125,19 @@ class Row:
                 second = TEXT
             elif name == "sq" and phases[CLEAR]:
                 phase = CLEAR
+            self.ordered = self.ordered and phase >= reached
+            reached = phase
             told = words[-1] if number == 4 or number == 3 and not second else None
             phases[phase].append(Event(name, int(words[1], shape.first), int(words[2], second) if second else NONE, told))
         return phases
 
 
 def scan(line):
-    """The events of each phase, read letter by letter; None where one isn't just as a trace has it."""
+    """The events of each phase, read letter by letter; None where one isn't just as a trace has it, or stands behind one of a later phase."""
     if not line.isascii():
         return None
     phases, letters, pool, number = ([], [], [], [], [], [], [], []), line.encode(), POOL, 0
-    place, last = line.find(" "), len(letters) - 1
+    place, last, reached = line.find(" "), len(letters) - 1, FILL
     while 0 <= place < last:
         behind = end_of_word(letters, place + 1, last)
         shape = shape_of(letters, place + 1, behind)
@@ -147,9 +150,12 @@ def scan(line):
         place = read_event(line, letters, behind, last, event, shape)
         if place < 0:
             return None
-        phase = phases[shape.phase]
+        turn = shape.phase
         if shape.squashes and phases[CLEAR]:
-            phase = phases[CLEAR]
+            turn = CLEAR
+        if turn < reached:
+            return None
+        reached, phase = turn, phases[turn]
         phase.append(event)
     return phases
 
