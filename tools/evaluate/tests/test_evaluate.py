@@ -16,13 +16,13 @@ NAMES = sorted(name for name in os.listdir(RUNS) if os.path.isdir(os.path.join(R
 
 sys.dont_write_bytecode = True
 
-# what makes a run's folder none, by the file that is changed
+# what makes a run's folder none, by the file that is changed, and what is told of it
 WRONG = [
-    ("an image that is cut", "image.elf", lambda old: old[:-1]),
-    ("a trace without its last line's end", "trace", lambda old: old[:-1]),
-    ("a description that is no TOML", "core.toml", lambda old: b"[core\n"),
-    ("a description that lacks a key", "core.toml", lambda old: old.replace(b"rob", b"bor")),
-    ("cycles that are no number", "cycles", lambda old: b"many\n"),
+    ("an image that is cut", "image.elf", lambda old: old[:-1], "the image has"),
+    ("a trace without its last line's end", "trace", lambda old: old[:-1], "have to end with a line's end"),
+    ("a description that is no TOML", "core.toml", lambda old: b"[core\n", "lacks a key, or is no TOML"),
+    ("a description that lacks a key", "core.toml", lambda old: old.replace(b"rob", b"bor"), "lacks a key, or is no TOML"),
+    ("cycles that are no number", "cycles", lambda old: b"many\n", "no number"),
 ]
 
 
@@ -57,15 +57,28 @@ class Evaluate(unittest.TestCase):
                 self.assertIn(f"  cycles = {int(content(RUNS, name, 'cycles'))};\n", text)
                 self.assertEqual(lines_of(text, "trace"), content(RUNS, name, "trace"))
 
+    def written_of(self, file="cycles", change=lambda old: old):
+        """The answer, and the files of definitions that are written, of a folder with one run of which a file is changed."""
+        with tempfile.TemporaryDirectory() as folder:
+            runs, crate = os.path.join(folder, "runs"), os.path.join(folder, "crate")
+            shutil.copytree(os.path.join(RUNS, NAMES[0]), os.path.join(runs, NAMES[0]))
+            for part in ("specs", "proofs"):
+                os.makedirs(os.path.join(crate, part))
+            with open(os.path.join(runs, NAMES[0], file), "wb") as changed:
+                changed.write(change(content(RUNS, NAMES[0], file)))
+            ended = write("--runs", runs, "--crate", crate)
+            return ended, sorted(name for part in ("specs", "proofs") for name in os.listdir(os.path.join(crate, part)))
+
     def test_what_is_no_run_is_refused_and_nothing_is_written(self):
-        for what, file, change in WRONG:
-            with self.subTest(what), tempfile.TemporaryDirectory() as folder:
-                runs, crate = os.path.join(folder, "runs"), os.path.join(folder, "crate")
-                shutil.copytree(os.path.join(RUNS, NAMES[0]), os.path.join(runs, NAMES[0]))
-                with open(os.path.join(runs, NAMES[0], file), "wb") as changed:
-                    changed.write(change(content(RUNS, NAMES[0], file)))
-                self.assertNotEqual(write("--runs", runs, "--crate", crate).returncode, 0)
-                self.assertFalse(os.path.exists(crate))
+        """Where nothing is changed the same words write the run."""
+        ended, written = self.written_of()
+        module = "".join(part.capitalize() for part in NAMES[0].split("_"))
+        self.assertEqual((ended.returncode, ended.stderr, written), (0, "", sorted(["Agreeing.antt", "Lib.antt", "Runs.antt", f"{module}.antt"])))
+        for what, file, change, told in WRONG:
+            with self.subTest(what):
+                ended, written = self.written_of(file, change)
+                self.assertEqual((ended.returncode, ended.stdout, ended.stderr.count("\n"), written), (1, "", 1, []))
+                self.assertTrue(ended.stderr.startswith(f"{NAMES[0]}: ") and told in ended.stderr, ended.stderr)
 
     def test_cases_are_the_runs_that_are_named(self):
         with tempfile.TemporaryDirectory() as folder:
