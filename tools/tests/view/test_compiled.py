@@ -128,7 +128,7 @@ class Compiled(unittest.TestCase):
                for folder in ([], [self.folder.name])]
         self.assertEqual([answer.returncode for answer in ran], [0, 0], ran[1].stderr or ran[0].stderr)
         plain, compiled = (answer.stdout.splitlines() for answer in ran)
-        self.assertEqual(len(plain), len(cases))
+        self.assertEqual((len(plain), len(compiled)), (len(cases), len(cases)))
         for one, two in zip(plain, compiled):
             self.assertEqual(one, two)
         return [json.loads(line)[1] for line in plain]
@@ -143,6 +143,7 @@ class Compiled(unittest.TestCase):
 
     def test_traces_that_lack_an_event(self):
         told = self.same(self.cases((["why"], ["stats"]), without_an_event()))
+        self.assertEqual([text for text in told if "an error of the tool itself" in text], [])
         refused = ["doesn't follow" in text for text in told]
         self.assertTrue(any(refused) and not all(refused))
 

@@ -47,7 +47,7 @@ class Page(unittest.TestCase):
 
 @unittest.skipIf(support.NO_PROGRAM, support.NO_PROGRAM)
 @unittest.skipIf(NO_OBJDUMP, NO_OBJDUMP)
-class Pictures(unittest.TestCase):
+class Drawn(unittest.TestCase):
     def test_they_are_drawn_as_they_stand(self):
         with tempfile.TemporaryDirectory() as folder:
             command = [sys.executable, os.path.join(support.ROOT, "tools", "pictures"), folder, "--program", support.PROGRAM]
@@ -57,7 +57,10 @@ class Pictures(unittest.TestCase):
                 with open(os.path.join(folder, name), "rb") as drawn, open(os.path.join(PICTURES, name), "rb") as stored:
                     self.assertEqual(drawn.read(), stored.read(), name)
 
+
+class Pictures(unittest.TestCase):
     def test_each_picture_that_the_page_names_is_there(self):
         with open(os.path.join(support.ROOT, "docs", "view.md"), encoding="utf-8") as file:
-            for name in re.findall(r"\(pictures/(\w+\.svg)\)", file.read()):
-                self.assertTrue(os.path.isfile(os.path.join(PICTURES, name)), name)
+            names = set(re.findall(r"\(pictures/(\w+\.svg)\)", file.read()))
+        self.assertGreaterEqual(names, {"fault_shadow.svg", "stack.svg"})
+        self.assertLessEqual(names, set(os.listdir(PICTURES)))

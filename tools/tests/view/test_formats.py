@@ -51,8 +51,8 @@ class Reasons(unittest.TestCase):
         self.assertTrue(spans and all(first <= 14 and last >= 13 for first, last in spans), spans)
 
     def test_the_sums_alone(self):
-        self.assertEqual(len([line for line in lines(why, 1, None, True) if line.startswith(" ")]), 0)
-
+        text = lines(why, 1, None, True)
+        self.assertEqual((text[-1], [line for line in text if line.startswith(" ")]), ("unexplained: 0", []))
 
     def test_one_function(self):
         """All of it is of _start; nothing of main was fetched, which is refused."""

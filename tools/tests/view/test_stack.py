@@ -75,10 +75,13 @@ class Stack(unittest.TestCase):
 
     @unittest.skipIf(support.NO_PROGRAM, support.NO_PROGRAM)
     def test_all_examples_under_each_description(self):
-        images = glob.glob(support.example("*.elf")) + glob.glob(support.example("c/build/gcc/*.elf")) + [
+        """Of the images that stand in the repository, and not of what happens to be built beside them."""
+        images = glob.glob(support.example("*.elf")) + [
             os.path.join(support.ROOT, "tools", "speed", "programs", name) for name in ("sort.elf", "search.elf")]
+        descriptions = glob.glob(support.example("*.toml"))
+        self.assertTrue(len(images) > 6 and len(descriptions) > 10, (images, descriptions))
         for image in images:
-            for described in glob.glob(support.example("*.toml")):
+            for described in descriptions:
                 with self.subTest(image=image, description=described):
                     self.taken(support.trace_of(described, image, 300 if "large" in described else 150), image, described)
 
