@@ -84,6 +84,18 @@ class Code(unittest.TestCase):
             Image("/nowhere/a.elf")
 
     @unittest.skipIf(support.NO_IMAGES, support.NO_IMAGES)
+    def test_a_damaged_table_of_symbols(self):
+        """Its names stand in a section that has none: the first one."""
+        with open(support.example("bounds_check.elf"), "rb") as file:
+            data = bytearray(file.read())
+        table, size, count = *struct.unpack_from("<I", data, 32), *struct.unpack_from("<HH", data, 46)
+        symbols = [at for at in range(table, table + size * count, size) if struct.unpack_from("<I", data, at + 4) == (2,)]
+        self.assertEqual(len(symbols), 1)
+        struct.pack_into("<I", data, symbols[0] + 24, 0)
+        with self.assertRaisesRegex(Fault, "damaged.elf: no ELF image"):
+            Image(support.file_of("damaged.elf", data))
+
+    @unittest.skipIf(support.NO_IMAGES, support.NO_IMAGES)
     def test_images_for_other_machines(self):
         """What the simulator refuses is refused here, with what to do: width, machine, kind, compressed code."""
         plain = support.elf([(5, 0x10000, b"\x73\0\0\0", 4)])

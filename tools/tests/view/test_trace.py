@@ -87,7 +87,8 @@ class Rows(unittest.TestCase):
         self.assertEqual(([row.cycle for row in trace], trace.end), ([1], None))
 
     def test_what_is_no_trace_is_refused(self):
-        for text in ("x0 00000000\n", "2 fet:00010000\n", "1\n3\n", "end what retired 0 cycles 0\n", "\n"):
+        for text in ("x0 00000000\n", "2 fet:00010000\n", "1\n3\n", "end what retired 0 cycles 0\n", "\n",
+                     f"1\nend budget retired {'1' * 5000} cycles 1\n"):
             with self.assertRaises(Fault, msg=text):
                 list(Trace(lines(text)))
         for text in ("1 nonsense:1\n", "1 res:2:Q\n", "1 res:2\n", "1 st:2:0001fff0:2\n"):

@@ -5,7 +5,7 @@ import subprocess
 from functools import cached_property
 from typing import Any, TYPE_CHECKING
 
-from wadrelwy.elf import ELFError, ELFFile, P_FLAGS
+from wadrelwy.elf import ConstructError, ELFError, ELFFile, P_FLAGS
 from wadrelwy.machine import notes
 from wadrelwy.machine.notes import BUILD
 from wadrelwy.riscv.kinds import instruction_of
@@ -39,7 +39,8 @@ class Image:
                 self.symbols = symbols_of(elf)
         except OSError as error:
             raise Fault(f"{name}: {error.strerror}") from None
-        except ELFError as error:
+        except (ELFError, ConstructError, LookupError, ValueError, AttributeError, TypeError, AssertionError, ArithmeticError) as error:
+            # what pyelftools meets in a file whose tables are damaged has no one name
             raise Fault(f"{name}: no ELF image ({error})") from None
         self.words = words_of(self.pieces)
         self.addresses = [address for address, _, _ in self.symbols]

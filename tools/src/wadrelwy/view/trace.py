@@ -11,7 +11,7 @@ from .rows import read_row
 
 # bytes: more than a last line has, and what is unpacked at a time
 TAIL, PIECE = 256, 1 << 20
-END = re.compile(r"end (exit \d+|trap [0-7] [0-9a-f]{8}|budget) retired (\d+) cycles (\d+)")
+END = re.compile(r"end (exit \d{1,20}|trap [0-7] [0-9a-f]{8}|budget) retired (\d{1,20}) cycles (\d{1,20})")
 
 
 class End(namedtuple("End", "text how retired cycles")):
@@ -87,6 +87,8 @@ def open_trace(name):
     """The file of a trace, `-` for standard input; where the name ends in `.gz` it is unpacked."""
     try:
         if name == "-":
+            if sys.stdin is None:
+                raise Fault("-: standard input is closed")
             sys.stdin.reconfigure(encoding="ascii")
             return sys.stdin
         return gzip.open(name, "rt", encoding="ascii") if name.endswith(".gz") else open(name, encoding="ascii")
