@@ -1,5 +1,5 @@
-//! The program that makes the runs of cases, of `stt_cli` and `stt_secrets` over files and sinks in memory, and tells of
-//! each case whether its runs went as it says.
+//! The program that makes the runs of cases, of `stt_cli` and `stt_secrets` over files and sinks in memory, and tells
+//! of each case whether its runs went as it says.
 //!
 //! The words of this program are the names of the files. It writes a line a case, a line for each run that differs, and
 //! last how many cases, runs and differences there were. Status: 0 nothing differs, 1 something does, 2 a file can't be
