@@ -25,7 +25,7 @@ KEYS = {
 }
 
 # the keys that may be left out, in version 2 alone: their tables, and what they are where they are left out
-OPTIONAL = {
+OPTIONAL: "dict[str, tuple[str, Union[int, str]]]" = {
     "misaligned": ("ram", 0), "depend": ("predictor", 0), "history": ("predictor", 0), "returns": ("predictor", 0),
     "second_sets": ("cache", 0), "second_ways": ("cache", 1), "second_latency": ("cache", 2), "prefetch": ("cache", 0),
     "defence": ("stt", STT),
