@@ -33,7 +33,7 @@ events_named :
 events_named = refl
 
 -- the greatest number of 64 bits is told of itself and of what is greater, and a smaller one as it is
-greatest_told : map as_told (18446744073709551614 ∷ 18446744073709551615 ∷ 18446744073709551616 ∷ 2 ^ 64 + 5 ∷ [])
+greatest_told : map as_told (18446744073709551614 ∷ 18446744073709551615 ∷ 18446744073709551616 ∷ (2 ^ 64 + 5) ∷ [])
     ≡ 18446744073709551614 ∷ 18446744073709551615 ∷ 18446744073709551615 ∷ 18446744073709551615 ∷ []
 unfolding as_told
 greatest_told = refl
