@@ -2,5 +2,6 @@ pub mod Adding
 pub mod Distinct
 pub mod Each
 pub mod Events
+pub mod Plain
 pub mod Sums
 pub mod Worked

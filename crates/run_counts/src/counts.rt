@@ -1,10 +1,10 @@
-//! The numbers of a run, as they are counted row by row.
-ghost use Rattle.std.specs.Prelude.{◌≡◌, ◌<◌, ◌+◌, ◌++◌, ◌∷◌, List, ℕ, [], Some, None, length, slice_get};
+//! The numbers of a run, as they are counted event by event.
+ghost use Rattle.std.specs.Prelude.{◌≡◌, ◌<◌, ◌++◌, List, ℕ, [], Option, Some, false, length, slice_get, true};
 
 use crate::names::COUNTED;
-use crate::places::{further_of, place_of};
+use crate::places::{further_of, place_of, plain_place};
 use std::marker::Model;
-use window_model::{Event, Row};
+use window_model::Event;
 
 /// The numbers of a run, seen as a list in their order. They take no memory, and stop at the greatest of 64 bits.
 #[derive(Drop)]
@@ -22,7 +22,8 @@ impl Model for Counts {
 
 ghost use Rattle.window_model.specs.Row.{Row as RowText};
 ghost use Rattle.run_counts.specs.Counted.{names, numbers};
-ghost use Rattle.run_counts.specs.inner.Counting.{number_with, after_event, after_events, numbers_by, sums};
+ghost use Rattle.window_model.specs.declared.Event.{Event as EventText};
+ghost use Rattle.run_counts.specs.inner.Counting.{number_with, after_event, is_plain, numbers_by, sums};
 
 // Adds to the number at a place.
 fn add_at(numbers: &mut [u64; COUNTED], place: usize, n: u64)
@@ -40,17 +41,6 @@ fn count_event(numbers: &mut [u64; COUNTED], before: Option<Event>, event: Event
     add_at(numbers, place_of(before, event), 1);
     if let Some((place, n)) = further_of(event) {
         add_at(numbers, place, n);
-    }
-}
-
-// Adds what events add that come one after the other.
-fn count_events(numbers: &mut [u64; COUNTED], events: &[Event])
-    ensures { numbers.new ≡ numbers_by (λ name k. after_events name None events.now k) names numbers.old }
-{
-    let mut before = None;
-    for event in events {
-        count_event(numbers, before, *event);
-        before = Some(*event);
     }
 }
 
@@ -73,11 +63,29 @@ impl Counts {
         }
     }
 
-    /// Counts the events of a row behind those of which these are the numbers.
-    pub fn count(&mut self, row: &Row)
-        ensures { (rows : List RowText) → self.old ≡ numbers rows → self.new ≡ numbers (rows ++ row.now ∷ []) }
+    /// Counts an event of which no more than its kind matters, and says whether it is one.
+    #[inline(always)]
+    pub fn count_plain(&mut self, event: Event) -> bool
+        ensures plain { result ≡ is_plain event }
+        ensures counted { is_plain event ≡ true → (before : Option EventText)
+            → self.new ≡ numbers_by (λ name k. after_event name before event k) names self.old }
+        ensures stays { is_plain event ≡ false → self.new ≡ self.old }
     {
-        count_events(&mut self.numbers, row.events());
+        match plain_place(event) {
+            Some(place) => {
+                add_at(&mut self.numbers, place, 1);
+                true
+            }
+            None => false,
+        }
+    }
+
+    /// Counts an event that comes right behind another, if there is one.
+    #[inline(always)]
+    pub fn count_event(&mut self, before: Option<Event>, event: Event)
+        ensures { self.new ≡ numbers_by (λ name k. after_event name before event k) names self.old }
+    {
+        count_event(&mut self.numbers, before, event);
     }
 
     /// Adds the numbers of the rows that come behind those of which these are.

@@ -3,9 +3,9 @@
 //! Rules: `specs/Counted.antt`, which number an event adds to, and what the numbers of a run are; `docs/formats.md`,
 //! "The program stt_stats".
 //!
-//! Promises: what is counted of rows that came one after the other is what the definition counts of their list.
+//! Promises: what is counted of an event, and of two parts of a run, is what the definition counts of them.
 //!
-//! Clauses: `Counts`: `new`, `count`, `add`.
+//! Clauses: `Counts`: `new`, `count_plain`, `count_event`, `add`.
 #![tactic(auto)]
 
 mod counts;

@@ -1,6 +1,7 @@
 //! Where a number stands that an event adds to.
-ghost use Rattle.std.specs.Prelude.{◌≡◌, ◌<◌, MatchOption, IfSome, List, ℕ, Some, None, slice_get};
+ghost use Rattle.std.specs.Prelude.{◌≡◌, ◌<◌, MatchOption, IfSome, List, ℕ, Some, None, false, slice_get, true};
 ghost use Rattle.run_counts.specs.Counted.{names, load_name, prefetch_name, way_name, store_name, squash_name, name_of, further_of};
+ghost use Rattle.run_counts.specs.inner.Counting.{is_plain};
 
 use crate::names::COUNTED;
 use window_model::{Event, Look, Way};
@@ -64,6 +65,32 @@ fn store_place(found: bool) -> usize
     ensures few { result < COUNTED }
 {
     if found { 31 } else { 32 }
+}
+
+/// The place of the number to which an event adds one of which no more than its kind matters. `None`: more does.
+#[tactic(auto, unfolding(crate::specs::Counted::names))]
+pub(crate) fn plain_place(event: Event) -> Option<usize>
+    ensures at { MatchOption result (is_plain event ≡ false)
+        (λ place. (is_plain event ≡ true) × (slice_get names place ≡ Some (name_of None event))) }
+    ensures few { IfSome result (λ place. place < COUNTED) }
+{
+    match event {
+        Event::Ret(_) => Some(0),
+        Event::Alu(_) => Some(3),
+        Event::Mul(_) => Some(4),
+        Event::Agu(_) => Some(7),
+        Event::Std(_) => Some(8),
+        Event::LdForward(_) => Some(13),
+        Event::LdFault(_) => Some(14),
+        Event::Fill(_) => Some(17),
+        Event::Done(_) => Some(18),
+        Event::Bp(_, _) => Some(24),
+        Event::Bt(_, _) => Some(25),
+        Event::Clr(_) => Some(26),
+        Event::Vio(_) => Some(27),
+        Event::Dp(_, _) => Some(28),
+        _ => None,
+    }
 }
 
 /// The place of the number to which an event adds one, by the event right before it in its cycle.

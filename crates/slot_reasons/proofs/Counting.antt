@@ -6,20 +6,19 @@ use Rattle.run_counts.specs.Counted.{added_to, as_told}
 use Rattle.run_counts.specs.inner.Counting.{number_with, numbers_by, sums}
 use Rattle.run_counts.proofs.Each.{each_given, each_twice}
 use Rattle.run_counts.proofs.Distinct.{distinct, set_is}
-use Rattle.slot_reasons.specs.declared.Charge.{Charge}
-use Rattle.slot_reasons.specs.Slots.{reason_name, slot_names, slots, slots_in, slots_of}
+use Rattle.slot_reasons.specs.Slots.{Charge, reason_name, slot_names, slots, slots_in, slots_of}
 
 -- no name of a number stands twice
 names_distinct : distinct slot_names ≡ true
 unfolding slot_names
 names_distinct = refl
 
-pub slot_names_length : length slot_names ≡ 17
+pub slot_names_length : length slot_names ≡ 18
 unfolding slot_names
 slot_names_length = refl
 
 -- the number at a place is the one of the name there
-pub number_set : (ks : List ℕ) (place : ℕ) (at : List ℕ) (n : ℕ) → length ks ≡ 17 → slice_get slot_names place ≡ Some at
+pub number_set : (ks : List ℕ) (place : ℕ) (at : List ℕ) (n : ℕ) → length ks ≡ 18 → slice_get slot_names place ≡ Some at
     → set ks place (as_told (get_or ks place 0 + n)) ≡ numbers_by (λ name k. number_with name at n k) slot_names ks
 number_set ks place at n l s = set_is slot_names ks place at n names_distinct s (l ∙ sym slot_names_length)
 
@@ -82,6 +81,39 @@ cycle_counted cs c old mid new m n e =
     cycle_counts name c (slots_of name cs)
     ∙ ap as_told (ap (λ k. slots_of name cs + k) (sym last) ∙ sym (counted_append name cs (c ∷ []))))
 
+-- where nothing is empty, nothing is added for a reason
+none_added : (name at : List ℕ) (a : ℕ) → number_with name at 0 (as_told a) ≡ as_told a
+none_added name at a = more_counts name at 0 a ∙ (let z : a + added_to name at 0 ≡ a = ap (λ n. a + n) (nothing (bytes_eq at name)) ∙ add-zero a in ap as_told z)
+  where
+    nothing : (b : Bool) → (if b then zero else zero) ≡ zero
+    nothing true = refl
+    nothing false = refl
+    add-zero : (n : ℕ) → n + zero ≡ n
+    add-zero n = omega arith
+
+none_each : (at : List ℕ) (h : List ℕ → ℕ) (names : List (List ℕ)) → numbers_by (λ name k. number_with name at 0 k) names (map (λ name. as_told (h name)) names) ≡ map (λ name. as_told (h name)) names
+none_each at h [] = refl
+none_each at h (name ∷ rest) = ap₂ (λ x xs. x ∷ xs) (none_added name at (h name)) (none_each at h rest)
+
+-- the slots in which something retired, counted behind others
+base_each : (n : ℕ) (h : List ℕ → ℕ) (names : List (List ℕ))
+    → numbers_by (λ name k. number_with name (codes "slots_base") n k) names (map (λ name. as_told (h name)) names) ≡ map (λ name. as_told (h name + added_to name (codes "slots_base") n)) names
+base_each n h [] = refl
+base_each n h (name ∷ rest) = ap₂ (λ x xs. x ∷ xs) (more_counts name (codes "slots_base") n (h name)) (base_each n h rest)
+
+-- a cycle without an empty slot is counted behind others
+pub full_counted : (cs : List Charge) (c : Charge) (old new : List ℕ) → c.empty ≡ 0 → new ≡ numbers_by (λ name k. number_with name (codes "slots_base") c.retired k) slot_names old
+    → old ≡ slots cs → new ≡ slots (cs ++ c ∷ [])
+full_counted cs c old new z n e =
+    let mid : new ≡ map (λ name. as_told (slots_of name cs + added_to name (codes "slots_base") c.retired)) slot_names =
+        n ∙ ap (numbers_by (λ name k. number_with name (codes "slots_base") c.retired k) slot_names) e ∙ base_each c.retired (λ name. slots_of name cs) slot_names in
+    let stays : new ≡ numbers_by (λ name k. number_with name (reason_name c.reason) c.empty k) slot_names new =
+        sym (ap (λ m. numbers_by (λ name k. number_with name (reason_name c.reason) m k) slot_names new) z
+        ∙ ap (numbers_by (λ name k. number_with name (reason_name c.reason) 0 k) slot_names) mid
+        ∙ none_each (reason_name c.reason) (λ name. slots_of name cs + added_to name (codes "slots_base") c.retired) slot_names
+        ∙ sym mid) in
+    cycle_counted cs c old new new n stays e
+
 -- ---- Two parts of a run
 
 both_parts : (f g : List ℕ → ℕ) (names : List (List ℕ)) → sums (map (λ name. as_told (f name)) names) (map (λ name. as_told (g name)) names) ≡ map (λ name. as_told (f name + g name)) names
@@ -113,7 +145,7 @@ next (x ∷ xs) (y ∷ ys) (suc p) l e =
     ap (λ r. as_told (x + y) ∷ r) (next xs ys p less long)
 
 -- one more is added
-pub next_added : (xs ys now : List ℕ) (p v : ℕ) → p < 17 → length xs ≡ 17 → length ys ≡ 17 → now ≡ added_up_to p xs ys → v ≡ as_told (get_or now p 0 + get_or ys p 0)
+pub next_added : (xs ys now : List ℕ) (p v : ℕ) → p < 18 → length xs ≡ 18 → length ys ≡ 18 → now ≡ added_up_to p xs ys → v ≡ as_told (get_or now p 0 + get_or ys p 0)
     → set now p v ≡ added_up_to (p + 1) xs ys
 next_added xs ys now p v l e f is h =
     let less : p < length xs = omega (arith, l, e) in
@@ -132,5 +164,5 @@ sums_all (x ∷ xs) (y ∷ ys) (suc p) l e =
     ap (λ r. as_told (x + y) ∷ r) (sums_all xs ys p less long)
 
 -- all are added
-pub all_added : (xs ys now : List ℕ) (p : ℕ) → 17 ≤ p → length xs ≡ 17 → length ys ≡ 17 → now ≡ added_up_to p xs ys → now ≡ sums xs ys
+pub all_added : (xs ys now : List ℕ) (p : ℕ) → 18 ≤ p → length xs ≡ 18 → length ys ≡ 18 → now ≡ added_up_to p xs ys → now ≡ sums xs ys
 all_added xs ys now p l e f is = let most : length xs ≤ p = omega (arith, l, e) in is ∙ sums_all xs ys p most (f ∙ sym e)

@@ -1,11 +1,37 @@
 -- Events that come one after the other, walked over.
-use Rattle.std.proofs.Common.{◌≡◌, ℕ, zero, suc, ◌+◌, ◌<◌, arith, List, [], ◌∷◌, length, drop, get_or, Option, Some, None, refl, ap, ap₂, sym, ◌∙◌, drop-cons, add-one}
+use Rattle.std.proofs.Common.{◌≡◌, ℕ, zero, suc, ◌+◌, ◌<◌, ◌≤◌, arith, Bool, true, List, [], ◌∷◌, ◌++◌, length, map, drop, get_or, Some, None, refl, ap, ap₂, sym, ◌∙◌, drop-cons, add-one}
 use Rattle.std.specs.Prelude.{slice_get}
 use Rattle.window_model.specs.declared.Event.{Event}
-use Rattle.window_model.specs.declared.Event.TheVariants.{Ren}
-use Rattle.slot_reasons.specs.declared.Reason.{Reason}
-use Rattle.slot_reasons.specs.inner.Walked.{bit_before, has_bit, unless_renamed}
-use Rattle.slot_reasons.specs.Reasons.{first_renamed, is_bit, late_after, late_behind}
+use Rattle.window_model.specs.declared.Event.TheVariants.{Fill, Done, Bp, Bt, Clr, Vio, Dp, Ret, Alu, Mul, Agu, Std, LdForward, LdFault}
+use Rattle.window_model.specs.Row.{Row}
+use Rattle.run_counts.specs.Counted.{names, numbers}
+use Rattle.run_counts.specs.inner.Counting.{after_event, after_events, before_at, is_plain, numbers_by}
+use Rattle.run_counts.proofs.Distinct.{names_length}
+use Rattle.run_counts.proofs.Events.{next_event, last_event}
+use Rattle.run_counts.proofs.Sums.{row_counted}
+use Rattle.slot_reasons.specs.declared.Walked.{Walked}
+use Rattle.slot_reasons.specs.inner.Walked.{has_bit}
+use Rattle.slot_reasons.specs.Reasons.{is_bit, walk, walk_on}
+
+-- ---- What is known
+
+-- a plain event tells nothing of what comes late
+pub plain_walked : (behind_bit : Bool) (event : Event) (w : Walked) → is_plain event ≡ true → walk_on behind_bit event w ≡ w
+plain_walked b (Fill line) w e = refl
+plain_walked b (Done serial) w e = refl
+plain_walked b (Bp index value) w e = refl
+plain_walked b (Bt index target) w e = refl
+plain_walked b (Clr serial) w e = refl
+plain_walked b (Vio serial) w e = refl
+plain_walked b (Dp index value) w e = refl
+plain_walked b (Ret serial) w e = refl
+plain_walked b (Alu serial) w e = refl
+plain_walked b (Mul serial) w e = refl
+plain_walked b (Agu serial) w e = refl
+plain_walked b (Std serial) w e = refl
+plain_walked b (LdForward serial) w e = refl
+plain_walked b (LdFault serial) w e = refl
+plain_walked b _ w e = absurd (cc)
 
 -- the event at a place, and those behind it
 at_place : (events : List Event) (i : ℕ) (d : Event) → i < length events → drop i events ≡ get_or events i d ∷ drop (i + 1) events
@@ -18,29 +44,52 @@ at_get (e ∷ es) zero d l = refl
 at_get (e ∷ es) (suc i) d l = let r : i < length es = omega (arith, l) in at_get es i d r
 
 -- what comes right behind the event at a place
-pub next_bit : (events : List Event) (i : ℕ) (d : Event) → i < length events → bit_before (i + 1) events ≡ is_bit (get_or events i d)
-next_bit events i d l = ap (λ k. bit_before k events) (add-one i) ∙ ap has_bit (at_get events i d l)
+pub next_before : (events : List Event) (i : ℕ) (d : Event) → i < length events → before_at (i + 1) events ≡ Some (get_or events i d)
+next_before events i d l = ap (λ k. before_at k events) (add-one i) ∙ at_get events i d l
 
 -- one more event is behind
-pub next_late : (events : List Event) (i : ℕ) (d : Event) (late late' : Reason) → i < length events → ((event : Event) → slice_get events i ≡ Some event → late' ≡ late_behind (bit_before i events) event late)
-    → late_after (bit_before (i + 1) events) (drop (i + 1) events) late' ≡ late_after (bit_before i events) (drop i events) late
-next_late events i d late late' l e =
-    ap₂ (λ b r. late_after b (drop (i + 1) events) r) (next_bit events i d l) (e (get_or events i d) (at_get events i d l))
-    ∙ sym (ap (λ es. late_after (bit_before i events) es late) (at_place events i d l))
+pub next_walked : (events : List Event) (i : ℕ) (d : Event) (w w' : Walked) → i < length events
+    → w' ≡ walk_on (has_bit (before_at i events)) (get_or events i d) w
+    → walk (has_bit (before_at (i + 1) events)) (drop (i + 1) events) w' ≡ walk (has_bit (before_at i events)) (drop i events) w
+next_walked events i d w w' l e =
+    ap₂ (λ b r. walk b (drop (i + 1) events) r) (ap has_bit (next_before events i d l)) e
+    ∙ sym (ap (λ es. walk (has_bit (before_at i events)) es w) (at_place events i d l))
 
--- the first that is renamed by an event and those behind it
-one_renamed : (event : Event) (rest : List Event) → unless_renamed (first_renamed (event ∷ [])) (first_renamed rest) ≡ first_renamed (event ∷ rest)
-one_renamed (Ren serial pc) rest = refl
-one_renamed _ rest = refl
+-- ---- What is counted
 
-twice : (a b c : Option ℕ) → unless_renamed (unless_renamed a b) c ≡ unless_renamed a (unless_renamed b c)
-twice None b c = refl
-twice (Some s) b c = refl
+-- one more event is counted
+pub next_counted : (events : List Event) (i : ℕ) (d : Event) (ks new : List ℕ) → i < length events
+    → new ≡ numbers_by (λ name k. after_event name (before_at i events) (get_or events i d) k) names ks
+    → numbers_by (λ name k. after_events name (before_at (i + 1) events) (drop (i + 1) events) k) names new
+    ≡ numbers_by (λ name k. after_events name (before_at i events) (drop i events) k) names ks
+next_counted events i d ks new l e =
+    ap (λ b. numbers_by (λ name k. after_events name b (drop (i + 1) events) k) names new) (next_before events i d l)
+    ∙ next_event events i d (before_at i events) ks new l e
 
-pub next_renamed : (events : List Event) (i : ℕ) (d : Event) (renamed renamed' : Option ℕ) → i < length events
-    → ((event : Event) → slice_get events i ≡ Some event → renamed' ≡ unless_renamed renamed (first_renamed (event ∷ [])))
-    → unless_renamed renamed' (first_renamed (drop (i + 1) events)) ≡ unless_renamed renamed (first_renamed (drop i events))
-next_renamed events i d renamed renamed' l e =
-    ap (λ r. unless_renamed r (first_renamed (drop (i + 1) events))) (e (get_or events i d) (at_get events i d l))
-    ∙ twice renamed (first_renamed (get_or events i d ∷ [])) (first_renamed (drop (i + 1) events))
-    ∙ ap (unless_renamed renamed) (one_renamed (get_or events i d) (drop (i + 1) events) ∙ sym (ap first_renamed (at_place events i d l)))
+-- as many numbers stay as there were
+many_stay : (f : List ℕ → ℕ → ℕ) (ns : List (List ℕ)) (ks : List ℕ) → length ks ≡ length ns → length (numbers_by f ns ks) ≡ length ks
+many_stay f [] [] e = refl
+many_stay f [] (k ∷ ks) e = absurd (omega (arith, e))
+many_stay f (name ∷ rest) [] e = refl
+many_stay f (name ∷ rest) (k ∷ ks) e = let l : length ks ≡ length rest = omega (arith, e) in ap suc (many_stay f rest ks l)
+
+pub next_many : (events : List Event) (i : ℕ) (d : Event) (ks new : List ℕ) → i < length events
+    → new ≡ numbers_by (λ name k. after_event name (before_at i events) (get_or events i d) k) names ks
+    → length ks ≡ 35 → length new ≡ 35
+next_many events i d ks new l e n =
+    ap length e ∙ many_stay (λ name k. after_event name (before_at i events) (get_or events i d) k) names ks (n ∙ sym names_length) ∙ n
+
+-- all names have a number
+all_numbered : (f : List ℕ → ℕ) (ns : List (List ℕ)) → length (map f ns) ≡ length ns
+all_numbered f [] = refl
+all_numbered f (name ∷ rest) = ap suc (all_numbered f rest)
+
+-- all events of a row are counted
+pub row_walked : (rows : List Row) (row : Row) (events : List Event) (i : ℕ) (old new : List ℕ) → length events ≤ i → events ≡ row.events
+    → numbers_by (λ name k. after_events name (before_at i events) (drop i events) k) names new ≡ numbers_by (λ name k. after_events name None events k) names old
+    → (length old ≡ 35 → length new ≡ 35) → old ≡ numbers rows → new ≡ numbers (rows ++ row ∷ [])
+row_walked rows row events i old new l v w n e =
+    let long : length old ≡ 35 = ap length e ∙ all_numbered _ names ∙ names_length in
+    row_counted rows row old new
+    (sym (last_event events i (before_at i events) new l (n long)) ∙ w ∙ ap (λ es. numbers_by (λ name k. after_events name None es k) names old) v)
+    e

@@ -9,11 +9,10 @@ use Rattle.window_model.specs.Cycle.{cycle, rows}
 use Rattle.window_model.proofs.Quiet.{at_retire, after_quiet, before_quiet, cycle_is}
 use Rattle.machine_facts.proofs.Adds.{retire_turns}
 use Rattle.slot_reasons.specs.declared.Reason.{Reason}
-use Rattle.slot_reasons.specs.declared.Reason.TheVariants.{FrontEnd, Misprediction, Violation, Call, Simple, Multiplier, Divider, Store, LoadFirst, LoadSecond, LoadMemory, Registers, Resolve, Clear, StorePort, End as EndReason}
+use Rattle.slot_reasons.specs.declared.Reason.TheVariants.{FrontEnd, Room, Misprediction, Violation, Call, Simple, Multiplier, Divider, Store, LoadFirst, LoadSecond, LoadMemory, Registers, Resolve, Clear, StorePort, End as EndReason}
 use Rattle.slot_reasons.specs.declared.Past.{Past}
-use Rattle.slot_reasons.specs.declared.Charge.{Charge}
 use Rattle.slot_reasons.specs.Reasons.{past_after}
-use Rattle.slot_reasons.specs.Slots.{charge_of, charges_of, rows_of, seen, slot_names, slots_in, slots_of}
+use Rattle.slot_reasons.specs.Slots.{Charge, charge_of, charges_of, rows_of, seen, slot_names, slots_in, slots_of}
 use Rattle.slot_reasons.specs.Laws.{sum_of}
 
 -- ---- One cycle
@@ -30,6 +29,7 @@ sum_by r a b = in_all slot_names (record { retired = a; empty = b; reason = r })
 one_reason : (r : Reason) (a b : ℕ) → sum_by r a b ≡ a + b
 unfolding slot_names
 one_reason FrontEnd a b = omega arith
+one_reason Room a b = omega arith
 one_reason Misprediction a b = omega arith
 one_reason Violation a b = omega arith
 one_reason Call a b = omega arith
@@ -83,13 +83,13 @@ module _ (d : Desc) (code : Code) where
 
   whole_next : (n : ℕ) (x : Machine) (past : Past) (o : Option End) → ((y : Machine) (p : Past) → Whole n y p) →
       (let c = cycle d code x in
-      sum_of slot_names (charges_of (unless_ended o [] (record { row = c.row; charge = charge_of d past x c } ∷ seen d code n c.machine (past_after past c.row.events))))
+      sum_of slot_names (charges_of (unless_ended o [] (record { row = c.row; charge = charge_of d past x c } ∷ seen d code n c.machine (past_after d past c.row.events))))
       ≡ d.core_retire_width * length (unless_ended o [] (c.row ∷ rows d code n c.machine)))
   whole_next n x past (Some e) ih = let none : d.core_retire_width * 0 ≡ 0 = omega arith in no_slots slot_names ∙ sym none
   whole_next n x past None ih =
       let c = cycle d code x in
       let charge = charge_of d past x c in
-      let p = past_after past c.row.events in
+      let p = past_after d past c.row.events in
       let rest : sum_of slot_names (charges_of (seen d code n c.machine p)) ≡ d.core_retire_width * length (rows d code n c.machine) = ih c.machine p in
       let few : c.machine.retired ≤ x.retired + d.core_retire_width = few_retire d code x in
       let all : charge.retired + charge.empty ≡ d.core_retire_width = omega (arith, few) in
@@ -104,10 +104,10 @@ module _ (d : Desc) (code : Code) where
   -- the rows that are seen are those of the run
   rows_next : (n : ℕ) (x : Machine) (past : Past) (o : Option End) → ((y : Machine) (p : Past) → rows_of (seen d code n y p) ≡ rows d code n y) →
       (let c = cycle d code x in
-      rows_of (unless_ended o [] (record { row = c.row; charge = charge_of d past x c } ∷ seen d code n c.machine (past_after past c.row.events)))
+      rows_of (unless_ended o [] (record { row = c.row; charge = charge_of d past x c } ∷ seen d code n c.machine (past_after d past c.row.events)))
       ≡ unless_ended o [] (c.row ∷ rows d code n c.machine))
   rows_next n x past (Some e) ih = refl
-  rows_next n x past None ih = let c = cycle d code x in ap (λ r. c.row ∷ r) (ih c.machine (past_after past c.row.events))
+  rows_next n x past None ih = let c = cycle d code x in ap (λ r. c.row ∷ r) (ih c.machine (past_after d past c.row.events))
 
   pub rows_seen : (n : ℕ) (x : Machine) (past : Past) → rows_of (seen d code n x past) ≡ rows d code n x
   rows_seen zero x past = refl

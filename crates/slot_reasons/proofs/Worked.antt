@@ -28,12 +28,11 @@ use Rattle.window_model.specs.Rename.{rename}
 use Rattle.window_model.specs.Fetch.{fetch}
 use Rattle.window_model.proofs.Worked.{code_of, memory, bounds_check}
 use Rattle.run_counts.specs.Counted.{as_told}
-use Rattle.slot_reasons.specs.declared.Charge.{Charge}
 use Rattle.slot_reasons.specs.declared.Past.{Past}
 use Rattle.slot_reasons.specs.declared.Reason.{Reason}
 use Rattle.slot_reasons.specs.declared.Reason.TheVariants as reason
 use Rattle.slot_reasons.specs.Reasons.{first_past, past_after, reason_of}
-use Rattle.slot_reasons.specs.Slots.{charges_of, seen, slot_names, slots}
+use Rattle.slot_reasons.specs.Slots.{Charge, charges_of, seen, slot_names, slots}
 
 -- ---- What comes late
 
@@ -41,25 +40,63 @@ use Rattle.slot_reasons.specs.Slots.{charges_of, seen, slot_names, slots}
 -- and the second of two squashes
 abbrev lates : List Past
 lates =
-    map (past_after first_past)
+    map (past_after example first_past)
     ((Res 2 Taken ∷ Bp 2 2 ∷ Sq 7 ∷ Ret 0 ∷ []) ∷ (Res 2 Jump ∷ Bt 1 64 ∷ Sq 0 ∷ []) ∷ (Clr 1 ∷ Vio 4 ∷ Dp 0 1 ∷ Sq 3 ∷ []) ∷ (Ret 5 ∷ Call 5 3 ∷ [])
     ∷ (Res 2 Taken ∷ Bp 2 2 ∷ Fet 64 ∷ []) ∷ (Res 2 Taken ∷ Bp 2 2 ∷ Sq 7 ∷ Clr 1 ∷ Vio 4 ∷ Dp 0 1 ∷ Sq 3 ∷ []) ∷ [])
 
 lates_are : lates
-    ≡ record { renamed = None; late = reason.Misprediction; next = reason.Misprediction }
-    ∷ record { renamed = None; late = reason.Misprediction; next = reason.Misprediction }
-    ∷ record { renamed = None; late = reason.Violation; next = reason.Violation }
-    ∷ record { renamed = None; late = reason.Call; next = reason.Call }
-    ∷ first_past
-    ∷ record { renamed = None; late = reason.Violation; next = reason.Violation } ∷ []
+    ≡ record { renamed = None; late = reason.Misprediction; next = reason.Misprediction; queued = 0 }
+    ∷ record { renamed = None; late = reason.Misprediction; next = reason.Misprediction; queued = 0 }
+    ∷ record { renamed = None; late = reason.Violation; next = reason.Violation; queued = 0 }
+    ∷ record { renamed = None; late = reason.Call; next = reason.Call; queued = 0 }
+    ∷ record { renamed = None; late = reason.FrontEnd; next = reason.FrontEnd; queued = 1 }
+    ∷ record { renamed = None; late = reason.Violation; next = reason.Violation; queued = 0 } ∷ []
+unfolding as_told
 lates_are = refl
 
 -- the first that is renamed behind a squash comes late for it, and what comes next doesn't
 abbrev squashed : Past
-squashed = past_after first_past (Res 2 Taken ∷ Bp 2 2 ∷ Sq 7 ∷ [])
+squashed = record { renamed = None; late = reason.Misprediction; next = reason.Misprediction; queued = 2 }
 
-renamed_late : past_after squashed (Alu 1 ∷ Ren 8 64 ∷ Ren 9 68 ∷ Fet 72 ∷ []) ≡ record { renamed = Some 8; late = reason.Misprediction; next = reason.FrontEnd }
+renamed_late : past_after example squashed (Alu 1 ∷ Ren 8 64 ∷ Ren 9 68 ∷ Fet 72 ∷ []) ≡ record { renamed = Some 8; late = reason.Misprediction; next = reason.FrontEnd; queued = 1 }
+unfolding as_told
 renamed_late = refl
+
+-- ---- Want of room
+
+-- so many items are fetched and not renamed
+abbrev waiting : ℕ → Past
+waiting n = record { renamed = None; late = reason.FrontEnd; next = reason.FrontEnd; queued = n }
+
+-- of the two that may be, one is renamed or none, and others are left: what comes next comes late for want of room,
+-- whatever was late before
+short_tells :
+    past_after example (waiting 3) (Ren 8 64 ∷ Fet 76 ∷ []) ∷ past_after example (waiting 3) (Alu 1 ∷ []) ∷ past_after example squashed (Ren 8 64 ∷ []) ∷ []
+    ≡ record { renamed = Some 8; late = reason.FrontEnd; next = reason.Room; queued = 3 }
+    ∷ record { renamed = None; late = reason.FrontEnd; next = reason.Room; queued = 3 }
+    ∷ record { renamed = Some 8; late = reason.Misprediction; next = reason.Room; queued = 1 } ∷ []
+unfolding as_told
+short_tells = refl
+
+-- two are renamed and one is left; all are renamed, and one is fetched; a squash drops all, and one is fetched: in none
+-- of these there was no room
+not_short_tells :
+    past_after example (waiting 3) (Ren 8 64 ∷ Ren 9 68 ∷ []) ∷ past_after example (waiting 1) (Ren 8 64 ∷ Fet 76 ∷ [])
+    ∷ past_after example (waiting 3) (Res 2 Taken ∷ Bp 2 2 ∷ Sq 7 ∷ Fet 64 ∷ []) ∷ []
+    ≡ record { renamed = Some 8; late = reason.FrontEnd; next = reason.FrontEnd; queued = 1 }
+    ∷ record { renamed = Some 8; late = reason.FrontEnd; next = reason.FrontEnd; queued = 1 }
+    ∷ record { renamed = None; late = reason.Misprediction; next = reason.Misprediction; queued = 1 } ∷ []
+unfolding as_told
+not_short_tells = refl
+
+-- a call that was kept back, or that keeps others back: its own entry tells it, and what comes behind it comes late for
+-- it, and not for want of room
+abbrev kept_back : Past
+kept_back = record { renamed = None; late = reason.FrontEnd; next = reason.Room; queued = 2 }
+
+behind_call_tells : past_after example kept_back (Ret 5 ∷ Call 5 3 ∷ Ren 6 64 ∷ Ren 7 68 ∷ []) ≡ record { renamed = Some 6; late = reason.Call; next = reason.FrontEnd; queued = 0 }
+unfolding as_told
+behind_call_tells = refl
 
 -- ---- The oldest entry
 
@@ -107,7 +144,11 @@ abbrev quiet : Past
 quiet = first_past
 
 abbrev renamed : ℕ → Past
-renamed first = record { renamed = Some first; late = reason.Misprediction; next = reason.FrontEnd }
+renamed first = record { renamed = Some first; late = reason.Misprediction; next = reason.FrontEnd; queued = 0 }
+
+-- what was renamed in it came late for want of room
+abbrev short : ℕ → Past
+short first = record { renamed = Some first; late = reason.Room; next = reason.FrontEnd; queued = 0 }
 
 -- by how far the oldest entry is, where nothing was renamed lately
 abbrev by_progress : List Reason
@@ -137,9 +178,14 @@ renaming_tells :
     ≡ reason.Misprediction ∷ reason.Misprediction ∷ reason.Misprediction ∷ reason.Divider ∷ reason.Divider ∷ reason.Divider ∷ []
 renaming_tells = refl
 
--- a call goes alone, though it was renamed in this cycle behind a misprediction
-call_tells : reason_of d quiet (renamed 8) None (Some (entry kind.Call Waiting None true)) ≡ reason.Call
+-- a call goes alone, though it was renamed in this cycle behind a misprediction, or after there was no room
+call_tells : map (λ p. reason_of d quiet p None (Some (entry kind.Call Waiting None true))) (renamed 8 ∷ short 8 ∷ []) ≡ reason.Call ∷ reason.Call ∷ []
 call_tells = refl
+
+-- what is renamed once there is room comes late for that
+room_tells : reason_of d quiet (short 8) None (Some (entry kind.Div Waiting None true)) ∷ reason_of d (short 8) quiet None (Some (entry kind.Div (Busy 30) None true)) ∷ []
+    ≡ reason.Room ∷ reason.Room ∷ []
+room_tells = refl
 
 -- without an entry for what comes late, and once the run has ended for that
 none_tells : (reason_of d quiet (renamed 8) None None ≡ reason.Misprediction) × (reason_of d quiet quiet (Some (Exit 0)) (Some (entry kind.Alu Done None true)) ≡ reason.End)
@@ -148,17 +194,17 @@ none_tells = (refl, refl)
 -- ---- Slots by reason
 
 -- a cycle in which one slot retires an instruction, and so many stay empty for a reason
-abbrev charged : ℕ → Reason → Charge
-charged empty r = record { retired = 1; empty = empty; reason = r }
+abbrev for_reason : ℕ → Reason → Charge
+for_reason empty r = record { retired = 1; empty = empty; reason = r }
 
 -- each reason has a number of its own
 each_counted :
     slots
-    (charged 2 reason.FrontEnd ∷ charged 3 reason.Misprediction ∷ charged 4 reason.Violation ∷ charged 5 reason.Call
-    ∷ charged 6 reason.Simple ∷ charged 7 reason.Multiplier ∷ charged 8 reason.Divider ∷ charged 9 reason.Store
-    ∷ charged 10 reason.LoadFirst ∷ charged 11 reason.LoadSecond ∷ charged 12 reason.LoadMemory ∷ charged 13 reason.Registers
-    ∷ charged 14 reason.Resolve ∷ charged 15 reason.Clear ∷ charged 16 reason.StorePort ∷ charged 17 reason.End ∷ [])
-    ≡ 16 ∷ 2 ∷ 3 ∷ 4 ∷ 5 ∷ 6 ∷ 7 ∷ 8 ∷ 9 ∷ 10 ∷ 11 ∷ 12 ∷ 13 ∷ 14 ∷ 15 ∷ 16 ∷ 17 ∷ []
+    (for_reason 2 reason.FrontEnd ∷ for_reason 3 reason.Misprediction ∷ for_reason 4 reason.Violation ∷ for_reason 5 reason.Call
+    ∷ for_reason 6 reason.Simple ∷ for_reason 7 reason.Multiplier ∷ for_reason 8 reason.Divider ∷ for_reason 9 reason.Store
+    ∷ for_reason 10 reason.LoadFirst ∷ for_reason 11 reason.LoadSecond ∷ for_reason 12 reason.LoadMemory ∷ for_reason 13 reason.Registers
+    ∷ for_reason 14 reason.Resolve ∷ for_reason 15 reason.Clear ∷ for_reason 16 reason.StorePort ∷ for_reason 17 reason.End ∷ for_reason 18 reason.Room ∷ [])
+    ≡ 17 ∷ 2 ∷ 18 ∷ 3 ∷ 4 ∷ 5 ∷ 6 ∷ 7 ∷ 8 ∷ 9 ∷ 10 ∷ 11 ∷ 12 ∷ 13 ∷ 14 ∷ 15 ∷ 16 ∷ 17 ∷ []
 unfolding slot_names as_told
 each_counted = refl
 
@@ -168,6 +214,6 @@ each_counted = refl
 -- stack"): 5 instructions retire; 6 slots go to the front end, 5 to the misprediction, 1 to the call, 1 to an
 -- operation, 5 to the multiplication, 18 to a load from memory, and 1 to the end
 run_counted : slots (charges_of (seen example (code_of bounds_check) 100 (opening example 0x10000 (memory 0 17)) first_past))
-    ≡ 5 ∷ 6 ∷ 5 ∷ 0 ∷ 1 ∷ 1 ∷ 5 ∷ 0 ∷ 0 ∷ 0 ∷ 0 ∷ 18 ∷ 0 ∷ 0 ∷ 0 ∷ 0 ∷ 1 ∷ []
+    ≡ 5 ∷ 6 ∷ 0 ∷ 5 ∷ 0 ∷ 1 ∷ 1 ∷ 5 ∷ 0 ∷ 0 ∷ 0 ∷ 0 ∷ 18 ∷ 0 ∷ 0 ∷ 0 ∷ 0 ∷ 1 ∷ []
 unfolding decode cycle retire rename fetch count_leading_zeros memory code_of slot_names as_told
 run_counted = refl

@@ -5,8 +5,7 @@ use Rattle.machine_desc.specs.declared.Desc.{Desc}
 use Rattle.window_model.specs.State.{Machine}
 use Rattle.window_model.specs.Cycle.{rows}
 use Rattle.slot_reasons.specs.declared.Past.{Past}
-use Rattle.slot_reasons.specs.declared.Charge.{Charge}
-use Rattle.slot_reasons.specs.Slots.{charges_of, rows_of, seen, slot_names, slots_of}
+use Rattle.slot_reasons.specs.Slots.{Charge, charges_of, rows_of, seen, slot_names, slots_of}
 
 -- the slots of these names together
 abbrev pub sum_of : List (List ℕ) → List Charge → ℕ

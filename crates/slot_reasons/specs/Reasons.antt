@@ -1,19 +1,21 @@
 -- Why slots of retirement stay empty in a cycle (docs/formats.md, "The slots of a run").
-use Rattle.std.specs.Prelude.{ℕ, ◌-◌, Bool, true, false, not, ◌&&◌, nat_le, nat_lt, List, [], ◌∷◌, Option, Some, None, if◌then◌else◌}
+use Rattle.std.specs.Prelude.{ℕ, ◌+◌, ◌-◌, Bool, true, false, not, ◌&&◌, nat_le, nat_lt, List, [], ◌∷◌, Option, Some, None, if◌then◌else◌}
 use Rattle.rv_types.specs.declared.End.{End}
 use Rattle.rv_types.specs.declared.Kind.{Kind}
 use Rattle.rv_types.specs.declared.Kind.TheVariants as kind
 use Rattle.machine_desc.specs.declared.Desc.{Desc}
 use Rattle.window_model.specs.declared.Entry.{Entry}
 use Rattle.window_model.specs.declared.Event.{Event}
-use Rattle.window_model.specs.declared.Event.TheVariants.{Sq, Dp, Call, Ren}
+use Rattle.window_model.specs.declared.Event.TheVariants.{Sq, Dp, Call, Ren, Fet}
 use Rattle.window_model.specs.declared.Progress.{Progress}
 use Rattle.window_model.specs.declared.Progress.TheVariants.{Waiting, Busy, Done}
 use Rattle.window_model.specs.Order.{is_waiting}
 use Rattle.window_model.specs.Rename.{is_call}
+use Rattle.run_counts.specs.Counted.{as_told}
 use Rattle.slot_reasons.specs.declared.Reason.{Reason}
 use Rattle.slot_reasons.specs.declared.Reason.TheVariants as reason
 use Rattle.slot_reasons.specs.declared.Past.{Past}
+use Rattle.slot_reasons.specs.declared.Walked.{Walked}
 
 -- ---- What comes late
 
@@ -34,32 +36,68 @@ late_behind behind_bit (Sq count) late = squash_reason behind_bit
 late_behind behind_bit (Call serial count) late = reason.Call
 late_behind behind_bit _ late = late
 
--- why what is renamed next comes late, behind events that come one after the other
-abbrev pub late_after : Bool → List Event → Reason → Reason
-late_after behind_bit [] late = late
-late_after behind_bit (event ∷ rest) late = late_after (is_bit event) rest (late_behind behind_bit event late)
+-- the serial of the first entry that is renamed, if one is, behind an event
+abbrev pub renamed_behind : Event → Option ℕ → Option ℕ
+renamed_behind (Ren serial pc) None = Some serial
+renamed_behind _ renamed = renamed
 
--- the serial of the first entry that these events rename, if they rename one
-abbrev pub first_renamed : List Event → Option ℕ
-first_renamed [] = None
-first_renamed (Ren serial pc ∷ rest) = Some serial
-first_renamed (_ ∷ rest) = first_renamed rest
+-- how many of the items that had been fetched before are left to be renamed, behind an event: a squash drops all
+abbrev pub left_behind : Event → ℕ → ℕ
+left_behind (Sq count) left = 0
+left_behind (Ren serial pc) left = left - 1
+left_behind _ left = left
 
--- why what is renamed next comes late: as what was renamed in this cycle did, if nothing was; else as any does
-abbrev pub late_next : Option ℕ → Reason → Reason
-late_next None late = late
-late_next (Some serial) late = reason.FrontEnd
+-- how many items are fetched, behind an event
+abbrev pub fetched_behind : Event → ℕ → ℕ
+fetched_behind (Fet pc) fetched = as_told (fetched + 1)
+fetched_behind _ fetched = fetched
+
+-- what is known of a cycle behind an event, which comes right behind a bit of dependence or doesn't
+abbrev pub walk_on : Bool → Event → Walked → Walked
+walk_on behind_bit event w = record {
+  late = late_behind behind_bit event w.late;
+  renamed = renamed_behind event w.renamed;
+  left = left_behind event w.left;
+  fetched = fetched_behind event w.fetched;
+}
+
+-- what is known behind events that come one after the other
+abbrev pub walk : Bool → List Event → Walked → Walked
+walk behind_bit [] w = w
+walk behind_bit (event ∷ rest) w = walk (is_bit event) rest (walk_on behind_bit event w)
+
+-- what is known of a cycle before its first event
+abbrev pub first_walked : Past → Walked
+first_walked past = record { late = past.next; renamed = None; left = past.queued; fetched = 0 }
+
+-- Rename stopped short: of so many items so many are left, and fewer than may be were renamed
+abbrev pub stops_short : Desc → ℕ → ℕ → Bool
+stops_short d queued left = nat_lt 0 left && nat_lt (queued - left) d.core_fetch_width
+
+-- why what is renamed next comes late: for want of room, where Rename stopped short; as what was renamed in this cycle
+-- did, if nothing was; else as any does
+abbrev pub late_next : Bool → Option ℕ → Reason → Reason
+late_next true renamed late = reason.Room
+late_next false None late = late
+late_next false (Some serial) late = reason.FrontEnd
+
+-- what is known of a cycle once it is over, from the cycle before and what its events tell. A call that keeps items
+-- back is told by its own entry, and what comes behind it by its event, so neither comes late for want of room
+abbrev pub past_by : Desc → Past → Walked → Past
+past_by d past w = record {
+  renamed = w.renamed;
+  late = w.late;
+  next = late_next (stops_short d past.queued w.left) w.renamed w.late;
+  queued = as_told (w.left + w.fetched);
+}
 
 -- what is known of a cycle once it is over, from the cycle before and its events
-abbrev pub past_after : Past → List Event → Past
-past_after past events =
-    let late = late_after false events past.next in
-    let renamed = first_renamed events in
-    record { renamed = renamed; late = late; next = late_next renamed late }
+abbrev pub past_after : Desc → Past → List Event → Past
+past_after d past events = past_by d past (walk false events (first_walked past))
 
--- before the first cycle nothing is renamed, and what is comes from the front end
+-- before the first cycle nothing is renamed and nothing fetched, and what is comes from the front end
 abbrev pub first_past : Past
-first_past = record { renamed = None; late = reason.FrontEnd; next = reason.FrontEnd }
+first_past = record { renamed = None; late = reason.FrontEnd; next = reason.FrontEnd; queued = 0 }
 
 -- the entry of this serial was renamed in the cycle whose first one is this, if there was one
 abbrev pub is_from : Option ℕ → ℕ → Bool

@@ -4,24 +4,28 @@
 //! events up to then; `specs/Slots.antt`, the slots of a run; `docs/formats.md`, "The slots of a run".
 //!
 //! Promises: `specs/Laws.antt`: the slots of all reasons are as many as the cycles have. What is counted cycle by cycle
-//! is what the definition counts of a run.
+//! is what the definition counts of a run. One walk over a cycle's events counts them and finds what comes late.
 //!
-//! Clauses: `each_slot_has_one_reason`; `charge_of`; `Slots`: `new`, `count`, `add`.
+//! Clauses: `each_slot_has_one_reason`; `count_row`; `Slots`: `new`, `count`, `add`.
 #![tactic(auto)]
 
 ghost use Rattle.slot_reasons.specs.Laws.{EachSlotHasOneReason, SeesTheRows};
 
 mod reasons;
 mod slots;
+mod walk;
 
-pub use reasons::{charge_of, first_past};
+pub use reasons::first_past;
 pub use slots::{SLOTS, Slots, slot_name_at};
+pub use walk::count_row;
 
 /// Why slots of retirement stay empty in a cycle.
 #[derive(Clone, Copy, Debug, PartialEq, Eq)]
 pub enum Reason {
-    /// What comes next comes no earlier from the front end, or there was no room for it.
+    /// What comes next comes no earlier from the front end.
     FrontEnd,
+    /// It comes late since there was no room for it.
+    Room,
     /// It comes late behind a branch or JALR that was wrongly predicted.
     Misprediction,
     /// It comes late behind a load that had passed a store wrongly.
@@ -63,17 +67,30 @@ pub struct Past {
     pub late: Reason,
     /// Why what is renamed next comes late.
     pub next: Reason,
+    /// How many items are fetched and not renamed.
+    pub queued: u64,
 }
 
-/// The slots of a cycle.
+/// What is known of a cycle once it is over, and of the one before.
 #[derive(Clone, Copy, Debug, PartialEq, Eq)]
-pub struct Charge {
-    /// In how many an instruction retired.
-    pub retired: u64,
-    /// How many stayed empty.
-    pub empty: u64,
-    /// Why they did.
-    pub reason: Reason,
+pub struct Lately {
+    /// What is known of the cycle before.
+    pub before: Past,
+    /// What is known of the cycle.
+    pub cycle: Past,
+}
+
+/// What is known of a cycle behind some of its events.
+#[derive(Clone, Copy, Debug, PartialEq, Eq)]
+pub struct Walked {
+    /// Why what is renamed next comes late.
+    pub late: Reason,
+    /// The serial of the first entry that was renamed, if one was.
+    pub renamed: Option<u64>,
+    /// How many of the items that had been fetched before the cycle are left to be renamed.
+    pub left: u64,
+    /// How many items were fetched.
+    pub fetched: u64,
 }
 
 /// The slots of all reasons in a run are as many as its cycles have: none is counted twice, and none is lost. The rows

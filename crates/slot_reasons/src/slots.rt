@@ -1,11 +1,15 @@
 //! The slots of a run, as they are counted cycle by cycle.
 ghost use Rattle.std.specs.Prelude.{◌≡◌, ◌<◌, ◌≤◌, ◌++◌, ◌∷◌, List, ℕ, [], Some, length, slice_get};
 
-use crate::{Charge, Reason};
+use crate::reasons::reason_of;
+use crate::{Lately, Reason};
+use machine_desc::Desc;
+use rob_ring::RobRing;
+use rv_types::End;
 use std::marker::Model;
 
 /// How many numbers there are.
-pub const SLOTS: usize = 17;
+pub const SLOTS: usize = 18;
 
 /// The slots of a run by reason, seen as a list of numbers in their order. They take no memory, and stop at the
 /// greatest of 64 bits.
@@ -23,8 +27,7 @@ impl Model for Slots {
 }
 
 ghost use Rattle.run_counts.specs.inner.Counting.{number_with, numbers_by, sums};
-ghost use Rattle.slot_reasons.specs.declared.Charge.{Charge as ChargeText};
-ghost use Rattle.slot_reasons.specs.Slots.{reason_name, slot_names, slots};
+ghost use Rattle.slot_reasons.specs.Slots.{Charge, charged, reason_name, slot_names, slots};
 
 /// The name of the number at a place (`docs/formats.md`, "The slots of a run").
 #[tactic(auto, unfolding(crate::specs::Slots::slot_names))]
@@ -36,20 +39,21 @@ pub fn slot_name_at(place: usize) -> &'static [u8]
     match place {
         0 => b"slots_base",
         1 => b"slots_front_end",
-        2 => b"slots_misprediction",
-        3 => b"slots_violation",
-        4 => b"slots_call",
-        5 => b"slots_simple",
-        6 => b"slots_multiplier",
-        7 => b"slots_divider",
-        8 => b"slots_store",
-        9 => b"slots_load_first",
-        10 => b"slots_load_second",
-        11 => b"slots_load_memory",
-        12 => b"slots_registers",
-        13 => b"slots_resolve",
-        14 => b"slots_clear",
-        15 => b"slots_store_port",
+        2 => b"slots_room",
+        3 => b"slots_misprediction",
+        4 => b"slots_violation",
+        5 => b"slots_call",
+        6 => b"slots_simple",
+        7 => b"slots_multiplier",
+        8 => b"slots_divider",
+        9 => b"slots_store",
+        10 => b"slots_load_first",
+        11 => b"slots_load_second",
+        12 => b"slots_load_memory",
+        13 => b"slots_registers",
+        14 => b"slots_resolve",
+        15 => b"slots_clear",
+        16 => b"slots_store_port",
         _ => b"slots_end",
     }
 }
@@ -62,21 +66,22 @@ fn place_of(reason: Reason) -> usize
 {
     match reason {
         Reason::FrontEnd => 1,
-        Reason::Misprediction => 2,
-        Reason::Violation => 3,
-        Reason::Call => 4,
-        Reason::Simple => 5,
-        Reason::Multiplier => 6,
-        Reason::Divider => 7,
-        Reason::Store => 8,
-        Reason::LoadFirst => 9,
-        Reason::LoadSecond => 10,
-        Reason::LoadMemory => 11,
-        Reason::Registers => 12,
-        Reason::Resolve => 13,
-        Reason::Clear => 14,
-        Reason::StorePort => 15,
-        Reason::End => 16,
+        Reason::Room => 2,
+        Reason::Misprediction => 3,
+        Reason::Violation => 4,
+        Reason::Call => 5,
+        Reason::Simple => 6,
+        Reason::Multiplier => 7,
+        Reason::Divider => 8,
+        Reason::Store => 9,
+        Reason::LoadFirst => 10,
+        Reason::LoadSecond => 11,
+        Reason::LoadMemory => 12,
+        Reason::Registers => 13,
+        Reason::Resolve => 14,
+        Reason::Clear => 15,
+        Reason::StorePort => 16,
+        Reason::End => 17,
     }
 }
 
@@ -108,17 +113,33 @@ impl Slots {
         }
     }
 
-    /// Counts the slots of a cycle behind those of which these are.
-    pub fn count(&mut self, charge: &Charge)
-        ensures { (cs : List ChargeText) → self.old ≡ slots cs → self.new ≡ slots (cs ++ charge.now ∷ []) }
+    /// Counts the slots of a cycle behind those of which these are: of one in which so many instructions retired, and
+    /// which left the run with this end, if it has one, and the reorder buffer so. No reason is looked for where no
+    /// slot stayed empty.
+    #[inline(always)]
+    pub fn count(
+        &mut self,
+        desc: &Desc,
+        lately: &Lately,
+        retired: u64,
+        end: Option<End>,
+        rob: &RobRing,
+    )
+        ensures { (cs : List Charge) → self.old ≡ slots cs → self.new ≡ slots (cs ++ charged desc.now
+            lately.now.before lately.now.cycle retired end (slice_get rob.now.entries 0) ∷ []) }
     {
-        add_at(&mut self.numbers, 0, charge.retired);
-        add_at(&mut self.numbers, place_of(charge.reason), charge.empty);
+        add_at(&mut self.numbers, 0, retired);
+        let empty = (desc.core_retire_width as u64).saturating_sub(retired);
+        if empty == 0 {
+            return;
+        }
+        let reason = reason_of(desc, &lately.before, &lately.cycle, end, rob);
+        add_at(&mut self.numbers, place_of(reason), empty);
     }
 
     /// Adds the slots of the cycles that come behind those of which these are.
     pub fn add(&mut self, others: &Slots)
-        ensures { (cs behind : List ChargeText) → self.old ≡ slots cs → others.now ≡ slots behind
+        ensures { (cs behind : List Charge) → self.old ≡ slots cs → others.now ≡ slots behind
             → self.new ≡ slots (cs ++ behind) }
     {
         add_each(&mut self.numbers, &others.numbers);

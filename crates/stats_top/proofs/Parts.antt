@@ -9,10 +9,9 @@ use Rattle.window_model.specs.State.{Machine}
 use Rattle.window_model.specs.Row.{Row}
 use Rattle.window_model.specs.Cycle.{Cycled, cycle, after_cycles}
 use Rattle.core_cycle.proofs.Going.{goes_on, one_more, stops}
-use Rattle.slot_reasons.specs.declared.Charge.{Charge}
 use Rattle.slot_reasons.specs.declared.Past.{Past}
 use Rattle.slot_reasons.specs.Reasons.{past_after}
-use Rattle.slot_reasons.specs.Slots.{Seen, charge_of, seen}
+use Rattle.slot_reasons.specs.Slots.{Charge, Seen, charge_of, seen}
 use Rattle.slot_reasons.specs.inner.Walked.{past_at}
 
 module _ (d : Desc) (code : Code) where
@@ -21,7 +20,7 @@ module _ (d : Desc) (code : Code) where
   first_seen x p = let c = cycle d code x in record { row = c.row; charge = charge_of d p x c }
 
   abbrev known_next : Machine → Past → Past
-  known_next x p = past_after p (cycle d code x).row.events
+  known_next x p = past_after d p (cycle d code x).row.events
 
   -- a run that has ended stays where it is, nothing is seen of it, and no more is known
   pub stays : (k : ℕ) (x : Machine) → is_some x.end ≡ true → after_cycles d code k x ≡ x
@@ -48,7 +47,7 @@ module _ (d : Desc) (code : Code) where
 
   -- one more of n cycles goes, of which i are done
   module _ (n i : ℕ) (y y' : Machine) (row : Row) (piece : List ℕ) (q q' : Past) (charge : Charge) (h : i < n) (e : y.end ≡ None) (c : record { machine = y'; row = row; piece = piece } ≡ cycle d code y)
-      (k : charge ≡ charge_of d q y (cycle d code y)) (o : q' ≡ past_after q row.events) where
+      (k : charge ≡ charge_of d q y (cycle d code y)) (o : q' ≡ past_after d q row.events) where
     row_is : row ≡ (cycle d code y).row
     row_is = ap (λ (r : Cycled). r.row) c
 
@@ -56,7 +55,7 @@ module _ (d : Desc) (code : Code) where
     state_is = ap (λ (r : Cycled). r.machine) c
 
     past_is : q' ≡ known_next y q
-    past_is = o ∙ ap (λ (r : Row). past_after q r.events) row_is
+    past_is = o ∙ ap (λ (r : Row). past_after d q r.events) row_is
 
     pub seen_goes : seen d code (n - i) y q ≡ record { row = row; charge = charge } ∷ seen d code (n - (i + 1)) y' q'
     seen_goes =

@@ -9,18 +9,9 @@ use Rattle.window_model.specs.Row.{Row}
 use Rattle.window_model.specs.Cycle.{cycle}
 use Rattle.window_model.specs.declared.Entry.{Entry}
 use Rattle.window_model.specs.declared.Event.{Event}
-use Rattle.slot_reasons.specs.declared.Charge.{Charge}
 use Rattle.slot_reasons.specs.declared.Past.{Past}
-use Rattle.slot_reasons.specs.Reasons.{past_after, reason_of}
 use Rattle.slot_reasons.specs.Slots.{charge_of}
-
--- the slots of a cycle, by how many retired, its events, how the run ended, and the oldest entry
-abbrev pub charge_by : Desc → Past → ℕ → List Event → Option End → Option Entry → Charge
-charge_by d p retired events end oldest = record {
-  retired = retired;
-  empty = d.core_retire_width - retired;
-  reason = reason_of d p (past_after p events) end oldest;
-}
+use Rattle.stats_top.specs.inner.Counting.{charge_by}
 
 -- where a core tells all that of the machine that a cycle leaves, they are that cycle's
 pub charge_is : (d e : Desc) (code : Code) (x y : Machine) (row : Row) (piece : List ℕ) (p : Past) (retired : ℕ) (events : List Event) (end : Option End) (oldest : Option Entry)

@@ -9,10 +9,9 @@ use Rattle.window_model.specs.Cycle.{cycle, after_cycles}
 use Rattle.pair_run.proofs.Cycles.{Left, left_next, left_ended, left_done, none_left}
 use Rattle.tool_io.specs.Outside.{Told, Wrote, WrotePrefix}
 use Rattle.tool_io.proofs.Writing.{WroteUpTo, up_to_start, up_to_more, up_to_part, up_to_end}
-use Rattle.slot_reasons.specs.declared.Charge.{Charge}
 use Rattle.slot_reasons.specs.declared.Past.{Past}
 use Rattle.slot_reasons.specs.Reasons.{first_past, past_after}
-use Rattle.slot_reasons.specs.Slots.{Seen, charge_of, seen}
+use Rattle.slot_reasons.specs.Slots.{Charge, Seen, charge_of, seen}
 use Rattle.slot_reasons.specs.inner.Walked.{past_at}
 use Rattle.stats_top.specs.Stats.{Numbers, numbers_of, stretch_line, stretches_text}
 use Rattle.stats_top.specs.inner.Counting.{CountedTo}
@@ -43,7 +42,7 @@ module _ (d : Desc) (code : Code) (n : ℕ) (x : Machine) (p : Past) where
       }
 
   pub one_counted : (i : ℕ) (y y' : Machine) (q q' : Past) (row : Row) (piece : List ℕ) (charge : Charge) (counts counts' : Numbers) → i < n → y.end ≡ None
-      → record { machine = y'; row = row; piece = piece } ≡ cycle d code y → charge ≡ charge_of d q y (cycle d code y) → q' ≡ past_after q row.events
+      → record { machine = y'; row = row; piece = piece } ≡ cycle d code y → charge ≡ charge_of d q y (cycle d code y) → q' ≡ past_after d q row.events
       → ((seen : List Seen) → counts ≡ numbers_of seen → counts' ≡ numbers_of (seen ++ record { row = row; charge = charge } ∷ []))
       → CountedSoFar counts d code n i x y p q → CountedSoFar counts' d code n (i + 1) x y' p q'
   one_counted i y y' q q' row piece charge counts counts' h e c k o w s = record {

@@ -1,19 +1,20 @@
 //! A core's run, counted cycle by cycle, and the lines on the way. Nothing here takes memory.
-ghost use Rattle.std.specs.Prelude.{◌≡◌, ◌<◌, ◌≤◌, ◌+◌, ◌-◌, ◌^◌, Some, None, option_map};
+ghost use Rattle.std.specs.Prelude.{◌≡◌, ◌<◌, ◌≤◌, ◌+◌, ◌++◌, ◌-◌, ◌∷◌, ◌^◌, [], List, Some, None, option_map};
 ghost use Rattle.elf_loader.specs.inner.Code.{word_at};
 ghost use Rattle.slot_reasons.specs.Reasons.{first_past, past_after};
-ghost use Rattle.slot_reasons.specs.Slots.{charge_of};
+ghost use Rattle.slot_reasons.specs.Slots.{Seen, charge_of};
 ghost use Rattle.slot_reasons.specs.inner.Walked.{past_at};
 ghost use Rattle.window_model.specs.Cycle.{cycle};
+ghost use Rattle.stats_top.specs.Stats.{numbers_of};
 ghost use Rattle.stats_top.specs.inner.Counting.{CountedTo, WritesWay};
 
 use crate::lines::stretch_line;
-use crate::numbers::Numbers;
+use crate::numbers::{Numbers, Over};
 use core_cycle::Core;
 use machine_desc::Desc;
 use rename_taint::RenameTaint;
 use rv_types::Piece;
-use slot_reasons::{Charge, Past, charge_of, first_past};
+use slot_reasons::{Past, first_past};
 use stats_words::Every;
 use tool_io::{Failed, Sink};
 use window_model::{Clocked, Row, empty_row};
@@ -37,30 +38,35 @@ fn kept_at_first() -> Kept
     }
 }
 
-// One cycle, with its row and its slots.
-fn see_cycle<R: RenameTaint>(core: &mut Core<R>, desc: &Desc, kept: &mut Kept) -> Charge
+// One cycle, counted behind those of which these are the numbers.
+#[inline(always)]
+fn see_cycle<R: RenameTaint>(
+    core: &mut Core<R>,
+    desc: &Desc,
+    kept: &mut Kept,
+    numbers: &mut Numbers,
+)
     requires desc { desc.now ≡ core.old.desc }
     requires running { core.old.machine.end ≡ None }
     requires few { core.old.machine.cycle < 2 ^ 32 - 1 }
     ensures cycled { record { machine = core.new.machine; row = kept.new.row; piece = kept.new.piece }
         ≡ cycle core.old.desc (word_at core.old.code) core.old.machine }
-    ensures charge { result ≡ charge_of core.old.desc kept.old.past core.old.machine
-        (cycle core.old.desc (word_at core.old.code) core.old.machine) }
-    ensures past { kept.new.past ≡ past_after kept.old.past kept.new.row.events }
+    ensures counted { (seen : List Seen) → numbers.old ≡ numbers_of seen
+        → numbers.new ≡ numbers_of (seen ++ record { row = kept.new.row;
+            charge = charge_of core.old.desc kept.old.past core.old.machine
+                (cycle core.old.desc (word_at core.old.code) core.old.machine) } ∷ []) }
+    ensures past { kept.new.past ≡ past_after core.old.desc kept.old.past kept.new.row.events }
     ensures desc { core.new.desc ≡ core.old.desc }
     ensures code { word_at core.new.code ≡ word_at core.old.code }
 {
     let before = core.retired();
     core.cycle(&mut kept.row, &mut kept.piece);
     let retired = core.retired().saturating_sub(before);
-    charge_of(
-        desc,
-        &mut kept.past,
-        kept.row.events(),
+    let over = Over {
         retired,
-        core.end(),
-        core.rob(),
-    )
+        end: core.end(),
+    };
+    numbers.count(desc, &mut kept.past, &kept.row, over, core.rob());
 }
 
 // Runs at most so many cycles, and counts what is seen of each.
@@ -84,8 +90,7 @@ fn count_stretch<R: RenameTaint>(
         if core.end().is_some() {
             return numbers;
         }
-        let charge = see_cycle(core, desc, kept);
-        numbers.count(&kept.row, &charge);
+        see_cycle(core, desc, kept, &mut numbers);
     }
     numbers
 }

@@ -1,10 +1,22 @@
 //! What is counted of a run: the numbers of its rows, and its slots by reason.
-ghost use Rattle.std.specs.Prelude.{◌≡◌, ◌++◌, ◌∷◌, List, [], length};
+ghost use Rattle.std.specs.Prelude.{◌≡◌, ◌++◌, ◌∷◌, List, [], slice_get};
 
+use machine_desc::Desc;
 use run_counts::Counts;
-use slot_reasons::{Charge, Slots};
+use rob_ring::RobRing;
+use rv_types::End;
+use slot_reasons::{Lately, Past, Slots, count_row};
 use std::marker::Model;
 use window_model::Row;
+
+/// What a core tells of a cycle once it is over.
+#[derive(Clone, Copy, Debug, PartialEq, Eq)]
+pub(crate) struct Over {
+    /// How many instructions retired in it.
+    pub(crate) retired: u64,
+    /// How the run ended, if it did.
+    pub(crate) end: Option<End>,
+}
 
 /// What is counted of some cycles of a run. It takes no memory.
 #[derive(Drop)]
@@ -23,7 +35,9 @@ impl Model for Numbers {
 
 impl Numbers {
     ghost use Rattle.slot_reasons.specs.Slots.{Seen};
+    ghost use Rattle.slot_reasons.specs.Reasons.{past_after};
     ghost use Rattle.stats_top.specs.Stats.{numbers_of};
+    ghost use Rattle.stats_top.specs.inner.Counting.{charge_by};
 
     /// The numbers of no cycle.
     pub(crate) fn new() -> Self
@@ -35,13 +49,28 @@ impl Numbers {
         }
     }
 
-    /// Counts a cycle behind those of which these are the numbers.
-    pub(crate) fn count(&mut self, row: &Row, charge: &Charge)
-        ensures { (seen : List Seen) → self.old ≡ numbers_of seen
-            → self.new ≡ numbers_of (seen ++ record { row = row.now; charge = charge.now } ∷ []) }
+    /// Counts a cycle behind those of which these are the numbers, of which a core tells this once it is over, and
+    /// which left the reorder buffer so. What is known of the cycle before is that of this one then.
+    #[inline(always)]
+    pub(crate) fn count(
+        &mut self,
+        desc: &Desc,
+        past: &mut Past,
+        row: &Row,
+        over: Over,
+        rob: &RobRing,
+    )
+        ensures counted { (seen : List Seen) → self.old ≡ numbers_of seen
+            → self.new ≡ numbers_of (seen ++ record { row = row.now;
+                charge = charge_by desc.now past.old over.retired row.now.events over.end (slice_get rob.now.entries 0) } ∷ []) }
+        ensures past { past.new ≡ past_after desc.now past.old row.now.events }
     {
-        self.counts.count(row);
-        self.slots.count(charge);
+        let lately = Lately {
+            before: *past,
+            cycle: count_row(&mut self.counts, desc, past, row),
+        };
+        *past = lately.cycle;
+        self.slots.count(desc, &lately, over.retired, over.end, rob);
     }
 
     /// Adds the numbers of the cycles that come behind those of which these are.

@@ -1,5 +1,5 @@
-"""The slots of retirement of a trace's cycles by reason, as docs/formats.md, "The slots of a run", has them: from the events of each line and the
-oldest entry once the cycle is over, as the viewer's pipeline has it."""
+"""The slots of retirement of a trace's cycles by reason, as docs/formats.md, "The slots of a run", has them: from the events of each line, and the
+oldest entry and the queue once the cycle is over, as the viewer's pipeline has them."""
 import event_counts
 from wadrelwy.riscv.kinds import CALL, DIVISION, LOAD, MULTIPLICATION, STORE
 from wadrelwy.view.description import read_description
@@ -7,8 +7,8 @@ from wadrelwy.view.image import Image
 from wadrelwy.view.replay import Replay
 from wadrelwy.view.trace import Trace
 
-REASONS = """front_end misprediction violation call simple multiplier divider store load_first load_second load_memory registers resolve clear
-store_port end""".split()
+REASONS = """front_end room misprediction violation call simple multiplier divider store load_first load_second load_memory registers resolve
+clear store_port end""".split()
 NAMES = [f"slots_{name}" for name in ("base", *REASONS)]
 MOST = 18446744073709551615
 EXECUTES = {MULTIPLICATION: "multiplier", DIVISION: "divider", STORE: "store"}
@@ -45,7 +45,8 @@ def cycles(trace, image, description):
         else:
             reason = does(head, run.pipeline)
         found.append((retired, max(description.retire_width - retired, 0), reason))
-        following, late_before, first_before = late if first is None else "front_end", late, first
+        short = len(run.pipeline.queue) > names.count("fet") and names.count("ren") < description.fetch_width
+        following, late_before, first_before = "room" if short else late if first is None else "front_end", late, first
     return found
 
 

@@ -72,13 +72,13 @@ class OwnReasons(slots.Slots):
         return None
 
 
-# what the viewer tells apart and the numbers don't, or the other way round: the viewer knows what stood in the queue, and by what a load was
-# served; the numbers know for what a Done entry waits
+# what the viewer tells apart and the numbers don't, or the other way round: the viewer knows which item stood in the queue, and by what a load
+# was served; the numbers know for what a Done entry waits
 LOADS = {slots.HIT, slots.FORWARDED, slots.SECOND_LEVEL, slots.MEMORY, slots.JOINED, slots.FAULTING}
 WAITS = {slots.PORTS, slots.CLEARING, *slots.TAINTS.values()}
 THEIRS = {slots.BASE: "base", slots.MISPREDICTION: "misprediction", slots.VIOLATION: "violation", slots.SIMPLE: "simple", slots.END: "end",
           slots.MULTIPLIER: "multiplier", slots.DIVIDER_BUSY: "divider", slots.STORES: "store", slots.REGISTERS: "registers",
-          **dict.fromkeys((slots.FRONT_END, slots.ROOM, slots.SYSTEM_CALL), "front end or call"), **dict.fromkeys(LOADS, "load"),
+          slots.ROOM: "room", **dict.fromkeys((slots.FRONT_END, slots.SYSTEM_CALL), "front end or call"), **dict.fromkeys(LOADS, "load"),
           **dict.fromkeys(WAITS, "done")}
 OURS = {"front_end": "front end or call", "call": "front end or call", "load_first": "load", "load_second": "load", "load_memory": "load",
         "resolve": "done", "clear": "done", "store_port": "done"}

@@ -1,8 +1,33 @@
 -- Beside Counted.antt: what only clauses of the code and lemmas cite.
-use Rattle.std.specs.Prelude.{ℕ, ◌+◌, List, [], ◌∷◌, Option, Some, None, if◌then◌else◌}
+use Rattle.std.specs.Prelude.{ℕ, zero, suc, ◌+◌, Bool, true, false, List, [], ◌∷◌, slice_get, Option, Some, None, if◌then◌else◌}
 use Rattle.std.specs.Str.{bytes_eq}
 use Rattle.window_model.specs.declared.Event.{Event}
+use Rattle.window_model.specs.declared.Event.TheVariants.{Fill, Done, Bp, Bt, Clr, Vio, Dp, Ret, Alu, Mul, Agu, Std, LdForward, LdFault}
 use Rattle.run_counts.specs.Counted.{name_of, further_of, as_told}
+
+-- the event adds one to the number of its kind alone, and nothing else of it matters to what is counted of a run: it
+-- neither squashes, calls, renames nor fetches
+abbrev pub is_plain : Event → Bool
+is_plain (Fill line) = true
+is_plain (Done serial) = true
+is_plain (Bp index value) = true
+is_plain (Bt index target) = true
+is_plain (Clr serial) = true
+is_plain (Vio serial) = true
+is_plain (Dp index value) = true
+is_plain (Ret serial) = true
+is_plain (Alu serial) = true
+is_plain (Mul serial) = true
+is_plain (Agu serial) = true
+is_plain (Std serial) = true
+is_plain (LdForward serial) = true
+is_plain (LdFault serial) = true
+is_plain _ = false
+
+-- the event right before a place, if there is one
+abbrev pub before_at : ℕ → List Event → Option Event
+before_at zero events = None
+before_at (suc place) events = slice_get events place
 
 -- the number of this name once so much is added to the one of that name
 abbrev pub number_with : List ℕ → List ℕ → ℕ → ℕ → ℕ

@@ -14,9 +14,9 @@ COUNTS = (
 # the slots of retirement by reason: each slot of each cycle is in one of them
 BASE = "slots_base"
 SLOTS = (
-    BASE, "slots_front_end", "slots_misprediction", "slots_violation", "slots_call", "slots_simple", "slots_multiplier", "slots_divider",
-    "slots_store", "slots_load_first", "slots_load_second", "slots_load_memory", "slots_registers", "slots_resolve", "slots_clear",
-    "slots_store_port", "slots_end")
+    BASE, "slots_front_end", "slots_room", "slots_misprediction", "slots_violation", "slots_call", "slots_simple", "slots_multiplier",
+    "slots_divider", "slots_store", "slots_load_first", "slots_load_second", "slots_load_memory", "slots_registers", "slots_resolve",
+    "slots_clear", "slots_store_port", "slots_end")
 NAMES = (*COUNTS, *SLOTS)
 # stands for itself and any greater number
 MOST = 18446744073709551615
