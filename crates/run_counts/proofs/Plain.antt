@@ -1,8 +1,8 @@
 -- Events of which no more than their kind matters.
-use Rattle.std.proofs.Common.{◌≡◌, ℕ, true, List, Option, None, refl, ap, sym, ◌∙◌}
+use Rattle.std.proofs.Common.{◌≡◌, ℕ, true, List, Option, None, refl, ◌∙◌}
 use Rattle.window_model.specs.declared.Event.{Event}
 use Rattle.window_model.specs.declared.Event.TheVariants.{Fill, Done, Bp, Bt, Clr, Vio, Dp, Ret, Alu, Mul, Agu, Std, LdForward, LdFault}
-use Rattle.run_counts.specs.Counted.{names, name_of, further_of}
+use Rattle.run_counts.specs.Counted.{names, name_of}
 use Rattle.run_counts.specs.inner.Counting.{after_event, is_plain, number_with, numbers_by}
 use Rattle.run_counts.proofs.Each.{each_alike}
 

@@ -1,5 +1,5 @@
 -- Rows that were counted by hand.
-use Rattle.std.proofs.Common.{◌≡◌, ℕ, ◌+◌, ◌^◌, true, false, List, [], ◌∷◌, map, None, codes, refl}
+use Rattle.std.proofs.Common.{◌≡◌, ◌+◌, ◌^◌, true, false, List, [], ◌∷◌, map, None, codes, refl}
 use Rattle.window_model.specs.declared.Event.TheVariants.{Fill, Done, Res, Bp, Bt, Sq, Clr, Vio, Dp, Ret, St, Call, Alu, Mul, Div, Agu, Std, Ld, LdForward, LdFault, Pf, Ren, Fet}
 use Rattle.window_model.specs.declared.Look.TheVariants.{Hit, Miss, Join, Second}
 use Rattle.window_model.specs.declared.Way.TheVariants.{Taken, NotTaken, Jump}

@@ -81,7 +81,6 @@ impl Counts {
     }
 
     /// Counts an event that comes right behind another, if there is one.
-    #[inline(always)]
     pub fn count_event(&mut self, before: Option<Event>, event: Event)
         ensures { self.new ≡ numbers_by (λ name k. after_event name before event k) names self.old }
     {

@@ -88,6 +88,7 @@ none_added name at a = more_counts name at 0 a ∙ (let z : a + added_to name at
     nothing : (b : Bool) → (if b then zero else zero) ≡ zero
     nothing true = refl
     nothing false = refl
+
     add-zero : (n : ℕ) → n + zero ≡ n
     add-zero n = omega arith
 
@@ -106,12 +107,12 @@ pub full_counted : (cs : List Charge) (c : Charge) (old new : List ℕ) → c.em
     → old ≡ slots cs → new ≡ slots (cs ++ c ∷ [])
 full_counted cs c old new z n e =
     let mid : new ≡ map (λ name. as_told (slots_of name cs + added_to name (codes "slots_base") c.retired)) slot_names =
-        n ∙ ap (numbers_by (λ name k. number_with name (codes "slots_base") c.retired k) slot_names) e ∙ base_each c.retired (λ name. slots_of name cs) slot_names in
+    n ∙ ap (numbers_by (λ name k. number_with name (codes "slots_base") c.retired k) slot_names) e ∙ base_each c.retired (λ name. slots_of name cs) slot_names in
     let stays : new ≡ numbers_by (λ name k. number_with name (reason_name c.reason) c.empty k) slot_names new =
-        sym (ap (λ m. numbers_by (λ name k. number_with name (reason_name c.reason) m k) slot_names new) z
-        ∙ ap (numbers_by (λ name k. number_with name (reason_name c.reason) 0 k) slot_names) mid
-        ∙ none_each (reason_name c.reason) (λ name. slots_of name cs + added_to name (codes "slots_base") c.retired) slot_names
-        ∙ sym mid) in
+    sym (ap (λ m. numbers_by (λ name k. number_with name (reason_name c.reason) m k) slot_names new) z
+    ∙ ap (numbers_by (λ name k. number_with name (reason_name c.reason) 0 k) slot_names) mid
+    ∙ none_each (reason_name c.reason) (λ name. slots_of name cs + added_to name (codes "slots_base") c.retired) slot_names
+    ∙ sym mid) in
     cycle_counted cs c old new new n stays e
 
 -- ---- Two parts of a run

@@ -11,7 +11,7 @@ use Rattle.run_counts.proofs.Events.{next_event, last_event}
 use Rattle.run_counts.proofs.Sums.{row_counted}
 use Rattle.slot_reasons.specs.declared.Walked.{Walked}
 use Rattle.slot_reasons.specs.inner.Walked.{has_bit}
-use Rattle.slot_reasons.specs.Reasons.{is_bit, walk, walk_on}
+use Rattle.slot_reasons.specs.Reasons.{walk, walk_on}
 
 -- ---- What is known
 

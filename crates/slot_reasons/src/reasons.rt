@@ -123,7 +123,13 @@ fn head_reason(desc: &Desc, before: &Past, now: &Past, entry: &Entry) -> Reason
 }
 
 /// Why slots are empty in a cycle, by how the run ended, if it did, and the oldest entry that is left, if there is one.
-pub(crate) fn reason_of(desc: &Desc, before: &Past, now: &Past, end: Option<End>, rob: &RobRing) -> Reason
+pub(crate) fn reason_of(
+    desc: &Desc,
+    before: &Past,
+    now: &Past,
+    end: Option<End>,
+    rob: &RobRing,
+) -> Reason
     ensures { result ≡ reason_of desc.now before.now now.now end (slice_get rob.now.entries 0) }
 {
     if end.is_some() {

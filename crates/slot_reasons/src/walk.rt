@@ -57,7 +57,6 @@ fn first_of(renamed: Option<u64>, serial: u64) -> Option<u64>
 }
 
 // Counts an event behind another, if there is one, and tells what is known behind it.
-#[inline(always)]
 fn count_other(counts: &mut Counts, before: Option<Event>, event: Event, known: Walked) -> Walked
     ensures counts { counts.new ≡ numbers_by (λ name k. after_event name before event k) names counts.old }
     ensures known { result ≡ walk_on (has_bit before) event known }

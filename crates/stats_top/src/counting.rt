@@ -52,9 +52,11 @@ fn see_cycle<R: RenameTaint>(
     ensures cycled { record { machine = core.new.machine; row = kept.new.row; piece = kept.new.piece }
         ≡ cycle core.old.desc (word_at core.old.code) core.old.machine }
     ensures counted { (seen : List Seen) → numbers.old ≡ numbers_of seen
-        → numbers.new ≡ numbers_of (seen ++ record { row = kept.new.row;
-            charge = charge_of core.old.desc kept.old.past core.old.machine
-                (cycle core.old.desc (word_at core.old.code) core.old.machine) } ∷ []) }
+        → numbers.new ≡ numbers_of (seen ++ record {
+          row = kept.new.row;
+          charge = charge_of core.old.desc kept.old.past core.old.machine
+              (cycle core.old.desc (word_at core.old.code) core.old.machine);
+        } ∷ []) }
     ensures past { kept.new.past ≡ past_after core.old.desc kept.old.past kept.new.row.events }
     ensures desc { core.new.desc ≡ core.old.desc }
     ensures code { word_at core.new.code ≡ word_at core.old.code }

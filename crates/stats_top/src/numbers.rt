@@ -2,8 +2,8 @@
 ghost use Rattle.std.specs.Prelude.{◌≡◌, ◌++◌, ◌∷◌, List, [], slice_get};
 
 use machine_desc::Desc;
-use run_counts::Counts;
 use rob_ring::RobRing;
+use run_counts::Counts;
 use rv_types::End;
 use slot_reasons::{Lately, Past, Slots, count_row};
 use std::marker::Model;
@@ -61,8 +61,10 @@ impl Numbers {
         rob: &RobRing,
     )
         ensures counted { (seen : List Seen) → self.old ≡ numbers_of seen
-            → self.new ≡ numbers_of (seen ++ record { row = row.now;
-                charge = charge_by desc.now past.old over.retired row.now.events over.end (slice_get rob.now.entries 0) } ∷ []) }
+            → self.new ≡ numbers_of (seen ++ record {
+              row = row.now;
+              charge = charge_by desc.now past.old over.retired row.now.events over.end (slice_get rob.now.entries 0);
+            } ∷ []) }
         ensures past { past.new ≡ past_after desc.now past.old row.now.events }
     {
         let lately = Lately {

@@ -18,7 +18,7 @@ pub returns-clause-counts : goal.returns-clause-counts
 returns-clause-counts c =
     c.count_other.ensures.counts
     ∙ ap₂ (λ b ks. numbers_by (λ name k. after_event name b c.args.event k) names ks) c.before_at.ensures
-        (c.count_plain.ensures.stays (sym c.count_plain.ensures.plain ∙ c.if-count_plain.false))
+    (c.count_plain.ensures.stays (sym c.count_plain.ensures.plain ∙ c.if-count_plain.false))
 
 pub returns-clause-known : goal.returns-clause-known
 returns-clause-known c = c.count_other.ensures.known ∙ ap (λ b. walk_on (has_bit b) c.args.event c.args.known) c.before_at.ensures

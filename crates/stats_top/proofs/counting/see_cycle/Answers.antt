@@ -1,5 +1,5 @@
 -- What is counted is what the core tells once the cycle is over.
-use Rattle.std.proofs.Common.{◌≡◌, ◌-◌, ◌∷◌, ◌++◌, [], ◌∙◌, ap, ap₂, refl}
+use Rattle.std.proofs.Common.{◌-◌, ◌∷◌, ◌++◌, [], ◌∙◌, ap, ap₂, refl}
 use Rattle.std.specs.Prelude.{slice_get}
 use Rattle.elf_loader.specs.inner.Code.{word_at}
 use Rattle.slot_reasons.specs.Reasons.{past_after}

@@ -21,7 +21,7 @@ returns c =
     let charge : Charge = charged c.args.desc.now c.args.lately.now.before c.args.lately.now.cycle c.args.retired c.args.end (slice_get c.args.rob.now.entries 0) in
     let base : c.add_at.new.numbers ≡ numbers_by (λ name k. number_with name (codes "slots_base") c.args.retired k) slot_names c.self.inside.numbers = c.add_at.ensures (codes "slots_base") refl in
     let empty : c.add_at-2.new.numbers ≡ numbers_by (λ name k. number_with name (reason_name c.reason_of-reason.result) c.saturating_sub-empty.result k) slot_names c.add_at.new.numbers =
-        c.add_at-2.ensures (reason_name c.reason_of-reason.result) c.place_of.ensures.at in
+    c.add_at-2.ensures (reason_name c.reason_of-reason.result) c.place_of.ensures.at in
     let same : c.self.inside.numbers ≡ c.args.self.now = search rules in
     λ cs e. cycle_counted cs charge c.self.inside.numbers _ _ base
     (empty ∙ ap₂ (λ r n. numbers_by (λ name k. number_with name (reason_name r) n k) slot_names c.add_at.new.numbers) c.reason_of-reason.ensures c.saturating_sub-empty.ensures) (same ∙ e)
