@@ -29,6 +29,13 @@ def read(*path):
         return file.read()
 
 
+def descriptions():
+    """The examples' descriptions, and the first of them with room for one load and one store, so that what comes next often has none."""
+    yield from (support.example(f"{name}.toml") for name in DESCRIPTIONS)
+    narrow = read("examples", "core.toml").replace("loads = 4 ", "loads = 1 ").replace("stores = 4 ", "stores = 1 ")
+    yield support.file_of("narrow.toml", narrow.encode())
+
+
 def images():
     """The examples' images, a program for each rule of the machine, and generated ones."""
     yield from (support.example(f"{name}.elf") for name in (*support.EXAMPLES, "bounds_check_other"))
@@ -131,7 +138,7 @@ class Program(unittest.TestCase):
         """Of each run the text and the status are those of the trace, also with lines on the way; and each number counts something somewhere."""
         names = [*event_counts.NAMES, *slot_counts.NAMES]
         seen = [0] * len(names)
-        for description in (support.example(f"{name}.toml") for name in DESCRIPTIONS):
+        for description in descriptions():
             for number, image in enumerate(images()):
                 trace = support.run_program("trace", description, image, "--cycles", str(CYCLES))
                 every = (1, 2, 7, 100, CYCLES, 4294967295)[number % 6]
