@@ -48,6 +48,12 @@ seen d code (suc n) x past =
     unless_ended x.end []
     (let c = cycle d code x in record { row = c.row; charge = charge_of d past x c } ∷ seen d code n c.machine (past_after d past c.row.events))
 
+-- what is known after at most n cycles of the last one
+abbrev pub past_at : Desc → Code → ℕ → Machine → Past → Past
+past_at d code zero x past = past
+past_at d code (suc n) x past =
+    unless_ended x.end past (let c = cycle d code x in past_at d code n c.machine (past_after d past c.row.events))
+
 -- the rows of cycles
 abbrev pub rows_of : List Seen → List Row
 rows_of = map (λ s. s.row)

@@ -3,13 +3,14 @@
 //! Rules: `specs/Reasons.antt`, the reason of a cycle, from the written machine's state once it is over and from the
 //! events up to then; `specs/Slots.antt`, the slots of a run; `docs/formats.md`, "The slots of a run".
 //!
-//! Promises: `specs/Laws.antt`: the slots of all reasons are as many as the cycles have. What is counted cycle by cycle
-//! is what the definition counts of a run. One walk over a cycle's events counts them and finds what comes late.
+//! Promises: `specs/Laws.antt`: the slots of all reasons are as many as the cycles have, and the items that are counted
+//! as fetched and not renamed are as many as the queue has. What is counted cycle by cycle is what the definition
+//! counts of a run. One walk over a cycle's events counts them and finds what comes late.
 //!
-//! Clauses: `each_slot_has_one_reason`; `count_row`; `Slots`: `new`, `count`, `add`.
+//! Clauses: `each_slot_has_one_reason`, `queued_is_counted`; `count_row`; `Slots`: `new`, `count`, `add`.
 #![tactic(auto)]
 
-ghost use Rattle.slot_reasons.specs.Laws.{EachSlotHasOneReason, SeesTheRows};
+ghost use Rattle.slot_reasons.specs.Laws.{EachSlotHasOneReason, QueuedIsCounted, SeesTheRows};
 
 mod reasons;
 mod slots;
@@ -98,4 +99,10 @@ pub struct Walked {
 pub fn each_slot_has_one_reason()
     ensures slots { EachSlotHasOneReason }
     ensures rows { SeesTheRows }
+{}
+
+/// The items that are fetched and not renamed, as they are counted from the events, are as many as the machine's queue
+/// has, after any number of cycles (`docs/theorems.md`, "The slots of a run").
+pub fn queued_is_counted()
+    ensures { QueuedIsCounted }
 {}

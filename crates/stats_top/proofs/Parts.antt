@@ -11,8 +11,7 @@ use Rattle.window_model.specs.Cycle.{Cycled, cycle, after_cycles}
 use Rattle.core_cycle.proofs.Going.{goes_on, one_more, stops}
 use Rattle.slot_reasons.specs.declared.Past.{Past}
 use Rattle.slot_reasons.specs.Reasons.{past_after}
-use Rattle.slot_reasons.specs.Slots.{Charge, Seen, charge_of, seen}
-use Rattle.slot_reasons.specs.inner.Walked.{past_at}
+use Rattle.slot_reasons.specs.Slots.{Charge, Seen, charge_of, past_at, seen}
 
 module _ (d : Desc) (code : Code) where
   -- what is seen of the next cycle, and what is known after it

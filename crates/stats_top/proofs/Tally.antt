@@ -11,8 +11,7 @@ use Rattle.tool_io.specs.Outside.{Told, Wrote, WrotePrefix}
 use Rattle.tool_io.proofs.Writing.{WroteUpTo, up_to_start, up_to_more, up_to_part, up_to_end}
 use Rattle.slot_reasons.specs.declared.Past.{Past}
 use Rattle.slot_reasons.specs.Reasons.{first_past, past_after}
-use Rattle.slot_reasons.specs.Slots.{Charge, Seen, charge_of, seen}
-use Rattle.slot_reasons.specs.inner.Walked.{past_at}
+use Rattle.slot_reasons.specs.Slots.{Charge, Seen, charge_of, past_at, seen}
 use Rattle.stats_top.specs.Stats.{Numbers, numbers_of, stretch_line, stretches_text}
 use Rattle.stats_top.specs.inner.Counting.{CountedTo}
 use Rattle.stats_top.proofs.Parts.{splits, came, none_seen, past_goes, past_stays, seen_goes, stays}

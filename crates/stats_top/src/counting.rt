@@ -2,8 +2,7 @@
 ghost use Rattle.std.specs.Prelude.{◌≡◌, ◌<◌, ◌≤◌, ◌+◌, ◌++◌, ◌-◌, ◌∷◌, ◌^◌, [], List, Some, None, option_map};
 ghost use Rattle.elf_loader.specs.inner.Code.{word_at};
 ghost use Rattle.slot_reasons.specs.Reasons.{first_past, past_after};
-ghost use Rattle.slot_reasons.specs.Slots.{Seen, charge_of};
-ghost use Rattle.slot_reasons.specs.inner.Walked.{past_at};
+ghost use Rattle.slot_reasons.specs.Slots.{Seen, charge_of, past_at};
 ghost use Rattle.window_model.specs.Cycle.{cycle};
 ghost use Rattle.stats_top.specs.Stats.{numbers_of};
 ghost use Rattle.stats_top.specs.inner.Counting.{CountedTo, WritesWay};

@@ -3,7 +3,7 @@ use Rattle.std.proofs.Common.{◌≡◌, ◌≤◌, ◌<◌, ◌-◌, ◌∙◌,
 use Rattle.std.proofs.lemmas.Result.{MatchResult-from_err}
 use Rattle.elf_loader.specs.inner.Code.{word_at}
 use Rattle.tool_io.specs.Outside.{Wrote, WrotePrefix}
-use Rattle.slot_reasons.specs.inner.Walked.{past_at}
+use Rattle.slot_reasons.specs.Slots.{past_at}
 use Rattle.stats_top.specs.Stats.{stretch_line}
 use Rattle.stats_top.proofs.Tally.{none_written, same_core, stretch_written, stretch_part, stretches_ended}
 use Rattle.stats_top.proofs.counting.count_stretches.Goals as goal
