@@ -63,13 +63,13 @@ impl Counts {
         }
     }
 
-    /// Counts an event of which no more than its kind matters, and says whether it is one.
+    /// Counts an event that tells no amount, and says whether it is one.
     #[inline(always)]
-    pub fn count_plain(&mut self, event: Event) -> bool
-        ensures plain { result ≡ is_plain event }
-        ensures counted { is_plain event ≡ true → (before : Option EventText)
-            → self.new ≡ numbers_by (λ name k. after_event name before event k) names self.old }
-        ensures stays { is_plain event ≡ false → self.new ≡ self.old }
+    pub fn count_plain(&mut self, event: &Event) -> bool
+        ensures plain { result ≡ is_plain event.now }
+        ensures counted { is_plain event.now ≡ true → (before : Option EventText)
+            → self.new ≡ numbers_by (λ name k. after_event name before event.now k) names self.old }
+        ensures stays { is_plain event.now ≡ false → self.new ≡ self.old }
     {
         match plain_place(event) {
             Some(place) => {

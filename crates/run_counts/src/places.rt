@@ -67,62 +67,60 @@ fn store_place(found: bool) -> usize
     if found { 31 } else { 32 }
 }
 
-/// The place of the number to which an event adds one of which no more than its kind matters. `None`: more does.
+/// The place of the number to which an event adds one that tells no amount. `None`: it tells one.
 #[tactic(auto, unfolding(crate::specs::Counted::names))]
-pub(crate) fn plain_place(event: Event) -> Option<usize>
-    ensures at { MatchOption result (is_plain event ≡ false)
-        (λ place. (is_plain event ≡ true) × (slice_get names place ≡ Some (name_of None event))) }
+pub(crate) fn plain_place(event: &Event) -> Option<usize>
+    ensures at { MatchOption result (is_plain event.now ≡ false)
+        (λ place. (is_plain event.now ≡ true) × (slice_get names place ≡ Some (name_of None event.now))) }
     ensures few { IfSome result (λ place. place < COUNTED) }
 {
     match event {
         Event::Ret(_) => Some(0),
+        Event::Fet(_) => Some(1),
+        Event::Ren(_, _) => Some(2),
         Event::Alu(_) => Some(3),
         Event::Mul(_) => Some(4),
         Event::Agu(_) => Some(7),
         Event::Std(_) => Some(8),
+        Event::Ld(_, _, look) => Some(load_place(*look)),
         Event::LdForward(_) => Some(13),
         Event::LdFault(_) => Some(14),
+        Event::Pf(_, look) => Some(prefetch_place(*look)),
         Event::Fill(_) => Some(17),
         Event::Done(_) => Some(18),
+        Event::Res(_, way) => Some(way_place(*way)),
         Event::Bp(_, _) => Some(24),
         Event::Bt(_, _) => Some(25),
         Event::Clr(_) => Some(26),
         Event::Vio(_) => Some(27),
         Event::Dp(_, _) => Some(28),
-        _ => None,
+        Event::St(_, _, found) => Some(store_place(*found)),
+        Event::Div(_, _) | Event::Sq(_) | Event::Call(_, _) => None,
     }
 }
 
-/// The place of the number to which an event adds one, by the event right before it in its cycle.
+// The place of the number to which an event adds one that tells an amount, by the event right before it in its cycle.
 #[tactic(auto, unfolding(crate::specs::Counted::names))]
-pub(crate) fn place_of(before: Option<Event>, event: Event) -> usize
+fn told_place(before: Option<Event>, event: Event) -> usize
+    requires { is_plain event ≡ false }
     ensures at { slice_get names result ≡ Some (name_of before event) }
     ensures few { result < COUNTED }
 {
     match event {
-        Event::Ret(_) => 0,
-        Event::Fet(_) => 1,
-        Event::Ren(_, _) => 2,
-        Event::Alu(_) => 3,
-        Event::Mul(_) => 4,
-        Event::Div(_, _) => 5,
-        Event::Agu(_) => 7,
-        Event::Std(_) => 8,
-        Event::Ld(_, _, look) => load_place(look),
-        Event::LdForward(_) => 13,
-        Event::LdFault(_) => 14,
-        Event::Pf(_, look) => prefetch_place(look),
-        Event::Fill(_) => 17,
-        Event::Done(_) => 18,
-        Event::Res(_, way) => way_place(way),
-        Event::Bp(_, _) => 24,
-        Event::Bt(_, _) => 25,
-        Event::Clr(_) => 26,
-        Event::Vio(_) => 27,
-        Event::Dp(_, _) => 28,
         Event::Sq(_) => squash_place(before),
-        Event::St(_, _, found) => store_place(found),
         Event::Call(_, _) => 33,
+        _ => 5,
+    }
+}
+
+/// The place of the number to which an event adds one, by the event right before it in its cycle.
+pub(crate) fn place_of(before: Option<Event>, event: Event) -> usize
+    ensures at { slice_get names result ≡ Some (name_of before event) }
+    ensures few { result < COUNTED }
+{
+    match plain_place(&event) {
+        Some(place) => place,
+        None => told_place(before, event),
     }
 }
 

@@ -1,11 +1,10 @@
 -- Events that come one after the other, walked over.
-use Rattle.std.proofs.Common.{◌≡◌, ℕ, zero, suc, ◌+◌, ◌<◌, ◌≤◌, arith, Bool, true, List, [], ◌∷◌, ◌++◌, length, map, drop, get_or, Some, None, refl, ap, ap₂, sym, ◌∙◌, drop-cons, add-one}
+use Rattle.std.proofs.Common.{◌≡◌, ℕ, zero, suc, ◌+◌, ◌<◌, ◌≤◌, arith, List, [], ◌∷◌, ◌++◌, length, map, drop, get_or, Some, None, refl, ap, ap₂, sym, ◌∙◌, drop-cons, add-one}
 use Rattle.std.specs.Prelude.{slice_get}
 use Rattle.window_model.specs.declared.Event.{Event}
-use Rattle.window_model.specs.declared.Event.TheVariants.{Fill, Done, Bp, Bt, Clr, Vio, Dp, Ret, Alu, Mul, Agu, Std, LdForward, LdFault}
 use Rattle.window_model.specs.Row.{Row}
 use Rattle.run_counts.specs.Counted.{names, numbers}
-use Rattle.run_counts.specs.inner.Counting.{after_event, after_events, before_at, is_plain, numbers_by}
+use Rattle.run_counts.specs.inner.Counting.{after_event, after_events, before_at, numbers_by}
 use Rattle.run_counts.proofs.Distinct.{names_length}
 use Rattle.run_counts.proofs.Events.{next_event, last_event}
 use Rattle.run_counts.proofs.Sums.{row_counted}
@@ -14,24 +13,6 @@ use Rattle.slot_reasons.specs.inner.Walked.{has_bit}
 use Rattle.slot_reasons.specs.Reasons.{walk, walk_on}
 
 -- ---- What is known
-
--- a plain event tells nothing of what comes late
-pub plain_walked : (behind_bit : Bool) (event : Event) (w : Walked) → is_plain event ≡ true → walk_on behind_bit event w ≡ w
-plain_walked b (Fill line) w e = refl
-plain_walked b (Done serial) w e = refl
-plain_walked b (Bp index value) w e = refl
-plain_walked b (Bt index target) w e = refl
-plain_walked b (Clr serial) w e = refl
-plain_walked b (Vio serial) w e = refl
-plain_walked b (Dp index value) w e = refl
-plain_walked b (Ret serial) w e = refl
-plain_walked b (Alu serial) w e = refl
-plain_walked b (Mul serial) w e = refl
-plain_walked b (Agu serial) w e = refl
-plain_walked b (Std serial) w e = refl
-plain_walked b (LdForward serial) w e = refl
-plain_walked b (LdFault serial) w e = refl
-plain_walked b _ w e = absurd (cc)
 
 -- the event at a place, and those behind it
 at_place : (events : List Event) (i : ℕ) (d : Event) → i < length events → drop i events ≡ get_or events i d ∷ drop (i + 1) events

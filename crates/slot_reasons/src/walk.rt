@@ -1,13 +1,13 @@
 //! One walk over a cycle's events: it counts them, and finds what comes late (`specs/Reasons.antt`).
-ghost use Rattle.std.specs.Prelude.{◌≡◌, ◌<◌, ◌++◌, ◌∷◌, List, [], false, length};
+ghost use Rattle.std.specs.Prelude.{◌≡◌, ◌<◌, ◌++◌, ◌∷◌, Bool, List, [], false, length, true};
 ghost use Rattle.window_model.specs.Row.{Row as RowText};
 ghost use Rattle.run_counts.specs.Counted.{names, numbers};
-ghost use Rattle.run_counts.specs.inner.Counting.{after_event, before_at, numbers_by};
+ghost use Rattle.run_counts.specs.inner.Counting.{after_event, before_at, is_plain, numbers_by};
 ghost use Rattle.window_model.specs.declared.Event.TheVariants.{Ren};
 ghost use Rattle.slot_reasons.specs.Reasons.{late_next, past_after, past_by, renamed_behind, squash_reason};
 ghost use Rattle.slot_reasons.specs.Reasons.{stops_short};
 ghost use Rattle.slot_reasons.specs.Reasons.{walk, walk_on};
-ghost use Rattle.slot_reasons.specs.inner.Walked.{has_bit};
+ghost use Rattle.slot_reasons.specs.inner.Walked.{event_at, has_bit};
 
 use crate::{Past, Reason, Walked};
 use machine_desc::Desc;
@@ -56,53 +56,67 @@ fn first_of(renamed: Option<u64>, serial: u64) -> Option<u64>
     }
 }
 
-// Counts an event behind another, if there is one, and tells what is known behind it.
-fn count_other(counts: &mut Counts, before: Option<Event>, event: Event, known: Walked) -> Walked
-    ensures counts { counts.new ≡ numbers_by (λ name k. after_event name before event k) names counts.old }
-    ensures known { result ≡ walk_on (has_bit before) event known }
+// Tells what is known behind an event that tells no amount: it may rename or fetch.
+#[inline(always)]
+fn walk_plain(event: &Event, known: &mut Walked)
+    ensures plain { is_plain event.now ≡ true
+        → (behind_bit : Bool) → known.new ≡ walk_on behind_bit event.now known.old }
+    ensures stays { is_plain event.now ≡ false → known.new ≡ known.old }
 {
-    counts.count_event(before, event);
-    match event {
-        Event::Sq(_) => Walked {
-            late: squash_reason(has_bit(before)),
-            left: 0,
-            ..known
-        },
-        Event::Call(_, _) => Walked {
-            late: Reason::Call,
-            ..known
-        },
-        Event::Ren(serial, _) => Walked {
-            renamed: first_of(known.renamed, serial),
-            left: known.left.saturating_sub(1),
-            ..known
-        },
-        Event::Fet(_) => Walked {
-            fetched: known.fetched.saturating_add(1),
-            ..known
-        },
-        _ => known,
+    if let Event::Ren(serial, _) = event {
+        known.renamed = first_of(known.renamed, *serial);
+        known.left = known.left.saturating_sub(1);
+        return;
+    }
+    if let Event::Fet(_) = event {
+        known.fetched = known.fetched.saturating_add(1);
     }
 }
 
-// Counts an event, which stands at a place, and tells what is known behind it.
+// Tells what is known behind an event that tells an amount, and comes right behind a bit of dependence or doesn't.
 #[inline(always)]
-fn count_at(
-    counts: &mut Counts,
-    events: &[Event],
-    place: usize,
-    event: Event,
-    known: Walked,
-) -> Walked
-    requires { place < length events.now }
-    ensures counts { counts.new
-        ≡ numbers_by (λ name k. after_event name (before_at place events.now) event k) names counts.old }
-    ensures known { result ≡ walk_on (has_bit (before_at place events.now)) event known }
+fn walk_told(behind_bit: bool, event: &Event, known: &mut Walked)
+    requires { is_plain event.now ≡ false }
+    ensures { known.new ≡ walk_on behind_bit event.now known.old }
 {
-    if counts.count_plain(event) {
-        return known;
+    match event {
+        Event::Sq(_) => {
+            known.late = squash_reason(behind_bit);
+            known.left = 0;
+        }
+        Event::Call(_, _) => known.late = Reason::Call,
+        _ => {}
     }
-    count_other(counts, before_at(events, place), event, known)
+}
+
+// Counts the event at a place, whichever it is, and says whether it comes right behind a bit of dependence. The walk
+// over a row is built without this, for few events tell an amount.
+#[cold]
+#[inline(never)]
+fn count_told(counts: &mut Counts, events: &[Event], place: usize) -> bool
+    requires { place < length events.now }
+    ensures counts { counts.new ≡ numbers_by
+        (λ name k. after_event name (before_at place events.now) (event_at place events.now) k) names counts.old }
+    ensures bit { result ≡ has_bit (before_at place events.now) }
+{
+    let before = before_at(events, place);
+    counts.count_event(before, events[place]);
+    has_bit(before)
+}
+
+// Counts the event at a place, and tells what is known behind it.
+#[inline(always)]
+fn count_at(counts: &mut Counts, events: &[Event], place: usize, known: &mut Walked)
+    requires { place < length events.now }
+    ensures counts { counts.new ≡ numbers_by
+        (λ name k. after_event name (before_at place events.now) (event_at place events.now) k) names counts.old }
+    ensures known { known.new ≡ walk_on (has_bit (before_at place events.now)) (event_at place events.now) known.old }
+{
+    let event = &events[place];
+    walk_plain(event, known);
+    if !counts.count_plain(event) {
+        walk_told(count_told(counts, events, place), event, known);
+    }
 }
 
 // Counts the events of a row, and tells what is known behind them.
@@ -114,7 +128,7 @@ fn count_events(counts: &mut Counts, row: &Row, first: Walked) -> Walked
     let events = row.events();
     let mut known = first;
     for place in 0..events.len() {
-        known = count_at(counts, events, place, events[place], known);
+        count_at(counts, events, place, &mut known);
     }
     known
 }

@@ -67,11 +67,12 @@ impl Numbers {
             } ∷ []) }
         ensures past { past.new ≡ past_after desc.now past.old row.now.events }
     {
+        let cycle = count_row(&mut self.counts, desc, past, row);
         let lately = Lately {
             before: *past,
-            cycle: count_row(&mut self.counts, desc, past, row),
+            cycle,
         };
-        *past = lately.cycle;
+        *past = cycle;
         self.slots.count(desc, &lately, over.retired, over.end, rob);
     }
 

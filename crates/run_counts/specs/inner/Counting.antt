@@ -2,27 +2,16 @@
 use Rattle.std.specs.Prelude.{ℕ, zero, suc, ◌+◌, Bool, true, false, List, [], ◌∷◌, slice_get, Option, Some, None, if◌then◌else◌}
 use Rattle.std.specs.Str.{bytes_eq}
 use Rattle.window_model.specs.declared.Event.{Event}
-use Rattle.window_model.specs.declared.Event.TheVariants.{Fill, Done, Bp, Bt, Clr, Vio, Dp, Ret, Alu, Mul, Agu, Std, LdForward, LdFault}
+use Rattle.window_model.specs.declared.Event.TheVariants.{Sq, Call, Div}
 use Rattle.run_counts.specs.Counted.{name_of, further_of, as_told}
 
--- the event adds one to the number of its kind alone, and nothing else of it matters to what is counted of a run: it
--- neither squashes, calls, renames nor fetches
+-- the event tells no amount, so it adds one to a number that it names by itself, whatever comes before it: it is no
+-- division, squash or call
 abbrev pub is_plain : Event → Bool
-is_plain (Fill line) = true
-is_plain (Done serial) = true
-is_plain (Bp index value) = true
-is_plain (Bt index target) = true
-is_plain (Clr serial) = true
-is_plain (Vio serial) = true
-is_plain (Dp index value) = true
-is_plain (Ret serial) = true
-is_plain (Alu serial) = true
-is_plain (Mul serial) = true
-is_plain (Agu serial) = true
-is_plain (Std serial) = true
-is_plain (LdForward serial) = true
-is_plain (LdFault serial) = true
-is_plain _ = false
+is_plain (Div serial time) = false
+is_plain (Sq count) = false
+is_plain (Call serial count) = false
+is_plain _ = true
 
 -- the event right before a place, if there is one
 abbrev pub before_at : ℕ → List Event → Option Event

@@ -5,9 +5,9 @@ use Rattle.slot_reasons.proofs.walk.count_events.Goals as goal
 
 pub loop-place-preserved : goal.loop-place-preserved
 loop-place-preserved c = record {
-  counted = next_counted _ c.loop-place.place _ _ _ c.loop-place-test.true c.count_at-known.ensures.counts ∙ c.loop-place.invariant.counted;
-  long = λ n. next_many _ c.loop-place.place _ _ _ c.loop-place-test.true c.count_at-known.ensures.counts (c.loop-place.invariant.long n);
-  known = next_walked _ c.loop-place.place _ _ _ c.loop-place-test.true c.count_at-known.ensures.known ∙ c.loop-place.invariant.known;
+  counted = next_counted _ c.loop-place.place _ _ _ c.loop-place-test.true c.count_at.ensures.counts ∙ c.loop-place.invariant.counted;
+  long = λ n. next_many _ c.loop-place.place _ _ _ c.loop-place-test.true c.count_at.ensures.counts (c.loop-place.invariant.long n);
+  known = next_walked _ c.loop-place.place _ _ _ c.loop-place-test.true c.count_at.ensures.known ∙ c.loop-place.invariant.known;
 }
 
 pub returns-clause-counts : goal.returns-clause-counts

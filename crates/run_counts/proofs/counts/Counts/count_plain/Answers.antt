@@ -1,4 +1,4 @@
--- One is added to the number of the event's kind.
+-- One is added to the number that the event names.
 use Rattle.std.proofs.Common.{◌≡◌, ◌∙◌, ap, None, rules}
 use Rattle.run_counts.specs.Counted.{names, name_of}
 use Rattle.run_counts.specs.inner.Counting.{number_with, numbers_by}
@@ -8,5 +8,5 @@ use Rattle.run_counts.proofs.counts.Counts.count_plain.Goals as goal
 pub returns-in-Some-clause-counted : goal.returns-in-Some-clause-counted
 returns-in-Some-clause-counted c =
     let same : c.self.inside.numbers ≡ c.args.self.now = search rules in
-    λ p before. plain_added before c.args.event _ _ p
-    (c.add_at.ensures _ c.in-Some.ensures.at.1 ∙ ap (numbers_by (λ name k. number_with name (name_of None c.args.event) 1 k) names) same)
+    λ p before. plain_added before c.args.event.now _ _ p
+    (c.add_at.ensures _ c.in-Some.ensures.at.1 ∙ ap (numbers_by (λ name k. number_with name (name_of None c.args.event.now) 1 k) names) same)
