@@ -3,12 +3,15 @@ import os
 import random
 import subprocess
 import unittest
+from itertools import groupby
+from types import SimpleNamespace
 
 import support
 from generate.generated import generated_image
 from wadrelwy import Fault
-from wadrelwy.going_on import stub
+from wadrelwy.going_on import room, stub, written
 from wadrelwy.going_on.report import read_report
+from wadrelwy.going_on.standing import Standing
 from wadrelwy.verdict.hart import Hart
 from wadrelwy.verdict.loaded import Loaded
 
@@ -61,6 +64,50 @@ class Reports(unittest.TestCase):
                     self.ROWS[0].replace(" 00", "  0")):
             with self.assertRaisesRegex(Fault, "no report of isa"):
                 read_report(self.text(row, *self.ROWS[1:]))
+
+
+class Memory(unittest.TestCase):
+    def test_runs_of_bytes(self):
+        """They are the bytes between blocks that are all zero, without the zeros at both ends."""
+        chance = random.Random(2)
+        for _ in range(100):
+            data, low = bytearray(chance.randrange(1, 200000)), chance.randrange(3000)
+            for _ in range(chance.randrange(9)):
+                at = chance.randrange(len(data))
+                size = min(chance.choice((1, 100, 5000)), len(data) - at)
+                data[at:at + size] = chance.randbytes(size)
+            found = []
+            for has_any, blocks in groupby(range(low, len(data), written.BLOCK), lambda at: any(data[at:at + written.BLOCK])):
+                blocks = list(blocks)
+                first, kept = blocks[0], data[blocks[0]:blocks[-1] + written.BLOCK]
+                found += [(first + len(kept) - len(kept.lstrip(b"\0")), kept.strip(b"\0"))] if has_any else []
+            self.assertEqual(list(written.runs_of_bytes(bytes(data), low, len(data))), found)
+
+    def test_gaps(self):
+        """They are the rows that no segment has a byte of and that aren't among those that changed, as many together as there are."""
+        chance = random.Random(4)
+        for _ in range(300):
+            size = 16 * chance.randrange(1, chance.choice((4, 60, 900)))
+            ranges = [(BASE + low, BASE + chance.randrange(low + 1, size + 1)) for low in (chance.randrange(size) for _ in range(chance.randrange(4)))]
+            changed = {BASE + 16 * chance.randrange(size // 16) for _ in range(chance.randrange(12))}
+            stands = Standing(SimpleNamespace(base=BASE, memory=bytes(size), ranges=ranges), None, b"", frozenset(changed))
+            free = [row for row in range(BASE, BASE + size, 16) if row not in changed and not any(low < row + 16 and row < high for low, high in ranges)]
+            found = list(room.gaps(stands))
+            self.assertEqual([row for low, high in found for row in range(low, high, 16)], free)
+            self.assertTrue(all(high < low for (_, high), (low, _) in zip(found, found[1:])))
+
+    def test_middle(self):
+        """The place is the nearest of all to the gap's middle, of two the lower."""
+        chance, ends = random.Random(3), []
+        for _ in range(300):
+            low = BASE + 16 * chance.randrange(1 << 17)
+            high, size = low + 16 * chance.randrange(1, chance.choice((20, 200, 9000))), stub.SIZE + chance.choice((0, 4, 2240))
+            pc = max(0, low + 4 * chance.choice((chance.randrange(-1000, 1000), chance.randrange(-300000, 300000))))
+            able = [place for place in range(low, high - size + 1, 16) if stub.reaches(place + size - stub.SIZE, pc)]
+            nearest = min(able, key=lambda place: abs(2 * place + size - low - high), default=None)
+            self.assertEqual(room.middle(low, high, pc, size), nearest)
+            ends.append(nearest is None)
+        self.assertEqual(set(ends), {False, True})
 
 
 @unittest.skipIf(support.NO_IMAGES, support.NO_IMAGES)

@@ -4,30 +4,30 @@ from typing import Iterator
 from wadrelwy import Fault
 
 from .standing import Standing
-from .stub import SIZE, reaches
+from .stub import BACK, FORTH, SIZE, reaches
 
 ROW = 16
 
 
 def gaps(standing: Standing) -> Iterator[tuple[int, int]]:
     """The ranges of whole rows that no segment takes, that are all 0 and that didn't change."""
-    image, first = standing.image, None
-    taken = set(standing.touched)
-    for low, high in image.ranges:
-        taken.update(range(low - low % ROW, high, ROW))
-    for row in range(image.base, image.base + len(image.memory) + ROW, ROW):
-        is_free = row < image.base + len(image.memory) and row not in taken
-        if is_free and first is None:
-            first = row
-        elif not is_free and first is not None:
-            yield first, row
-            first = None
+    image, behind = standing.image, standing.image.base
+    end = image.base + len(image.memory)
+    taken = [(low - low % ROW, high + -high % ROW) for low, high in image.ranges] + [(row, row + ROW) for row in standing.touched]
+    for low, high in sorted([*taken, (end, end)]):
+        if behind < low:
+            yield behind, low
+        behind = max(behind, high)
 
 
 def middle(low: int, high: int, pc: int, size: int) -> int | None:
     """The place in a gap, a multiple of 16, that is nearest to its middle and from which a jump reaches the pc."""
-    places = [place for place in range(low, high - size + 1, ROW) if reaches(place + size - SIZE, pc)]
-    return min(places, key=lambda place: abs(2 * place + size - low - high)) if places else None
+    # how far behind the place the jump stands
+    jump = size - 4
+    least, most = max(low, pc - FORTH - jump), min(high - size, pc - BACK - jump)
+    first, last = least + -least % ROW, most - most % ROW
+    nearest = (low + high - size + ROW - 1) // (2 * ROW) * ROW
+    return min(max(nearest, first), last) if first <= last else None
 
 
 def find_room(standing: Standing, size: int = SIZE) -> int:

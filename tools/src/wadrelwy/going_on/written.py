@@ -9,8 +9,10 @@ from .standing import Standing
 
 HEADER, PROGRAM_HEADER, SECTION_HEADER = 52, 32, 40
 CODE, DATA = 5, 6
-# blocks of so many bytes are looked at whether they are zero: fewer zeros cost less as bytes of the file than as a segment's end and another one
-BLOCK = 1024
+# blocks of so many bytes are looked at whether they are zero: fewer zeros cost less as bytes of the file than as a segment's end and another one.
+# Most of memory is zero, so MANY of them are looked at together first
+BLOCK, MANY = 1024, 32
+ZEROS = bytes(BLOCK * MANY)
 SYMBOLS, NAMES = 2, 3
 
 
@@ -31,36 +33,42 @@ class Section(NamedTuple):
     data: bytes
 
 
-def runs_of_bytes(address: int, data: bytes) -> Iterator[tuple[int, bytes]]:
-    """The stretches of `data` that aren't zero, from their addresses on; they are parted where whole blocks are zero."""
-    first = None
-    for at in range(0, len(data) + BLOCK, BLOCK):
-        has_any = bool(data[at:at + BLOCK].strip(b"\0"))
-        if has_any and first is None:
+def blocks(data: bytes, first: int, end: int, size: int) -> Iterator[int]:
+    """Of the blocks of so many bytes from `first` on, of which the last is cut, those that aren't zero: where each begins."""
+    for at in range(first, end, size):
+        part = data[at:min(at + size, end)]
+        if part != ZEROS[:len(part)]:
+            yield at
+
+
+def runs_of_bytes(data: bytes, low: int, high: int) -> Iterator[tuple[int, bytes]]:
+    """The stretches of `data` from `low` to `high` that aren't zero, each with where it begins; they are parted where whole blocks are zero."""
+    found = [at for many in blocks(data, low, high, BLOCK * MANY) for at in blocks(data, many, min(many + BLOCK * MANY, high), BLOCK)]
+    first = behind = low
+    # one behind the end ends the last stretch
+    for at in [*found, high + BLOCK]:
+        if at > behind:
+            kept = data[first:min(behind, high)].lstrip(b"\0")
+            if kept:
+                yield min(behind, high) - len(kept), kept.rstrip(b"\0")
             first = at
-        elif not has_any and first is not None:
-            kept = data[first:at].lstrip(b"\0")
-            yield address + min(at, len(data)) - len(kept), kept.rstrip(b"\0")
-            first = None
+        behind = at + BLOCK
 
 
 def segments(standing: Standing, at: int, stub: bytes) -> list[Segment]:
     """All of memory that isn't zero, with the code where it was and the stub at its place."""
     image = standing.image
-    codes = sorted([(start, start + len(data)) for start, data in image.pieces] + [(at, at + len(stub))])
-    found, behind = [], image.base
-    memory = bytearray(standing.memory)
-    memory[at - image.base:at - image.base + len(stub)] = stub
+    base, memory = image.base, standing.memory
+    codes = [(start, memory[start - base:start - base + len(data)]) for start, data in image.pieces] + [(at, stub)]
+    found, behind = [], base
 
-    def part(low: int, high: int) -> bytes:
-        return bytes(memory[low - image.base:high - image.base])
+    def data(low: int, high: int) -> list[Segment]:
+        return [Segment(base + first, kept, DATA) for first, kept in runs_of_bytes(memory, low - base, high - base)]
 
-    for low, high in codes:
-        found += [Segment(address, data, DATA) for address, data in runs_of_bytes(behind, part(behind, low))]
-        found.append(Segment(low, part(low, high), CODE))
-        behind = max(behind, high)
-    end = image.base + len(memory)
-    return found + [Segment(address, data, DATA) for address, data in runs_of_bytes(behind, part(behind, end))]
+    for start, code in sorted(codes):
+        found += [*data(behind, start), Segment(start, code, CODE)]
+        behind = max(behind, start + len(code))
+    return found + data(behind, base + len(memory))
 
 
 def symbols_of(name: str) -> list[Section]:
