@@ -4,7 +4,8 @@ import io
 import json
 import math
 import statistics
-from typing import Any, Iterable, Iterator, Mapping, NamedTuple, Optional, Sequence
+from functools import cached_property
+from typing import Any, Iterable, Iterator, NamedTuple, Optional, Sequence
 
 from wadrelwy.counting.numbers import CPI, CYCLES, RECKONED, Figure
 from wadrelwy.sweep.plan import Plan, Run
@@ -52,11 +53,11 @@ def divisor(figure: Figure) -> str:
 
 def ratio(figure: Figure, windows: Sequence[Taken]) -> Optional[float]:
     """A figure of all these windows together."""
-    return figure.of({name: sum(counts_of(taken)[name] for taken in windows) for name in [*figure.added, divisor(figure)]})
+    return figure.of({name: sum(number_of(taken, name) for taken in windows) for name in [*figure.added, divisor(figure)]})
 
 
-def counts_of(taken: Taken) -> Mapping[str, int]:
-    return {CYCLES: taken.cycles, **taken.counts}
+def number_of(taken: Taken, name: str) -> int:
+    return taken.cycles if name == CYCLES else taken.counts[name]
 
 
 class Moved(NamedTuple):
@@ -95,9 +96,10 @@ def half_of(figure: Figure, value: float, windows: Sequence[Taken], found: Seque
 
 def deviations(figure: Figure, value: float, windows: Sequence[Taken]) -> list[float]:
     """By how much each window is off the value, in windows of their mean length."""
-    each = [counts_of(taken) for taken in windows]
-    mean = sum(counts[divisor(figure)] for counts in each) / len(each)
-    return [(figure.factor * sum(counts[name] for name in figure.added) - value * counts[divisor(figure)]) / mean for counts in each]
+    divided = [number_of(taken, divisor(figure)) for taken in windows]
+    added = [sum(number_of(taken, name) for name in figure.added) for taken in windows]
+    mean = sum(divided) / len(divided)
+    return [(figure.factor * part - value * by) / mean for part, by in zip(added, divided)]
 
 
 def longer_of(figure: Figure, longer: Sequence[Taken], same: Sequence[Taken]) -> Optional[tuple[float, float]]:
@@ -163,11 +165,11 @@ def estimate(description: str, values: dict[str, Any], whole: dict[int, Taken], 
     return Estimate(description, values, len(windows), len(both), made, first)
 
 
-class Found(NamedTuple):
-    """What a folder has: each window that was measured, and those that are missing, with why."""
-    question: Question
-    measured: list[tuple[Run, Taken]]
-    missing: list[tuple[Run, str]]
+class Found:
+    """What a folder has: each window that was measured, and those that are missing, with why; and what they come to."""
+
+    def __init__(self, question: Question, measured: list[tuple[Run, Taken]], missing: list[tuple[Run, str]]) -> None:
+        self.question, self.measured, self.missing = question, measured, missing
 
     def moved(self, here: list[tuple[Run, Taken]]) -> list[Moved]:
         """The changes of a setting whose places were found; none where windows are missing."""
@@ -177,8 +179,12 @@ class Found(NamedTuple):
         found = changes(sorted(windows), further, length) if len(windows) == count else []
         return moved(found, self.question.retired, count)
 
-    def estimates(self) -> Iterator[Estimate]:
+    @cached_property
+    def estimates(self) -> list[Estimate]:
         """One of each description and what is set in it."""
+        return list(self.estimated())
+
+    def estimated(self) -> Iterator[Estimate]:
         settings = dict.fromkeys(of_setting(run) for run, _ in self.measured)
         for base, values in settings:
             here = [(run, taken) for run, taken in self.measured if of_setting(run) == (base, values)]
@@ -243,14 +249,14 @@ def summary(question: Question, found: Found) -> Iterator[str]:
     yield from about(question)
     if found.missing:
         yield f"{len(found.missing)} of {len(found.missing) + len(found.measured)} windows are missing: what follows is of the others"
-    for made in found.estimates():
+    for made in found.estimates:
         yield from told(question, made)
     yield from HOW
 
 
 def records(question: Question, found: Found, cited: str) -> Iterator[dict[str, Any]]:
     """A record for each description."""
-    for made in found.estimates():
+    for made in found.estimates:
         cycles, (low, high) = made.cycles, made.bounds(question.retired)
         yield ({"program": question.program, "description": made.description} | made.values
                | {"retired": question.retired, "end": question.end, "windows": made.windows, "length": question.asked["length"],
@@ -265,7 +271,7 @@ def rounded(value: Optional[float]) -> Optional[float]:
 
 def figure_records(found: Found) -> Iterator[dict[str, Any]]:
     """A record for each figure of each description, and from what it is reckoned."""
-    for made in found.estimates():
+    for made in found.estimates:
         for name, value in made.figures.items():
             yield ({"description": made.description} | made.values
                    | {"figure": name, "value": round(value.value, 6), "half_interval": round(value.half, 6), "longer_changes": rounded(value.longer),
