@@ -7,7 +7,6 @@ import re
 import shutil
 import subprocess
 from functools import cache
-from importlib import metadata
 from typing import NamedTuple
 
 from wadrelwy import Unwritten, built_programs
@@ -153,6 +152,8 @@ def of_tree():
 
 def installed():
     """The version of the package, and of its sources a sha256: two installed ones of one version needn't be one."""
+    # it takes long to load, and a tree needs it for nothing
+    from importlib import metadata
     folder = os.path.dirname(os.path.dirname(os.path.abspath(__file__)))
     names = sorted(os.path.relpath(os.path.join(where, name), folder) for where, _, found in os.walk(folder) for name in found
                    if name.endswith((".py", ".js", ".css")))
