@@ -15,6 +15,17 @@ BUILD = {SIMULATOR: 'docs/using.md, "Before you start"', SECRETS: 'docs/secrets.
 UNPROVED = "unproved"
 
 
+# what the C library is told, if it is glibc: memory comes in large pages, where the system has them for who asks, and none of it goes back before the
+# end. A program takes 15 bytes for each one that an image spans, which is all of RAM where a stack stands at its end: handed out page by page, that
+# takes longer than all else before the first step
+LARGE_PAGES = {"GLIBC_TUNABLES": "glibc.malloc.hugetlb=1:glibc.malloc.mmap_threshold=33554432:glibc.malloc.trim_threshold=33554432"}
+
+
+def for_short_runs() -> dict[str, str]:
+    """The environment of runs that are short and many."""
+    return LARGE_PAGES | os.environ
+
+
 def is_unproved(program: str) -> bool:
     """Whether a program says by its name that nothing about it is proved."""
     return UNPROVED in os.path.basename(os.path.realpath(program))

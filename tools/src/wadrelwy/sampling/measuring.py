@@ -1,9 +1,11 @@
 """What a window takes. `stt_stats --every K` tells what is counted in each K cycles of a core's run, retired instructions among it, and its last
 lines tell the names of the numbers (docs/formats.md, "The program stt_stats"). This takes the names from that text, whichever there are, adds
 the rows of the window, and ends the program behind it. No other module knows how a core's run is looked at."""
+import os
 import re
 import subprocess
 import tempfile
+import time
 from typing import IO, Iterable, Iterator, Mapping, NamedTuple, Optional, Sequence
 
 from wadrelwy import Fault, built_programs
@@ -12,6 +14,8 @@ from wadrelwy.machine import notes
 RETIRED = "retired"
 # a window is told to a hundredth of its instructions, and at most to so many cycles
 FINEST, MOST_CYCLES = 100, 100
+# how long the rows of a run are left to gather, in seconds, and how many bytes are taken at once: a pipe holds no more
+PAUSE, MOST_READ = 0.002, 65536
 # more cycles than any window takes
 FOREVER = 4294967295
 # a run of so many cycles, told in so many rows, shows the names, and that the rows have them in their order
@@ -163,14 +167,20 @@ class Window(NamedTuple):
 
 
 def lines_of(child: "subprocess.Popen[bytes]") -> Iterator[str]:
+    """The lines of what it writes, the last one without its end where it has none. They are taken many at a time: to wake for each costs more
+    than what a row tells."""
     assert child.stdout is not None
-    for data in child.stdout:
-        yield data.decode("ascii", "replace")
+    left = ""
+    while data := os.read(child.stdout.fileno(), MOST_READ):
+        *lines, left = (left + data.decode("ascii", "replace")).split("\n")
+        yield from (f"{line}\n" for line in lines)
+        time.sleep(PAUSE)
+    yield left
 
 
 def begun(window: Window, rows: int, notes_to: IO[bytes]) -> "subprocess.Popen[bytes]":
     words = [window.program, window.description, window.image, "--cycles", str(FOREVER), "--every", str(rows)]
-    return subprocess.Popen(words, stdout=subprocess.PIPE, stderr=notes_to, start_new_session=True)
+    return subprocess.Popen(words, stdout=subprocess.PIPE, stderr=notes_to, start_new_session=True, env=built_programs.for_short_runs())
 
 
 def measured(window: Window, names: Names, children: "set[subprocess.Popen[bytes]]") -> Taken:
