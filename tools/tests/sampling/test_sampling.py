@@ -16,7 +16,7 @@ import unittest
 import support
 from generate.generated import generated_image
 from wadrelwy import built_programs
-from wadrelwy.sampling import chain, planned, refining
+from wadrelwy.sampling import chain, planned, refining, side_by_side
 from wadrelwy.verdict.hart import Hart
 from wadrelwy.verdict.loaded import load
 from wadrelwy.view import Fault
@@ -155,6 +155,29 @@ class Chain(Folder):
                     run.memory.data[going.at - machine.base:going.at - machine.base + going.size] = bytes(going.size)
                     self.assertEqual(run.memory.data, whole.memory.data)
             going.check_end()
+
+    def test_parts(self):
+        """In two parts each place has the image that it has in one, byte for byte, as its name tells; and so it is where there are few places."""
+        for places, caches in ((range(900, 15001, 2350), chain.Caches(64, 100)), (range(1, 4), None)):
+            found = []
+            for most, count in ((1, 1), (8, 2 if len(places) > 3 else 1)):
+                parts = side_by_side.cut(self.chain(self.image, caches=caches), places, most)
+                self.assertEqual(len(parts), count)
+                found.append(sorted(side_by_side.begins(parts, self.folder, "on")))
+            self.assertEqual(found[0], found[1])
+            self.assertEqual([begin.place for begin in found[0]], list(places))
+        far = [side_by_side.FAR * at + 1 for at in range(1, 9)]
+        going = self.chain(self.image)
+        self.assertEqual([len(side_by_side.cut(going, places, 8)) for places in (far, [place - 1 for place in far], [])], [1, 2, 1])
+
+    def test_parts_meet(self):
+        """What a run reads at the place of the instructions that come first is found where the next part begins, though nothing is left of it at the
+        end."""
+        reads = (0x00020337, 0x00000013, 0x00000013, 0x00032383, 0x00000013, 0x00000013, 0x00000013, 0x00000393, 0x05d00893, 0x00000073)
+        image = support.image_of_words("reads_and_clears", reads)
+        parts = side_by_side.cut(self.chain(image, 0x20000), (1, 4, 5, 6), 2)
+        with self.assertRaisesRegex(Fault, "ends otherwise than the whole one: it uses 00020000"):
+            list(side_by_side.begins(parts, self.folder, "on"))
 
     def test_one_place_for_all(self):
         """The place is one that the whole run leaves alone: rows that it changes late are no gap."""

@@ -1,24 +1,53 @@
-"""Images that begin at places of a run, each made of the one before it: so the instruction set's run is gone over once, however many there are."""
-from typing import NamedTuple, Optional
+"""Images that begin at places of a run, each made of the one before it: so a chain goes over the instruction set's run once, however many there are."""
+import subprocess
+import tempfile
+from copy import copy
+from typing import IO, NamedTuple, Optional
 
-from wadrelwy import Fault
+from wadrelwy import Fault, built_programs
 from wadrelwy.going_on import room, stub, written
 from wadrelwy.going_on.report import Report, Stretch, read_report
 from wadrelwy.going_on.standing import Standing, see_code
 from wadrelwy.machine import notes
-from wadrelwy.sweep.running import RAN, said_of
+from wadrelwy.sweep.running import RAN
 from wadrelwy.verdict.loaded import Loaded
 
 from . import touching
 
 
+class Leg:
+    """The instruction set's run of an image, under way. Its report goes into a file: to wake for each line of it costs more than the line."""
+
+    def __init__(self, program: str, image: str, steps: int, description: str) -> None:
+        self.words = ["isa", image, "--desc", description, "--steps", str(steps)]
+        self.said = tempfile.TemporaryFile("w+", encoding="utf-8", errors="replace")
+        self.child = subprocess.Popen([program, *self.words], stdout=self.said, stderr=subprocess.PIPE, text=True, errors="replace",
+                                      env=built_programs.for_short_runs())
+
+    def report(self) -> Report:
+        """What it reports, once it is over."""
+        try:
+            _, note = self.child.communicate()
+            if self.child.returncode not in RAN:
+                told = notes.told(built_programs.note_of(note), {})
+                raise Fault(f"{' '.join(self.words)}: status {self.child.returncode}, {told} (docs/using.md, \"Refusals\")")
+            self.said.seek(0)
+            return read_report(self.said.read())
+        finally:
+            self.stop()
+
+    def stop(self) -> None:
+        """Ends it, if it isn't over."""
+        assert self.child.stderr is not None
+        self.child.kill()
+        self.child.wait()
+        self.child.stderr.close()
+        self.said.close()
+
+
 def report(program: str, image: str, steps: int, description: str) -> Report:
-    """The instruction set's run of an image."""
-    words = ["isa", image, "--desc", description, "--steps", str(steps)]
-    said, note, status = said_of([program, *words])
-    if status not in RAN:
-        raise Fault(f"{' '.join(words)}: status {status}, {notes.told(note, {})} (docs/using.md, \"Refusals\")")
-    return read_report(said)
+    """The report of the instruction set's run of an image."""
+    return Leg(program, image, steps, description).report()
 
 
 def put(memory: bytearray, base: int, changed: tuple[Stretch, ...]) -> None:
@@ -42,6 +71,8 @@ class Chain:
         self.program, self.image, self.description, self.whole = program, image, description, whole
         self.memory, self.path, self.done, self.extra, self.lines = bytearray(image.memory), image.name, 0, 0, 0
         self.out: tuple[str, ...] = ()
+        self.leg: Optional[Leg] = None
+        self.aim, self.stands = 0, None  # type: int, Optional[tuple[Report, bytes]]
         self.symbols = written.symbols_of(image.name)
         standing = Standing(image, whole._replace(pc=image.entry), bytes(self.memory), frozenset(whole.rows))
         self.caches, self.size = caches, stub.SIZE + (touching.SIZE if caches else 0)
@@ -55,18 +86,45 @@ class Chain:
         put(self.memory, self.image.base, told.changed)
         self.done, self.out = steps, self.out + told.out
 
-    def to(self, steps: int) -> bytes:
-        """The image that goes on after so many steps, more than those of the one before; `path` is to be where it stands."""
-        told = report(self.program, self.path, steps - self.done + self.extra, self.description)
+    def from_the_start(self) -> "Chain":
+        """Another chain of this run, which hasn't gone on yet."""
+        other = copy(self)
+        other.memory = bytearray(self.memory)
+        return other
+
+    def begin(self, steps: int) -> None:
+        """Begins to go on from the last image to where so many steps are done, more than there."""
+        self.leg, self.aim = Leg(self.program, self.path, steps - self.done + self.extra, self.description), steps
+
+    def image_there(self) -> bytes:
+        """The image that goes on where the run stands that was begun; `path` is to be where it stands."""
+        assert self.leg is not None
+        told, self.leg = self.leg.report(), None
         if not told.goes_on:
             raise Fault(f"{self.image.name}: the run ends after {told.retired} steps behind {self.done}, and not after {self.whole.retired}")
-        self.moved(told, steps)
+        self.moved(told, self.aim)
         standing = Standing(self.image, told, bytes(self.memory), frozenset())
         see_code(standing)
         code, steps = self.touched(standing)
         code += stub.stub(self.at + len(code), told.registers, told.pc)
-        self.extra = steps + stub.STEPS
+        self.extra, self.stands = steps + stub.STEPS, (told._replace(changed=(), retired=self.aim, out=self.out), standing.memory)
         return written.elf_file(written.segments(standing, self.at, code), self.symbols, self.at)
+
+    @property
+    def note(self) -> IO[str]:
+        """What the run that was begun notes: there is something to read, if only its end, once that is over."""
+        assert self.leg is not None and self.leg.child.stderr is not None
+        return self.leg.child.stderr
+
+    def stop(self) -> None:
+        """Ends the run that was begun, if it isn't over."""
+        if self.leg is not None:
+            self.leg.stop()
+
+    def to(self, steps: int) -> bytes:
+        """The image that goes on after so many steps."""
+        self.begin(steps)
+        return self.image_there()
 
     def touched(self, standing: Standing) -> tuple[bytes, int]:
         """The code that loads what may be in the caches, and its steps."""
@@ -90,5 +148,9 @@ class Chain:
         put(memory, self.image.base, self.whole.changed)
         ended = told._replace(changed=(), retired=told.retired - left, out=self.out) == self.whole._replace(changed=(), retired=0)
         if not ended or memory != self.memory:
-            raise Fault(f"{self.image.name}: gone on with from one place to the next, the run ends otherwise than the whole one: it uses "
-                        f"{self.at:08x}, where the instructions stand that set the registers; --at ADDRESS names another place")
+            raise self.other_run()
+
+    def other_run(self) -> Fault:
+        """The refusal of a run that isn't the whole one."""
+        return Fault(f"{self.image.name}: gone on with from one place to the next, the run ends otherwise than the whole one: it uses "
+                     f"{self.at:08x}, where the instructions stand that set the registers; --at ADDRESS names another place")

@@ -17,7 +17,7 @@ from wadrelwy.sweep.results import line_of
 from wadrelwy.verdict.loaded import load
 from wadrelwy.view.description import read_description
 
-from . import chain, measuring, places
+from . import chain, measuring, places, side_by_side
 
 PLAN, QUESTION = "windows.json", "sample.json"
 # how many cycles the lines that are touched before a window take from memory, each by itself
@@ -154,18 +154,12 @@ def read_question(folder: str) -> Question:
 
 
 class Setting(NamedTuple):
-    """A description's name, what is set in it, and the file made of it, with its text."""
+    """A description's name, what is set in it, and the file made of it, with its text and the values of all its keys."""
     base: str
     values: dict[str, Any]
     description: str
     text: bytes
-
-
-class Begin(NamedTuple):
-    """An image, whose name has digits of its sha256, how many steps it takes before it goes on where its name says, and how many lines it touches."""
-    image: str
-    extra: int
-    lines: int
+    machine: dict[str, Any]
 
 
 def caches_of(values: dict[str, Any]) -> chain.Caches:
@@ -191,8 +185,9 @@ class Maker:
         self.sources = [source(path) for path in [counting, asked.image, *asked.descriptions, simulator]]
         self.simulator, self.copy = (copied(self.folder, "programs", os.path.basename(path), "", content(path), executable=True)
                                      for path in (simulator, counting))
-        also = f"{built_programs.told_name(simulator)} sha256 {self.sources[-1].sha256}, "
-        self.cited = also + cited(counting, built_programs.told_name(counting))
+        self.also = f"{built_programs.told_name(simulator)} sha256 {self.sources[-1].sha256}, "
+        # what tells the commit and the kit takes as long as ten windows do, so it is asked beside the run of the instruction set
+        self.by = ThreadPoolExecutor(1).submit(cited, counting, built_programs.told_name(counting))
         self.name = os.path.splitext(os.path.basename(asked.image))[0]
         self.wholes: dict[tuple[int, int, int], Report] = {}
         os.makedirs(os.path.join(self.folder, "results"), exist_ok=True)
@@ -201,16 +196,16 @@ class Maker:
         return os.path.join(self.folder, name)
 
     def plan_of(self, runs: list[plan.Run]) -> plan.Plan:
-        return plan.Plan(self.folder, measuring.FOREVER, plan.sets_of(self.asked)[1], self.copy, self.cited, self.sources, runs)
+        return plan.Plan(self.folder, measuring.FOREVER, plan.sets_of(self.asked)[1], self.copy, self.also + self.by.result(), self.sources, runs)
 
     def made(self) -> tuple[plan.Plan, Question]:
         parts: dict[Memory, list[Setting]] = {}
         names: set[measuring.Names] = set()
         order: list[str] = []
-        for each in plan.described(self.folder, self.asked, plan.sets_of(self.asked)[0]):
-            setting = Setting(*each)
+        for base, values, description, text in plan.described(self.folder, self.asked, plan.sets_of(self.asked)[0]):
+            setting = Setting(base, values, description, text, settings.parsed(text.decode(), description))
             names.add(tuple(measuring.names_of(self.path(self.copy), self.path(setting.description), self.asked.image)))
-            parts.setdefault(self.memory_of(setting.description), []).append(setting)
+            parts.setdefault(self.memory_of(setting.machine), []).append(setting)
             order.append(setting.description)
         wholes = {(whole.end, whole.retired) for whole in (self.whole(memory, part[0]) for memory, part in parts.items())}
         if len(wholes) > 1:
@@ -238,8 +233,7 @@ class Maker:
                     found.append(run)
         return found
 
-    def memory_of(self, description: str) -> Memory:
-        values = settings.parsed(content(self.path(description)).decode(), description)
+    def memory_of(self, values: dict[str, Any]) -> Memory:
         base, size, misaligned = (values.get(f"ram.{key}", 0) for key in ("base", "size", "misaligned"))
         return Memory(base, size, misaligned, caches_of(values) if self.asked.touch else None)
 
@@ -260,22 +254,24 @@ class Maker:
         begun, going = time.monotonic(), chain.Chain(
             self.path(self.simulator), load(asked.image, read_description(where)), where, self.whole(memory, part[0]), asked.at, memory.caches)
         starts = sorted({window.start for window in windows})
-        for done, start in enumerate(starts, 1):
-            data = going.to(start) if start else content(asked.image, IMAGE_MAX)
-            image = copied(self.folder, "images", f"{self.name}-{start}", ".elf", data)
-            begin = Begin(image, going.extra, going.lines) if start else Begin(image, 0, 0)
-            going.path = self.path(begin.image) if start else going.path
-            yield from (self.run(setting, window, begin) for window in windows if window.start == start for setting in part)
+        for done, begin in enumerate(self.begins(going, starts), 1):
+            yield from (self.run(setting, window, begin) for window in windows if window.start == begin.place for setting in part)
             running.tell(sys.stderr, "places", done, len(starts), time.monotonic() - begun)
-        going.check_end()
         running.clear(sys.stderr)
 
-    def run(self, setting: Setting, window: places.Window, begin: Begin) -> plan.Run:
+    def begins(self, going: chain.Chain, starts: list[int]) -> Iterator[side_by_side.Begin]:
+        """What begins at each of these places, as soon as it is there; at the run's begin that is the image itself."""
+        if starts[0] == 0:
+            image = copied(self.folder, "images", f"{self.name}-0", ".elf", content(self.asked.image, IMAGE_MAX))
+            yield side_by_side.Begin(0, image, 0, 0)
+        yield from side_by_side.begins(side_by_side.cut(going, [start for start in starts if start], self.asked.jobs), self.folder, self.name)
+
+    def run(self, setting: Setting, window: places.Window, begin: side_by_side.Begin) -> plan.Run:
         """A window as a run of the plan: its words are how many retire in the new image before the window, and behind it."""
         before = begin.extra + window.warm
         words = [str(before), str(before + self.asked.length)]
         name = sha256(" ".join([self.sources[0].sha256, begin.image, sha256(setting.text), *words]).encode())[:16]
-        first = begin.lines * settings.parsed(setting.text.decode(), setting.description).get("cache.miss_latency", 0)
+        first = begin.lines * setting.machine.get("cache.miss_latency", 0)
         told = setting.values | {"window": window.number, "begin": window.begin, "warm": window.warm, "longer": window.longer, FIRST_LOADS: first,
                                  CHANGE: False}
         result = os.path.join("results", f"{plain(self.name)}_{name}")
