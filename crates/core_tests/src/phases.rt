@@ -14,6 +14,7 @@ use crate::stores::STORES;
 use clear::clear;
 use complete::complete;
 use core_parts::Parts;
+use elf_loader::Image;
 use fill::fill;
 use issue::issue;
 use machine_desc::{Desc, EXAMPLE};
@@ -26,14 +27,16 @@ use std::process::Abort;
 use std::test::Fail;
 use window_model::{Entry, Event, Progress, Row, empty_row};
 
-/// The parts before the first cycle of a few words of code, at the base of memory, where fetch begins.
-pub fn parts_of<R: RenameTaint>(
+/// The parts before the first cycle of a few words of code, at the base of memory, where fetch begins. They stand in a
+/// box, since what moves them by value is dear to prove.
+pub fn parts_of<R: RenameTaint + Drop>(
     alloc: Global,
     desc: &Desc,
     words: &[u32],
-) -> Result<Parts<R>, Fail> {
-    let image = code_image(alloc, desc.takes_any_address(), words)?;
-    Ok(Parts::new(alloc, desc, image.code, image.entry, image.ram)?)
+) -> Result<Box<Parts<R>>, Fail> {
+    let Image { ram, code, entry } = code_image(alloc, desc.takes_any_address(), words)?;
+    let parts = Parts::new(alloc, desc, code, entry, ram)?;
+    Ok(Box::new(alloc, parts)?)
 }
 
 // Whether the entry is no store that executes.
@@ -111,6 +114,22 @@ fn assert_left<R: RenameTaint>(rt: &impl Abort, parts: &Parts<R>, left: &[(Progr
     }
 }
 
+// Four words come in, and then each phase goes with its events.
+fn go<R: RenameTaint>(
+    rt: &impl Abort,
+    parts: &mut Parts<R>,
+    phases: &[(u32, Phase, &'static [Event])],
+) {
+    let mut row = empty_row();
+    perform(rt, 1, Phase::Fetch, parts, &mut row);
+    perform(rt, 1, Phase::Rename, parts, &mut row);
+    assert_same(rt, &parts.rob().len(), &4);
+    for (cycle, phase, events) in phases {
+        perform(rt, *cycle, *phase, parts, &mut row);
+        assert_same(rt, &(phase, cycle, row.events()), &(phase, cycle, *events));
+    }
+}
+
 // The flight goes phase by phase as it was worked out, under this description.
 fn goes_as_worked<R: RenameTaint + Drop>(
     rt: &impl Abort,
@@ -118,15 +137,8 @@ fn goes_as_worked<R: RenameTaint + Drop>(
     desc: &Desc,
     flight: &Flight,
 ) -> Result<(), Fail> {
-    let mut parts: Parts<R> = parts_of(alloc, desc, flight.words)?;
-    let mut row = empty_row();
-    perform(rt, 1, Phase::Fetch, &mut parts, &mut row);
-    perform(rt, 1, Phase::Rename, &mut parts, &mut row);
-    assert_same(rt, &parts.rob().len(), &4);
-    for (cycle, phase, events) in flight.phases {
-        perform(rt, *cycle, *phase, &mut parts, &mut row);
-        assert_same(rt, &(phase, cycle, row.events()), &(phase, cycle, *events));
-    }
+    let mut parts: Box<Parts<R>> = parts_of(alloc, desc, flight.words)?;
+    go(rt, &mut parts, flight.phases);
     assert_left(rt, &parts, flight.left);
     Ok(())
 }
@@ -141,23 +153,33 @@ static OTHERS: [Phase; 5] = [
 ];
 
 // Two words are fetched, and before they are renamed no phase finds anything.
+fn fetches_alone<R: RenameTaint>(rt: &impl Abort, parts: &mut Parts<R>) {
+    let mut row = empty_row();
+    perform(rt, 1, Phase::Fetch, parts, &mut row);
+    let fetched = [Event::Fet(0x0001_0000), Event::Fet(0x0001_0004)];
+    assert_same(rt, &row.events(), &fetched.as_slice());
+    for &phase in &OTHERS {
+        perform(rt, 1, phase, parts, &mut row);
+        assert_same(rt, &row.events().len(), &0);
+    }
+}
+
+// Nothing has come in, and nothing keeps the first from being visible.
+fn assert_empty<R: RenameTaint>(rt: &impl Abort, parts: &Parts<R>) {
+    assert!(rt; parts.point().visible(0));
+    assert_same(rt, &(parts.rob().len(), parts.stations().len()), &(0, 0));
+}
+
+// The core of this description fetches two words, and nothing else goes.
 fn nothing_else_goes<R: RenameTaint + Drop>(
     rt: &impl Abort,
     alloc: Global,
     text: &str,
 ) -> Result<(), Fail> {
     let desc = described(alloc, text)?;
-    let mut parts: Parts<R> = parts_of(alloc, &desc, &[0x0002_a023, 0x0003_a303])?;
-    let mut row = empty_row();
-    perform(rt, 1, Phase::Fetch, &mut parts, &mut row);
-    let fetched = [Event::Fet(0x0001_0000), Event::Fet(0x0001_0004)];
-    assert_same(rt, &row.events(), &fetched.as_slice());
-    for &phase in &OTHERS {
-        perform(rt, 1, phase, &mut parts, &mut row);
-        assert_same(rt, &row.events().len(), &0);
-    }
-    assert!(rt; parts.point().visible(0));
-    assert_same(rt, &(parts.rob().len(), parts.stations().len()), &(0, 0));
+    let mut parts: Box<Parts<R>> = parts_of(alloc, &desc, &[0x0002_a023, 0x0003_a303])?;
+    fetches_alone(rt, &mut parts);
+    assert_empty(rt, &parts);
     Ok(())
 }
 

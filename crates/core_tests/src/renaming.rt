@@ -1,6 +1,5 @@
 //! Rename where there is little room, where a call comes in, and where loads pass stores; the expected values follow
-//! from
-//! `docs/machine.md`, "Rename", "Writers and roots" and "Clear".
+//! from `docs/machine.md`, "Rename", "Writers and roots" and "Clear".
 use crate::asserting::assert_same;
 use crate::descriptions::{WIDE, changed, described};
 use crate::flights::Phase;
@@ -9,6 +8,7 @@ use crate::settings::PASSING;
 use core_parts::Parts;
 use machine_desc::{Desc, EXAMPLE};
 use rename_taint::{ByScan, ByTable, RenameTaint, Source};
+use rob_ring::RobRing;
 use rv_types::Reg;
 use std::alloc::Global;
 use std::process::Abort;
@@ -35,8 +35,8 @@ fn come_in<R: RenameTaint + Drop>(
     desc: &Desc,
     words: &[u32],
     events: &[Event],
-) -> Result<Parts<R>, Fail> {
-    let mut parts: Parts<R> = parts_of(alloc, desc, words)?;
+) -> Result<Box<Parts<R>>, Fail> {
+    let mut parts: Box<Parts<R>> = parts_of(alloc, desc, words)?;
     let mut row = empty_row();
     perform(rt, 1, Phase::Fetch, &mut parts, &mut row);
     perform(rt, 1, Phase::Rename, &mut parts, &mut row);
@@ -44,8 +44,24 @@ fn come_in<R: RenameTaint + Drop>(
     Ok(parts)
 }
 
-// What the parts tell of the first three: the subtraction awaits the load, and the store both. What they read flows
-// from the load, which is the one root. The call waits for all three to retire.
+// The names after the first three: the subtraction awaits the load, and the store both. What they read flows from the
+// load, which is the one root.
+fn assert_names<R: RenameTaint>(rt: &impl Abort, table: &R) {
+    assert_same(rt, &table.source(Reg { number: 5 }), &Source::Entry(0));
+    assert_same(rt, &table.source(Reg { number: 7 }), &Source::Entry(1));
+    assert_same(rt, &table.root(Reg { number: 7 }), &Some(0));
+}
+
+// Three have come in, with one load and one store, and there is no room for another.
+fn assert_three<R: RenameTaint>(rt: &impl Abort, parts: &Parts<R>) {
+    let lsq = parts.lsq();
+    let rooms = (lsq.has_load_room(), lsq.has_store_room());
+    assert_same(rt, &(parts.rob().len(), parts.stations().len()), &(3, 3));
+    assert_same(rt, &rooms, &(false, false));
+    assert_names(rt, parts.table());
+}
+
+// The first three come in. The call waits for all three to retire.
 fn three_come_in<R: RenameTaint + Drop>(rt: &impl Abort, alloc: Global) -> Result<(), Fail> {
     let desc = narrow(rt, alloc)?;
     let events = [
@@ -53,18 +69,8 @@ fn three_come_in<R: RenameTaint + Drop>(rt: &impl Abort, alloc: Global) -> Resul
         Event::Ren(1, 0x0001_0004),
         Event::Ren(2, 0x0001_0008),
     ];
-    let parts: Parts<R> = come_in(rt, alloc, &desc, &WORDS, &events)?;
-    let table = parts.table();
-    let lsq = parts.lsq();
-    assert_same(rt, &(parts.rob().len(), parts.stations().len()), &(3, 3));
-    assert_same(
-        rt,
-        &(lsq.has_load_room(), lsq.has_store_room()),
-        &(false, false),
-    );
-    assert_same(rt, &table.source(Reg { number: 5 }), &Source::Entry(0));
-    assert_same(rt, &table.source(Reg { number: 7 }), &Source::Entry(1));
-    assert_same(rt, &table.root(Reg { number: 7 }), &Some(0));
+    let parts: Box<Parts<R>> = come_in(rt, alloc, &desc, &WORDS, &events)?;
+    assert_three(rt, &parts);
     Ok(())
 }
 
@@ -80,8 +86,16 @@ fn a_call_comes_in_alone(rt: HostRuntime) -> Result<(), Fail> {
     // ecall; addi x5,x5,7
     let words = [0x0000_0073, 0x0072_8293];
     let events = [Event::Ren(0, 0x0001_0000)];
-    let _: Parts<ByTable> = come_in(&rt, rt.alloc(), &desc, &words, &events)?;
+    let _: Box<Parts<ByTable>> = come_in(&rt, rt.alloc(), &desc, &words, &events)?;
     Ok(())
+}
+
+// Whether each of two entries is cleared.
+fn cleared(rt: &impl Abort, rob: &RobRing) -> (bool, bool) {
+    if rob.len() != 2 {
+        panic!(rt; "both come in");
+    }
+    (rob.lend(0).cleared, rob.lend(1).cleared)
 }
 
 #[test]
@@ -90,15 +104,7 @@ fn a_store_that_loads_may_pass_comes_in_uncleared(rt: HostRuntime) -> Result<(),
     // sw x5,0(x7); lw x5,0(x6)
     let words = [0x0053_a023, 0x0003_2283];
     let events = [Event::Ren(0, 0x0001_0000), Event::Ren(1, 0x0001_0004)];
-    let parts: Parts<ByTable> = come_in(&rt, rt.alloc(), &desc, &words, &events)?;
-    let rob = parts.rob();
-    if rob.len() != 2 {
-        panic!(rt; "both come in");
-    }
-    assert_same(
-        &rt,
-        &(rob.lend(0).cleared, rob.lend(1).cleared),
-        &(false, true),
-    );
+    let parts: Box<Parts<ByTable>> = come_in(&rt, rt.alloc(), &desc, &words, &events)?;
+    assert_same(&rt, &cleared(&rt, parts.rob()), &(false, true));
     Ok(())
 }
