@@ -1,8 +1,7 @@
 //! Both levels of the cache, step by step (`cache_tags`, `second_level`).
 use crate::asserting::assert_same;
-use crate::descriptions::{largest, small};
+use crate::descriptions::{example, largest, small};
 use cache_tags::Tags;
-use machine_desc::{EXAMPLE, read_desc};
 use second_level::Second;
 use std::test::Fail;
 
@@ -61,18 +60,19 @@ fn the_line_used_longest_ago_goes(rt: HostRuntime) -> Result<(), Fail> {
     Ok(())
 }
 
+// What arrives, what is then looked up, whether it is there, and which of three lines are then held.
+static LOOKS: [(u32, u32, bool, [bool; 3]); 4] = [
+    (0, 0, true, [true, false, false]),
+    (16, 0, true, [true, true, false]),
+    (32, 16, false, [true, false, true]),
+    (16, 0, false, [false, true, true]),
+];
+
 #[test]
 fn the_second_level_drops_alike(rt: HostRuntime) -> Result<(), Fail> {
     let alloc = rt.alloc();
     let mut second = Second::new(alloc, &small(alloc)?)?;
-    // What arrives, what is then looked up, whether it is there, and which of three lines are then held.
-    let rows = [
-        (0, 0, true, [true, false, false]),
-        (16, 0, true, [true, true, false]),
-        (32, 16, false, [true, false, true]),
-        (16, 0, false, [false, true, true]),
-    ];
-    for (line, looked, answer, there) in rows {
+    for &(line, looked, answer, there) in &LOOKS {
         second.fill(line);
         let answered = second.look(looked) == answer;
         let held = [second.holds(0), second.holds(16), second.holds(32)];
@@ -84,7 +84,7 @@ fn the_second_level_drops_alike(rt: HostRuntime) -> Result<(), Fail> {
 #[test]
 fn without_sets_the_second_level_has_no_line(rt: HostRuntime) -> Result<(), Fail> {
     let alloc = rt.alloc();
-    let mut second = Second::new(alloc, &read_desc(alloc, EXAMPLE.as_bytes())?)?;
+    let mut second = Second::new(alloc, &example(alloc)?)?;
     second.fill(16);
     assert!(rt; !second.holds(16) && !second.look(16));
     Ok(())

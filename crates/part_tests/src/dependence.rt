@@ -2,9 +2,8 @@
 ghost use Rattle.std.specs.Prelude.{◌<◌, length};
 
 use crate::asserting::assert_same;
-use crate::descriptions::{largest, small};
+use crate::descriptions::{example, largest, small};
 use dep_pred::DepPred;
-use machine_desc::{EXAMPLE, read_desc};
 use std::test::Fail;
 use window_model::Event;
 
@@ -41,7 +40,7 @@ fn a_bit_is_set_for_good(rt: HostRuntime) -> Result<(), Fail> {
 #[test]
 fn there_may_be_none_and_1024(rt: HostRuntime) -> Result<(), Fail> {
     let alloc = rt.alloc();
-    let _none = DepPred::new(alloc, &read_desc(alloc, EXAMPLE.as_bytes())?)?;
+    let _none = DepPred::new(alloc, &example(alloc)?)?;
     let desc = largest(alloc)?;
     assert!(rt; desc.predictor_depend == 1024);
     let mut bits = DepPred::new(alloc, &desc)?;

@@ -1,5 +1,5 @@
 //! A short program whose branch, jumps and end are fetched in turn (`fetch_unit`; `docs/machine.md`, "Fetch").
-ghost use Rattle.std.specs.Prelude.{◌≡◌, length, IfOk};
+ghost use Rattle.std.specs.Prelude.{◌≡◌, length};
 
 use crate::asserting::assert_same;
 use crate::descriptions::{largest, small};
@@ -45,58 +45,78 @@ fn code(alloc: Global, desc: &Desc) -> Result<Option<Code>, Fail> {
     }
 }
 
-// The next cycle fetches these.
-fn assert_fetches(
-    rt: &impl Abort,
-    code: &Code,
-    fetch: &mut Fetch,
-    predictor: &Predictor,
-    history: &mut History,
-    events: &[Event],
-)
-    requires same_counters { history.old.counters ≡ length predictor.now.counters }
-    ensures counters { history.new.counters ≡ history.old.counters }
-{
-    let mut row = empty_row();
-    fetch.fetch(code, predictor, history, &mut row);
-    assert_same(rt, &row.events(), &events);
+// What fetches: the code, the unit, and the predictor and the history by which it goes.
+#[derive(Drop)]
+struct Front {
+    code: Code,
+    fetch: Fetch,
+    predictor: Predictor,
+    history: History,
+    ghost same_counters: { history.counters ≡ length predictor.counters },
 }
 
-// A predictor that has learnt that the branch was taken, and that the JALR went to this address.
-fn taught(alloc: Global, desc: &Desc, history: &History, target: u32) -> Result<Predictor, Fail>
-    requires { history.now.counters ≡ desc.now.predictor_counters }
-    ensures { IfOk result (λ p. length p.counters ≡ desc.now.predictor_counters) }
-{
-    let mut predictor = Predictor::new(alloc, desc)?;
-    let _ = predictor.learn_branch(history.index(history.checkpoint(), BRANCH), true);
-    let _ = predictor.learn_target(RETURN, target);
-    Ok(predictor)
+impl Front {
+    // The unit of one description, whose queue is empty, over predictor and history of another, which have learnt
+    // nothing.
+    fn new(
+        rt: &impl Abort,
+        alloc: Global,
+        desc: &Desc,
+        other: &Desc,
+        start: u32,
+    ) -> Result<Front, Fail> {
+        let Some(code) = code(alloc, desc)? else {
+            panic!(rt; "no code");
+        };
+        Ok(Front {
+            code,
+            fetch: Fetch::new(alloc, desc, start)?,
+            predictor: Predictor::new(alloc, other)?,
+            history: History::new(other),
+        })
+    }
+
+    // The predictor learns that the branch was taken, and that the JALR went to this address.
+    fn learn(&mut self, target: u32) {
+        let place = self.history.index(self.history.checkpoint(), BRANCH);
+        let _ = self.predictor.learn_branch(place, true);
+        let _ = self.predictor.learn_target(RETURN, target);
+    }
+
+    // The next cycle fetches these.
+    fn assert_fetches(&mut self, rt: &impl Abort, events: &[Event]) {
+        let mut row = empty_row();
+        self.fetch
+            .fetch(&self.code, &self.predictor, &mut self.history, &mut row);
+        assert_same(rt, &row.events(), &events);
+    }
 }
 
 // Where an item comes from, its kind, and where fetching went on.
-fn told(item: Option<Item>) -> Option<(u32, Kind, Option<u32>)> {
+type Told = Option<(u32, Kind, Option<u32>)>;
+
+fn told(item: Option<Item>) -> Told {
     match item {
         Some(item) => Some((item.pc, item.kind, item.predicted)),
         None => None,
     }
 }
 
+// The oldest item as it is told, as it is lent, and as it is taken.
+fn oldest(fetch: &mut Fetch) -> [Told; 3] {
+    let front = told(fetch.front());
+    let lent = told(fetch.oldest().copied());
+    [front, lent, told(fetch.take())]
+}
+
 #[test]
 fn fetching_goes_on_at_the_predicted_next(rt: HostRuntime) -> Result<(), Fail> {
-    let alloc = rt.alloc();
-    let desc = small(alloc)?;
-    let Some(code) = code(alloc, &desc)? else {
-        panic!(rt; "no code");
-    };
-    let predictor = Predictor::new(alloc, &desc)?;
-    let mut fetch = Fetch::new(alloc, &desc, BRANCH)?;
-    let mut history = History::new(&desc);
+    let desc = small(rt.alloc())?;
+    let mut front = Front::new(&rt, rt.alloc(), &desc, &desc, BRANCH)?;
     // The branch is predicted not to be taken, and no target is stored.
-    let first = [Event::Fet(BRANCH), Event::Fet(JUMP)];
-    assert_fetches(&rt, &code, &mut fetch, &predictor, &mut history, &first);
-    let second = [Event::Fet(RETURN), Event::Fet(OUTSIDE)];
-    assert_fetches(&rt, &code, &mut fetch, &predictor, &mut history, &second);
-    assert_fetches(&rt, &code, &mut fetch, &predictor, &mut history, &[]);
+    front.assert_fetches(&rt, &[Event::Fet(BRANCH), Event::Fet(JUMP)]);
+    front.assert_fetches(&rt, &[Event::Fet(RETURN), Event::Fet(OUTSIDE)]);
+    front.assert_fetches(&rt, &[]);
     let items = [
         Some((BRANCH, Kind::Branch, Some(JUMP))),
         Some((JUMP, Kind::Jal, Some(RETURN))),
@@ -105,8 +125,7 @@ fn fetching_goes_on_at_the_predicted_next(rt: HostRuntime) -> Result<(), Fail> {
         None,
     ];
     for item in items {
-        let oldest = told(fetch.front()) == item && told(fetch.oldest().copied()) == item;
-        assert_same(&rt, &(oldest, told(fetch.take())), &(true, item));
+        assert_same(&rt, &oldest(&mut front.fetch), &[item; 3]);
     }
     Ok(())
 }
@@ -114,42 +133,29 @@ fn fetching_goes_on_at_the_predicted_next(rt: HostRuntime) -> Result<(), Fail> {
 #[test]
 fn fetching_goes_on_at_what_was_learnt(rt: HostRuntime) -> Result<(), Fail> {
     let alloc = rt.alloc();
-    let desc = small(alloc)?;
-    let Some(code) = code(alloc, &desc)? else {
-        panic!(rt; "no code");
-    };
-    let mut fetch = Fetch::new(alloc, &desc, BRANCH)?;
-    assert_same(&rt, &fetch.redirect(Some(RETURN)), &0);
     // Predictor and history are of another description than the fetch unit: the two have as many counters.
-    let other = largest(alloc)?;
-    let mut history = History::new(&other);
-    let predictor = taught(alloc, &other, &history, BRANCH)?;
-    let first = [Event::Fet(RETURN), Event::Fet(BRANCH)];
-    assert_fetches(&rt, &code, &mut fetch, &predictor, &mut history, &first);
-    let stop = [Event::Fet(STOP)];
-    assert_fetches(&rt, &code, &mut fetch, &predictor, &mut history, &stop);
-    fetch.drop_oldest();
-    assert!(rt; fetch.redirect(None) == 2 && fetch.front().is_none());
+    let mut front = Front::new(&rt, alloc, &small(alloc)?, &largest(alloc)?, BRANCH)?;
+    front.learn(BRANCH);
+    assert_same(&rt, &front.fetch.redirect(Some(RETURN)), &0);
+    front.assert_fetches(&rt, &[Event::Fet(RETURN), Event::Fet(BRANCH)]);
+    front.assert_fetches(&rt, &[Event::Fet(STOP)]);
+    front.fetch.drop_oldest();
+    assert!(rt; front.fetch.redirect(None) == 2 && front.fetch.front().is_none());
     Ok(())
 }
 
 // A jump and a return go in a circle, four a cycle: eight cycles fill the queue.
 #[test]
 fn the_largest_queue_has_32_items(rt: HostRuntime) -> Result<(), Fail> {
-    let alloc = rt.alloc();
-    let desc = largest(alloc)?;
-    let Some(code) = code(alloc, &desc)? else {
-        panic!(rt; "no code");
-    };
-    let mut fetch = Fetch::new(alloc, &desc, JUMP)?;
-    let mut history = History::new(&desc);
-    let predictor = taught(alloc, &desc, &history, JUMP)?;
+    let desc = largest(rt.alloc())?;
+    let mut front = Front::new(&rt, rt.alloc(), &desc, &desc, JUMP)?;
+    front.learn(JUMP);
     let circle = [Event::Fet(JUMP), Event::Fet(RETURN)];
     let twice = [circle[0], circle[1], circle[0], circle[1]];
-    for cycle in 0..9 {
-        let events: &[Event] = if cycle < 8 { &twice } else { &[] };
-        assert_fetches(&rt, &code, &mut fetch, &predictor, &mut history, events);
+    for _ in 0..8 {
+        front.assert_fetches(&rt, &twice);
     }
-    assert_same(&rt, &fetch.redirect(None), &32);
+    front.assert_fetches(&rt, &[]);
+    assert_same(&rt, &front.fetch.redirect(None), &32);
     Ok(())
 }

@@ -13,25 +13,39 @@ fn taken(mshrs: &mut Mshrs, line: u32, due: u64, from_memory: bool) -> bool {
     true
 }
 
+// When each of three lines comes.
+type Dues = (Option<u64>, Option<u64>, Option<u64>);
+
+fn dues_of(mshrs: &Mshrs) -> Dues {
+    (mshrs.find(65568), mshrs.find(65536), mshrs.find(65552))
+}
+
+// A line, whether it is from memory, whether it gets a register, and how many are free then.
+static TAKEN: [(u32, bool, bool, u32); 3] = [
+    (65568, true, true, 1),
+    (65536, false, true, 0),
+    (65552, true, false, 0),
+];
+
+// The cycle that is asked about, what comes in it; and when each of three lines comes then.
+static DUE: [(u64, Option<(u32, bool)>, Dues); 4] = [
+    (11, None, (Some(12), Some(12), None)),
+    (12, Some((65568, true)), (None, Some(12), None)),
+    (12, Some((65536, false)), (None, None, None)),
+    (12, None, (None, None, None)),
+];
+
 #[test]
 fn two_lines_arrive_in_the_order_of_taking(rt: HostRuntime) -> Result<(), Fail> {
     let alloc = rt.alloc();
     let mut mshrs = Mshrs::new(alloc, &small(alloc)?)?;
-    for (line, from_memory, free) in [(65568, true, 1), (65536, false, 0)] {
-        assert!(rt; taken(&mut mshrs, line, 12, from_memory) && mshrs.free() == free);
+    for &(line, from_memory, is_taken, free) in &TAKEN {
+        let told = (taken(&mut mshrs, line, 12, from_memory), mshrs.free());
+        assert_same(&rt, &(line, told), &(line, (is_taken, free)));
     }
-    assert!(rt; !taken(&mut mshrs, 65552, 12, true));
-    // The cycle that is asked about, what comes in it; and when each of three lines comes then.
-    let rows = [
-        (11, None, [Some(12), Some(12), None]),
-        (12, Some((65568, true)), [None, Some(12), None]),
-        (12, Some((65536, false)), [None, None, None]),
-        (12, None, [None, None, None]),
-    ];
-    for (cycle, want, dues) in rows {
-        let found = mshrs.due(cycle) == want;
-        let told = [mshrs.find(65568), mshrs.find(65536), mshrs.find(65552)];
-        assert_same(&rt, &(found, told), &(true, dues));
+    for &(cycle, want, dues) in &DUE {
+        let told = (mshrs.due(cycle), dues_of(&mshrs));
+        assert_same(&rt, &told, &(want, dues));
     }
     assert!(rt; mshrs.len() == 0 && mshrs.misses().is_empty());
     Ok(())

@@ -13,108 +13,89 @@ use std::test::Fail;
 use visibility::VisPoint;
 use window_model::{Entry, Progress};
 
-// Whether the first entry, the load behind it and what comes next are visible.
-fn seen(alloc: Global, desc: &Desc, first: Entry, load: Entry) -> Result<[bool; 3], NoMemory>
-    requires older { first.serial ≡ 2 }
-    requires younger { load.serial ≡ 5 }
-{
-    let mut rob = RobRing::new(alloc, desc)?;
-    rob.push(first);
-    rob.push(load);
-    let mut point = VisPoint::new(desc);
-    point.advance(&rob);
-    Ok([point.visible(2), point.visible(5), point.visible(6)])
-}
-
 // A branch that is resolved or isn't, or a store that is cleared or isn't, with serial 2.
-fn first(word: Word, resolved: bool, cleared: bool) -> Entry
+fn first(word: Word, settled: bool) -> Entry
     ensures { result.serial ≡ 2 }
 {
     Entry {
-        resolved,
-        cleared,
+        resolved: settled,
+        cleared: settled,
         ..entry_of(2, word, Progress::Done)
     }
 }
 
-// A load with serial 5.
-fn load(state: Progress, fault: Option<Cause>) -> Entry
+// A load with serial 5, with a fault or not.
+fn load(state: Progress, is_faulty: bool) -> Entry
     ensures { result.serial ≡ 5 }
 {
+    let fault = if is_faulty {
+        Some(Cause::load_outside())
+    } else {
+        None
+    };
     with_outcome(entry_of(5, Word::Load, state), 0, 0x10008, fault)
 }
+
+// The older entry, whether it is resolved or cleared, how far the load behind it is and whether that has a fault.
+type Two = (Word, bool, Progress, bool);
+
+// Whether the first entry, the load behind it and what comes next are visible.
+fn seen(alloc: Global, desc: &Desc, two: &Two) -> Result<(bool, bool, bool), NoMemory> {
+    let (word, settled, state, is_faulty) = *two;
+    let mut rob = RobRing::new(alloc, desc)?;
+    rob.push(first(word, settled));
+    rob.push(load(state, is_faulty));
+    let mut point = VisPoint::new(desc);
+    point.advance(&rob);
+    Ok((point.visible(2), point.visible(5), point.visible(6)))
+}
+
+// Two entries; what is visible under spectre, and under futuristic.
+static ROWS: [(Two, (bool, bool, bool), (bool, bool, bool)); 6] = [
+    (
+        (Word::Branch, false, Progress::Done, false),
+        (true, false, false),
+        (true, false, false),
+    ),
+    (
+        (Word::Branch, true, Progress::Waiting, false),
+        (true, true, true),
+        (true, true, false),
+    ),
+    (
+        (Word::Branch, true, Progress::Done, true),
+        (true, true, true),
+        (true, true, false),
+    ),
+    (
+        (Word::Branch, true, Progress::Done, false),
+        (true, true, true),
+        (true, true, true),
+    ),
+    (
+        (Word::Store, false, Progress::Done, false),
+        (true, false, false),
+        (true, false, false),
+    ),
+    (
+        (Word::Store, true, Progress::Done, false),
+        (true, true, true),
+        (true, true, true),
+    ),
+];
 
 #[test]
 fn the_point_stands_at_what_keeps_younger_ones_hidden(rt: HostRuntime) -> Result<(), Fail> {
     let alloc = rt.alloc();
-    let fault = Some(Cause::load_outside());
-    let (waiting, done) = (Progress::Waiting, Progress::Done);
-    let (branch, store) = (Word::Branch, Word::Store);
-    // The older one, whether it is resolved or cleared, and the load; what is visible under spectre, and under
-    // futuristic.
-    let rows = [
-        (
-            branch,
-            false,
-            done,
-            None,
-            [true, false, false],
-            [true, false, false],
-        ),
-        (
-            branch,
-            true,
-            waiting,
-            None,
-            [true, true, true],
-            [true, true, false],
-        ),
-        (
-            branch,
-            true,
-            done,
-            fault,
-            [true, true, true],
-            [true, true, false],
-        ),
-        (
-            branch,
-            true,
-            done,
-            None,
-            [true, true, true],
-            [true, true, true],
-        ),
-        (
-            store,
-            false,
-            done,
-            None,
-            [true, false, false],
-            [true, false, false],
-        ),
-        (
-            store,
-            true,
-            done,
-            None,
-            [true, true, true],
-            [true, true, true],
-        ),
-    ];
     let spectre = under(alloc, "spectre")?;
     let futuristic = under(alloc, "futuristic")?;
-    for (word, settled, state, fault, under_spectre, under_futuristic) in rows {
-        let older = first(word, settled, settled);
-        let load = load(state, fault);
-        let told = [
-            seen(alloc, &spectre, older, load)?,
-            seen(alloc, &futuristic, older, load)?,
-        ];
+    for (two, under_spectre, under_futuristic) in &ROWS {
+        let told = (seen(alloc, &spectre, two)?, seen(alloc, &futuristic, two)?);
+        let settled = two.1;
         assert_same(
             &rt,
             &(settled, told),
-            &(settled, [under_spectre, under_futuristic]),
+            &(settled, (*under_spectre, *under_futuristic)),
         );
     }
     Ok(())

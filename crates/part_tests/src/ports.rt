@@ -26,7 +26,7 @@ fn two_units_and_one_of_each_other_port(rt: HostRuntime) -> Result<(), Fail> {
     ];
     for cycle in 1..3 {
         ports.begin(cycle);
-        for (kind, granted) in rows {
+        for &(kind, granted) in &rows {
             let told = [ports.has(kind), ports.grant(kind)];
             assert_same(&rt, &(cycle, kind, told), &(cycle, kind, [granted; 2]));
         }
@@ -72,20 +72,21 @@ fn go(ports: &mut Ports, step: Step) {
     }
 }
 
+// Steps, whether the divider is free then, from when on, and who used it last.
+static STEPS: [(Step, bool, u64, Option<u64>); 7] = [
+    (Step::Begin(4), true, 0, None),
+    (Step::Divide(9, 12), false, 9, Some(12)),
+    (Step::Drop(13), false, 9, Some(12)),
+    (Step::Begin(8), false, 9, Some(12)),
+    (Step::Begin(9), true, 9, Some(12)),
+    (Step::Divide(30, 14), false, 30, Some(14)),
+    (Step::Drop(14), true, 0, None),
+];
+
 #[test]
 fn the_divider_is_used_and_freed(rt: HostRuntime) -> Result<(), Fail> {
     let mut ports = Ports::new(&small(rt.alloc())?);
-    // Steps, whether the divider is free then, from when on, and who used it last.
-    let rows = [
-        (Step::Begin(4), true, 0, None),
-        (Step::Divide(9, 12), false, 9, Some(12)),
-        (Step::Drop(13), false, 9, Some(12)),
-        (Step::Begin(8), false, 9, Some(12)),
-        (Step::Begin(9), true, 9, Some(12)),
-        (Step::Divide(30, 14), false, 30, Some(14)),
-        (Step::Drop(14), true, 0, None),
-    ];
-    for (step, free, free_from, user) in rows {
+    for &(step, free, free_from, user) in &STEPS {
         go(&mut ports, step);
         let told = ports.divider() == Divider { free_from, user };
         assert_same(

@@ -6,7 +6,7 @@ use std::test::Fail;
 use window_model::Event;
 
 // How a branch goes, its counter then, and what is predicted.
-const WAYS: [(bool, u8, bool); 9] = [
+static WAYS: [(bool, u8, bool); 9] = [
     (true, 2, true),
     (true, 3, true),
     (true, 3, true),
@@ -25,7 +25,7 @@ const BRANCH: u32 = 1;
 fn a_counter_moves_between_0_and_3(rt: HostRuntime) -> Result<(), Fail> {
     let alloc = rt.alloc();
     let mut predictor = Predictor::new(alloc, &small(alloc)?)?;
-    for (taken, counter, predicted) in WAYS {
+    for &(taken, counter, predicted) in &WAYS {
         let event = predictor.learn_branch(BRANCH, taken);
         let learnt = event == Event::Bp(BRANCH, counter);
         let told = [predictor.direction(BRANCH), predictor.direction(0)];
@@ -43,20 +43,21 @@ const JUMP: u32 = 0x1000c;
 
 const SAME_PLACE: u32 = 0x1001c;
 
+// Where a JALR went, and what is predicted of the two then.
+static JUMPS: [(u32, u32, (Option<u32>, Option<u32>)); 2] = [
+    (JUMP, 0x20000, (Some(0x20000), None)),
+    (SAME_PLACE, 0x30000, (None, Some(0x30000))),
+];
+
 #[test]
 fn a_target_is_for_its_own_address(rt: HostRuntime) -> Result<(), Fail> {
     let alloc = rt.alloc();
     let mut predictor = Predictor::new(alloc, &small(alloc)?)?;
     assert!(rt; predictor.target(JUMP).is_none());
-    // Where a JALR went, and what is predicted of the two then.
-    let rows = [
-        (JUMP, 0x20000, [Some(0x20000), None]),
-        (SAME_PLACE, 0x30000, [None, Some(0x30000)]),
-    ];
-    for (pc, target, want) in rows {
-        let learnt = predictor.learn_target(pc, target) == Event::Bt(3, target);
-        let told = [predictor.target(JUMP), predictor.target(SAME_PLACE)];
-        assert_same(&rt, &(pc, learnt, told), &(pc, true, want));
+    for &(pc, target, want) in &JUMPS {
+        let event = predictor.learn_target(pc, target);
+        let told = (predictor.target(JUMP), predictor.target(SAME_PLACE));
+        assert_same(&rt, &(event, told), &(Event::Bt(3, target), want));
     }
     Ok(())
 }

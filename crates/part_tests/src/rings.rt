@@ -1,6 +1,6 @@
 //! A ring that is filled, changed and emptied again, and the positions of serials with gaps (`rob_ring`;
 //! `docs/machine.md`, "Entries" and "Safe and visible").
-ghost use Rattle.std.specs.Prelude.{◌≡◌};
+ghost use Rattle.std.specs.Prelude.{◌≡◌, IfOk};
 ghost use Rattle.window_model.specs.Serials.{Rise};
 
 use crate::asserting::assert_same;
@@ -13,10 +13,28 @@ use std::process::Abort;
 use std::test::Fail;
 use window_model::{Entry, Progress, Window};
 
+// An entry that is put into a ring.
+#[derive(Clone, Copy)]
+enum Which {
+    Branch,
+    Faulty,
+}
+
+// A branch with serial 4 that waits, or a load with serial 7 and a fault.
+fn entry_to_put(which: Which) -> Entry {
+    match which {
+        Which::Branch => entry_of(4, Word::Branch, Progress::Waiting),
+        Which::Faulty => {
+            let fault = Some(Cause::load_outside());
+            with_outcome(entry_of(7, Word::Load, Progress::Done), 5, 4, fault)
+        }
+    }
+}
+
 // What is done with a ring, at a position.
 #[derive(Clone, Copy)]
 enum Step {
-    Set(u32, Entry),
+    Set(u32, Which),
     Resolve(u32),
     Clear(u32),
     Finish(u32),
@@ -28,7 +46,7 @@ enum Step {
 fn go(rt: &impl Abort, ring: &mut RobRing, step: Step) {
     let len = ring.len();
     match step {
-        Step::Set(i, entry) if i < len => ring.set(i, entry),
+        Step::Set(i, which) if i < len => ring.set(i, entry_to_put(which)),
         Step::Resolve(i) if i < len => ring.resolve(i),
         Step::Clear(i) if i < len => ring.clear(i),
         Step::Finish(i) if i < len => ring.finish(i),
@@ -39,12 +57,14 @@ fn go(rt: &impl Abort, ring: &mut RobRing, step: Step) {
 }
 
 // Who executes, who isn't settled and who isn't safe: the first from a position on.
-fn next(ring: &RobRing, from: u32) -> [Option<u32>; 3] {
-    [
+type Next = (Option<u32>, Option<u32>, Option<u32>);
+
+fn next(ring: &RobRing, from: u32) -> Next {
+    (
         ring.next_busy(from),
         ring.next_open(from),
         ring.next_unsafe(from),
-    ]
+    )
 }
 
 // The youngest entry of a window.
@@ -64,86 +84,82 @@ fn serial_of(entry: Option<Entry>) -> Option<u64> {
 }
 
 // How many there are, and the serials of the oldest and the youngest.
-fn ends(ring: &RobRing) -> (u32, [Option<u64>; 2]) {
-    let serials = [serial_of(ring.head()), serial_of(youngest(ring))];
-    (ring.len(), serials)
+type Ends = (u32, Option<u64>, Option<u64>);
+
+fn ends(ring: &RobRing) -> Ends {
+    (
+        ring.len(),
+        serial_of(ring.head()),
+        serial_of(youngest(ring)),
+    )
 }
 
 // A load that executes, a branch, a store that isn't cleared, and an addition that executes.
-fn four(alloc: Global, branch: Entry) -> Result<RobRing, Fail> {
+fn four(alloc: Global) -> Result<RobRing, Fail> {
     let store = Entry {
         cleared: false,
         ..entry_of(7, Word::Store, Progress::Done)
     };
     let mut ring = RobRing::new(alloc, &small(alloc)?)?;
     ring.push(entry_of(3, Word::Load, Progress::Busy(9)));
-    ring.push(branch);
+    ring.push(entry_to_put(Which::Branch));
     ring.push(store);
     ring.push(entry_of(8, Word::Sum, Progress::Busy(9)));
     Ok(ring)
 }
 
+// Steps, how many entries there are then, the serials of the oldest and the youngest, and who is told first.
+static STEPS: [(Step, Ends, Next); 11] = [
+    (
+        Step::Finish(0),
+        (4, Some(3), Some(8)),
+        (Some(3), Some(1), Some(1)),
+    ),
+    (
+        Step::Resolve(1),
+        (4, Some(3), Some(8)),
+        (Some(3), Some(2), Some(2)),
+    ),
+    // To be resolved is nothing to a store.
+    (
+        Step::Resolve(2),
+        (4, Some(3), Some(8)),
+        (Some(3), Some(2), Some(2)),
+    ),
+    (Step::Clear(2), (4, Some(3), Some(8)), (Some(3), None, None)),
+    (Step::Pop, (3, Some(4), Some(8)), (Some(2), None, None)),
+    (
+        Step::Set(0, Which::Branch),
+        (3, Some(4), Some(8)),
+        (Some(2), Some(0), Some(0)),
+    ),
+    (
+        Step::Set(1, Which::Faulty),
+        (3, Some(4), Some(8)),
+        (Some(2), Some(0), Some(0)),
+    ),
+    (
+        Step::Resolve(0),
+        (3, Some(4), Some(8)),
+        (Some(2), None, Some(1)),
+    ),
+    (
+        Step::Finish(2),
+        (3, Some(4), Some(8)),
+        (None, None, Some(1)),
+    ),
+    (Step::Cut(1), (1, Some(4), Some(4)), (None, None, None)),
+    (Step::Pop, (0, None, None), (None, None, None)),
+];
+
 #[test]
 fn a_ring_tells_what_its_entries_are(rt: HostRuntime) -> Result<(), Fail> {
-    let branch = entry_of(4, Word::Branch, Progress::Waiting);
-    let mut ring = four(rt.alloc(), branch)?;
-    assert_same(&rt, &ends(&ring), &(4, [Some(3), Some(8)]));
-    assert_same(&rt, &next(&ring, 0), &[Some(0), Some(1), Some(0)]);
-    let fault = Some(Cause::load_outside());
-    let faulty = with_outcome(entry_of(7, Word::Load, Progress::Done), 5, 4, fault);
-    // Steps, how many entries there are then, the serials of the oldest and the youngest, and who is told first.
-    let rows = [
-        (
-            Step::Finish(0),
-            4,
-            [Some(3), Some(8)],
-            [Some(3), Some(1), Some(1)],
-        ),
-        (
-            Step::Resolve(1),
-            4,
-            [Some(3), Some(8)],
-            [Some(3), Some(2), Some(2)],
-        ),
-        // To be resolved is nothing to a store.
-        (
-            Step::Resolve(2),
-            4,
-            [Some(3), Some(8)],
-            [Some(3), Some(2), Some(2)],
-        ),
-        (Step::Clear(2), 4, [Some(3), Some(8)], [Some(3), None, None]),
-        (Step::Pop, 3, [Some(4), Some(8)], [Some(2), None, None]),
-        (
-            Step::Set(0, branch),
-            3,
-            [Some(4), Some(8)],
-            [Some(2), Some(0), Some(0)],
-        ),
-        (
-            Step::Set(1, faulty),
-            3,
-            [Some(4), Some(8)],
-            [Some(2), Some(0), Some(0)],
-        ),
-        (
-            Step::Resolve(0),
-            3,
-            [Some(4), Some(8)],
-            [Some(2), None, Some(1)],
-        ),
-        (
-            Step::Finish(2),
-            3,
-            [Some(4), Some(8)],
-            [None, None, Some(1)],
-        ),
-        (Step::Cut(1), 1, [Some(4), Some(4)], [None; 3]),
-        (Step::Pop, 0, [None, None], [None; 3]),
-    ];
-    for (step, len, serials, told) in rows {
+    let mut ring = four(rt.alloc())?;
+    assert_same(&rt, &ends(&ring), &(4, Some(3), Some(8)));
+    assert_same(&rt, &next(&ring, 0), &(Some(0), Some(1), Some(0)));
+    for &(step, wanted, told) in &STEPS {
         go(&rt, &mut ring, step);
-        assert_same(&rt, &(ends(&ring), next(&ring, 0)), &((len, serials), told));
+        assert_same(&rt, &(ends(&ring), next(&ring, 0)), &(wanted, told));
     }
     Ok(())
 }
@@ -185,16 +201,31 @@ fn found(ring: &RobRing, serial: u64) -> Option<u32>
     }
 }
 
-#[test]
+// A ring of two entries, with serials 3 and 7.
 #[tactic(auto, using(window_model::proofs::Serials::rise_push))]
-fn serials_have_positions(rt: HostRuntime) -> Result<(), Fail> {
-    let alloc = rt.alloc();
+fn with_a_gap(alloc: Global) -> Result<RobRing, Fail>
+    ensures rise { IfOk result (λ r. Rise r.entries) }
+{
     let mut ring = RobRing::new(alloc, &small(alloc)?)?;
     ring.push(entry(3));
     ring.push(entry(7));
+    Ok(ring)
+}
+
+// Serials, how many entries have smaller ones, and the position of the entry that has it.
+static POSITIONS: [(u64, u32, Option<u32>); 4] = [
+    (3, 0, Some(0)),
+    (4, 1, None),
+    (7, 1, Some(1)),
+    (8, 2, None),
+];
+
+#[test]
+fn serials_have_positions(rt: HostRuntime) -> Result<(), Fail> {
+    let ring = with_a_gap(rt.alloc())?;
+    assert!(rt; ring.len() == 2);
     assert_same(&rt, &ring.at(1), &entry(7));
-    let rows = [(3, 0, Some(0)), (4, 1, None), (7, 1, Some(1)), (8, 2, None)];
-    for (serial, position, place) in rows {
+    for &(serial, position, place) in &POSITIONS {
         let told = (ring.position_of(serial), found(&ring, serial));
         assert_same(&rt, &(serial, told), &(serial, (position, place)));
     }
@@ -242,26 +273,26 @@ fn full(rt: &impl Abort, alloc: Global) -> Result<RobRing, Fail> {
     Ok(filling.ring)
 }
 
+// The position from which on it is asked, and who executes from there on.
+static BUSY: [(u32, Option<u32>); 4] = [(0, Some(0)), (1, Some(70)), (71, Some(140)), (141, None)];
+
+// Those once the oldest has gone.
+static BUSY_THEN: [(u32, Option<u32>); 3] = [(0, Some(69)), (70, Some(139)), (140, None)];
+
+// Those execute, and the one at this position is the first that isn't settled or safe.
+fn assert_next(rt: &impl Abort, ring: &RobRing, rows: &[(u32, Option<u32>)], open: u32) {
+    for &(from, busy) in rows {
+        let wanted = (busy, Some(open), Some(open));
+        assert_same(rt, &(from, next(ring, from)), &(from, wanted));
+    }
+}
+
 #[test]
 fn the_largest_ring_has_192_entries(rt: HostRuntime) -> Result<(), Fail> {
     let mut ring = full(&rt, rt.alloc())?;
-    assert_same(&rt, &ends(&ring), &(192, [Some(0), Some(191)]));
-    // The position from which on it is asked, and who executes from there on.
-    let rows = [(0, Some(0)), (1, Some(70)), (71, Some(140)), (141, None)];
-    for (from, busy) in rows {
-        assert_same(
-            &rt,
-            &(from, next(&ring, from)),
-            &(from, [busy, Some(191), Some(191)]),
-        );
-    }
+    assert_same(&rt, &ends(&ring), &(192, Some(0), Some(191)));
+    assert_next(&rt, &ring, &BUSY, 191);
     go(&rt, &mut ring, Step::Pop);
-    for (from, busy) in [(0, Some(69)), (70, Some(139)), (140, None)] {
-        assert_same(
-            &rt,
-            &(from, next(&ring, from)),
-            &(from, [busy, Some(190), Some(190)]),
-        );
-    }
+    assert_next(&rt, &ring, &BUSY_THEN, 190);
     Ok(())
 }
