@@ -63,7 +63,8 @@ impl Counts {
         }
     }
 
-    /// Counts an event that tells no amount, and says whether it is one.
+    /// Counts an event if it tells no amount, and says whether it tells none. One that tells an amount changes no
+    /// number.
     #[inline(always)]
     pub fn count_plain(&mut self, event: &Event) -> bool
         ensures plain { result ≡ is_plain event.now }

@@ -67,7 +67,7 @@ fn store_place(found: bool) -> usize
     if found { 31 } else { 32 }
 }
 
-/// The place of the number to which an event adds one that tells no amount. `None`: it tells one.
+/// The place of the number to which an event that tells no amount adds one. `None`: it tells an amount.
 #[tactic(auto, unfolding(crate::specs::Counted::names))]
 pub(crate) fn plain_place(event: &Event) -> Option<usize>
     ensures at { MatchOption result (is_plain event.now ≡ false)
@@ -99,7 +99,7 @@ pub(crate) fn plain_place(event: &Event) -> Option<usize>
     }
 }
 
-// The place of the number to which an event adds one that tells an amount, by the event right before it in its cycle.
+// The place of the number to which an event that tells an amount adds one, by the event right before it in its cycle.
 #[tactic(auto, unfolding(crate::specs::Counted::names))]
 fn told_place(before: Option<Event>, event: Event) -> usize
     requires { is_plain event ≡ false }
@@ -109,6 +109,7 @@ fn told_place(before: Option<Event>, event: Event) -> usize
     match event {
         Event::Sq(_) => squash_place(before),
         Event::Call(_, _) => 33,
+        // a division: nothing else tells an amount
         _ => 5,
     }
 }

@@ -48,7 +48,7 @@ seen d code (suc n) x past =
     unless_ended x.end []
     (let c = cycle d code x in record { row = c.row; charge = charge_of d past x c } ∷ seen d code n c.machine (past_after d past c.row.events))
 
--- what is known after at most n cycles of the last one
+-- what is known of the last cycle, after at most n of them; after none, what was known before
 abbrev pub past_at : Desc → Code → ℕ → Machine → Past → Past
 past_at d code zero x past = past
 past_at d code (suc n) x past =

@@ -56,7 +56,8 @@ fn first_of(renamed: Option<u64>, serial: u64) -> Option<u64>
     }
 }
 
-// Tells what is known behind an event that tells no amount: it may rename or fetch.
+// Tells what is known behind an event that tells no amount: it may rename or fetch. Behind any other event it leaves
+// what is known.
 #[inline(always)]
 fn walk_plain(event: &Event, known: &mut Walked)
     ensures plain { is_plain event.now ≡ true
@@ -89,8 +90,8 @@ fn walk_told(behind_bit: bool, event: &Event, known: &mut Walked)
     }
 }
 
-// Counts the event at a place, whichever it is, and says whether it comes right behind a bit of dependence. The walk
-// over a row is built without this, for few events tell an amount.
+// Counts the event at a place, whichever it is, and says whether it comes right behind a bit of dependence. It stays a
+// call of its own, and isn't built into the walk over a row, since few events tell an amount.
 #[cold]
 #[inline(never)]
 fn count_told(counts: &mut Counts, events: &[Event], place: usize) -> bool

@@ -15,14 +15,14 @@ BUILD = {SIMULATOR: 'docs/using.md, "Before you start"', SECRETS: 'docs/secrets.
 UNPROVED = "unproved"
 
 
-# what the C library is told, if it is glibc: memory comes in large pages, where the system has them for who asks, and none of it goes back before the
-# end. A program takes 15 bytes for each one that an image spans, which is all of RAM where a stack stands at its end: handed out page by page, that
-# takes longer than all else before the first step
+# what the C library is told, if it is glibc: memory comes in large pages, where the system has them for who asks, and what is smaller than 32 MiB comes
+# from one heap, of which that much is kept. A program takes several bytes for each one that an image spans, which is all of RAM where a stack stands at
+# its end: handed out page by page, that takes longer than all else before the first step
 LARGE_PAGES = {"GLIBC_TUNABLES": "glibc.malloc.hugetlb=1:glibc.malloc.mmap_threshold=33554432:glibc.malloc.trim_threshold=33554432"}
 
 
-def for_short_runs() -> dict[str, str]:
-    """The environment of runs that are short and many."""
+def with_large_pages() -> dict[str, str]:
+    """The environment of a run that has its memory in large pages, where nothing else is told to the C library."""
     return LARGE_PAGES | os.environ
 
 

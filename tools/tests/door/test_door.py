@@ -196,13 +196,13 @@ class Programs(unittest.TestCase):
             os.environ["STT_STATS"] = here
             self.assertEqual(built_programs.counting(both), here)
 
-    def test_environment_of_short_runs(self):
+    def test_environment_with_large_pages(self):
         """It is that of the command with what glibc is told, unless that is told something else."""
         with mock.patch.dict(os.environ, {"ELSE": "1"}):
             os.environ.pop("GLIBC_TUNABLES", None)
-            self.assertEqual(built_programs.for_short_runs(), os.environ | built_programs.LARGE_PAGES)
+            self.assertEqual(built_programs.with_large_pages(), os.environ | built_programs.LARGE_PAGES)
             os.environ["GLIBC_TUNABLES"] = "glibc.malloc.check=0"
-            self.assertEqual(built_programs.for_short_runs(), os.environ)
+            self.assertEqual(built_programs.with_large_pages(), os.environ)
 
     def test_one_that_is_named_and_not_there_is_no_other(self):
         self.assertIsNone(self.found("stt_cli", "/nowhere/at/all"))

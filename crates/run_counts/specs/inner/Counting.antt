@@ -5,8 +5,8 @@ use Rattle.window_model.specs.declared.Event.{Event}
 use Rattle.window_model.specs.declared.Event.TheVariants.{Sq, Call, Div}
 use Rattle.run_counts.specs.Counted.{name_of, further_of, as_told}
 
--- the event tells no amount, so it adds one to a number that it names by itself, whatever comes before it: it is no
--- division, squash or call
+-- the event is no division, squash or call: it tells no amount, and adds one to a number that it names by itself,
+-- whatever comes before it
 abbrev pub is_plain : Event → Bool
 is_plain (Div serial time) = false
 is_plain (Sq count) = false

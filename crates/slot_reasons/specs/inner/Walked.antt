@@ -9,6 +9,6 @@ abbrev pub has_bit : Option Event → Bool
 has_bit None = false
 has_bit (Some event) = is_bit event
 
--- the event at a place
+-- the event at a place that has one; elsewhere `Fill 0`, of which nothing is said
 abbrev pub event_at : ℕ → List Event → Event
 event_at place events = slice_index_or events place (Fill 0)

@@ -1,4 +1,4 @@
-"""Images that begin at places of a run, each made of the one before it: so a chain goes over the instruction set's run once, however many there are."""
+"""Images that begin at places of a run, each made of the one before it: so a chain goes over the instruction set's run once, however many they are."""
 import subprocess
 import tempfile
 from copy import copy
@@ -22,7 +22,7 @@ class Leg:
         self.words = ["isa", image, "--desc", description, "--steps", str(steps)]
         self.said = tempfile.TemporaryFile("w+", encoding="utf-8", errors="replace")
         self.child = subprocess.Popen([program, *self.words], stdout=self.said, stderr=subprocess.PIPE, text=True, errors="replace",
-                                      env=built_programs.for_short_runs())
+                                      env=built_programs.with_large_pages())
 
     def report(self) -> Report:
         """What it reports, once it is over."""

@@ -182,9 +182,9 @@ class Found:
     @cached_property
     def estimates(self) -> list[Estimate]:
         """One of each description and what is set in it."""
-        return list(self.estimated())
+        return list(self.each_estimate())
 
-    def estimated(self) -> Iterator[Estimate]:
+    def each_estimate(self) -> Iterator[Estimate]:
         settings = dict.fromkeys(of_setting(run) for run, _ in self.measured)
         for base, values in settings:
             here = [(run, taken) for run, taken in self.measured if of_setting(run) == (base, values)]

@@ -180,7 +180,7 @@ def lines_of(child: "subprocess.Popen[bytes]") -> Iterator[str]:
 
 def begun(window: Window, rows: int, notes_to: IO[bytes]) -> "subprocess.Popen[bytes]":
     words = [window.program, window.description, window.image, "--cycles", str(FOREVER), "--every", str(rows)]
-    return subprocess.Popen(words, stdout=subprocess.PIPE, stderr=notes_to, start_new_session=True, env=built_programs.for_short_runs())
+    return subprocess.Popen(words, stdout=subprocess.PIPE, stderr=notes_to, start_new_session=True, env=built_programs.with_large_pages())
 
 
 def measured(window: Window, names: Names, children: "set[subprocess.Popen[bytes]]") -> Taken:

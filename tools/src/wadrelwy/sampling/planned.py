@@ -177,7 +177,8 @@ class Memory(NamedTuple):
 
 
 class Maker:
-    """Makes a plan: the windows are those of the image's run, their images one chain for each memory, and caches, that the descriptions give.
+    """Makes a plan: the windows are those of the image's run, their images those of a chain, or of two side by side, for each memory, and caches, that the
+    descriptions give.
     Windows are measured as soon as their image is there, unless lists of them are asked for."""
 
     def __init__(self, asked: Namespace, simulator: str, counting: str, words: dict[str, Any]) -> None:
@@ -185,9 +186,9 @@ class Maker:
         self.sources = [source(path) for path in [counting, asked.image, *asked.descriptions, simulator]]
         self.simulator, self.copy = (copied(self.folder, "programs", os.path.basename(path), "", content(path), executable=True)
                                      for path in (simulator, counting))
-        self.also = f"{built_programs.told_name(simulator)} sha256 {self.sources[-1].sha256}, "
+        self.simulator_cited = f"{built_programs.told_name(simulator)} sha256 {self.sources[-1].sha256}, "
         # what tells the commit and the kit takes as long as ten windows do, so it is asked beside the run of the instruction set
-        self.by = ThreadPoolExecutor(1).submit(cited, counting, built_programs.told_name(counting))
+        self.counting_cited = ThreadPoolExecutor(1).submit(cited, counting, built_programs.told_name(counting))
         self.name = os.path.splitext(os.path.basename(asked.image))[0]
         self.wholes: dict[tuple[int, int, int], Report] = {}
         os.makedirs(os.path.join(self.folder, "results"), exist_ok=True)
@@ -196,7 +197,8 @@ class Maker:
         return os.path.join(self.folder, name)
 
     def plan_of(self, runs: list[plan.Run]) -> plan.Plan:
-        return plan.Plan(self.folder, measuring.FOREVER, plan.sets_of(self.asked)[1], self.copy, self.also + self.by.result(), self.sources, runs)
+        return plan.Plan(self.folder, measuring.FOREVER, plan.sets_of(self.asked)[1], self.copy, self.simulator_cited + self.counting_cited.result(),
+                         self.sources, runs)
 
     def made(self) -> tuple[plan.Plan, Question]:
         parts: dict[Memory, list[Setting]] = {}

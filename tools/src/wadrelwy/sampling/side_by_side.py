@@ -58,7 +58,7 @@ def cut(going: Chain, places: Sequence[int], most: int) -> list[Part]:
 
 
 def first_over(parts: Sequence[Part]) -> Part:
-    """The first part whose run to its next place is over, or notes something."""
+    """The first part whose run to its next place is over. One that notes something, as a program without proofs does at once, is waited for."""
     with selectors.DefaultSelector() as selector:
         for part in parts:
             selector.register(part.going.note, selectors.EVENT_READ, part)
