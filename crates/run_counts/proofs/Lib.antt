@@ -1,4 +1,5 @@
 pub mod Adding
+pub mod AtMost
 pub mod Distinct
 pub mod Each
 pub mod Events

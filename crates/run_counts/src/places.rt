@@ -1,7 +1,7 @@
 //! Where a number stands that an event adds to.
 ghost use Rattle.std.specs.Prelude.{◌≡◌, ◌<◌, MatchOption, IfSome, List, ℕ, Some, None, false, slice_get, true};
 ghost use Rattle.run_counts.specs.Counted.{names, load_name, prefetch_name, way_name, store_name, squash_name, name_of, further_of};
-ghost use Rattle.run_counts.specs.inner.Counting.{is_plain};
+ghost use Rattle.run_counts.specs.inner.Counting.{is_plain, is_plain_place};
 
 use crate::names::COUNTED;
 use window_model::{Event, Look, Way};
@@ -11,6 +11,7 @@ use window_model::{Event, Look, Way};
 fn squash_place(before: Option<Event>) -> usize
     ensures at { slice_get names result ≡ Some (squash_name before) }
     ensures few { result < COUNTED }
+    ensures told { is_plain_place result ≡ false }
 {
     match before {
         Some(Event::Bp(_, _)) => 22,
@@ -24,6 +25,7 @@ fn squash_place(before: Option<Event>) -> usize
 fn load_place(look: Look) -> usize
     ensures at { slice_get names result ≡ Some (load_name look) }
     ensures few { result < COUNTED }
+    ensures plain { is_plain_place result ≡ true }
 {
     match look {
         Look::Hit => 9,
@@ -38,6 +40,7 @@ fn load_place(look: Look) -> usize
 fn prefetch_place(look: Look) -> usize
     ensures at { slice_get names result ≡ Some (prefetch_name look) }
     ensures few { result < COUNTED }
+    ensures plain { is_plain_place result ≡ true }
 {
     match look {
         Look::Second => 15,
@@ -50,6 +53,7 @@ fn prefetch_place(look: Look) -> usize
 fn way_place(way: Way) -> usize
     ensures at { slice_get names result ≡ Some (way_name way) }
     ensures few { result < COUNTED }
+    ensures plain { is_plain_place result ≡ true }
 {
     match way {
         Way::Taken => 19,
@@ -63,6 +67,7 @@ fn way_place(way: Way) -> usize
 fn store_place(found: bool) -> usize
     ensures at { slice_get names result ≡ Some (store_name found) }
     ensures few { result < COUNTED }
+    ensures plain { is_plain_place result ≡ true }
 {
     if found { 31 } else { 32 }
 }
@@ -73,6 +78,7 @@ pub(crate) fn plain_place(event: &Event) -> Option<usize>
     ensures at { MatchOption result (is_plain event.now ≡ false)
         (λ place. (is_plain event.now ≡ true) × (slice_get names place ≡ Some (name_of None event.now))) }
     ensures few { IfSome result (λ place. place < COUNTED) }
+    ensures plain { IfSome result (λ place. is_plain_place place ≡ true) }
 {
     match event {
         Event::Ret(_) => Some(0),
@@ -105,6 +111,7 @@ fn told_place(before: Option<Event>, event: Event) -> usize
     requires { is_plain event ≡ false }
     ensures at { slice_get names result ≡ Some (name_of before event) }
     ensures few { result < COUNTED }
+    ensures told { is_plain_place result ≡ false }
 {
     match event {
         Event::Sq(_) => squash_place(before),
@@ -118,6 +125,7 @@ fn told_place(before: Option<Event>, event: Event) -> usize
 pub(crate) fn place_of(before: Option<Event>, event: Event) -> usize
     ensures at { slice_get names result ≡ Some (name_of before event) }
     ensures few { result < COUNTED }
+    ensures told { is_plain event ≡ false → is_plain_place result ≡ false }
 {
     match plain_place(&event) {
         Some(place) => place,
@@ -131,6 +139,7 @@ pub(crate) fn further_of(event: Event) -> Option<(usize, u64)>
     ensures at { MatchOption result (further_of event ≡ None)
         (λ f. (at : List ℕ) × (further_of event ≡ Some (at, f.1)) × (slice_get names f.0 ≡ Some at)) }
     ensures few { IfSome result (λ f. f.0 < COUNTED) }
+    ensures told { IfSome result (λ f. is_plain_place f.0 ≡ false) }
 {
     match event {
         Event::Div(_, time) => Some((6, time as u64)),

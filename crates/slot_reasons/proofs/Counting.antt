@@ -13,12 +13,12 @@ names_distinct : distinct slot_names ≡ true
 unfolding slot_names
 names_distinct = refl
 
-pub slot_names_length : length slot_names ≡ 18
+pub slot_names_length : length slot_names ≡ 19
 unfolding slot_names
 slot_names_length = refl
 
 -- the number at a place is the one of the name there
-pub number_set : (ks : List ℕ) (place : ℕ) (at : List ℕ) (n : ℕ) → length ks ≡ 18 → slice_get slot_names place ≡ Some at
+pub number_set : (ks : List ℕ) (place : ℕ) (at : List ℕ) (n : ℕ) → length ks ≡ 19 → slice_get slot_names place ≡ Some at
     → set ks place (as_told (get_or ks place 0 + n)) ≡ numbers_by (λ name k. number_with name at n k) slot_names ks
 number_set ks place at n l s = set_is slot_names ks place at n names_distinct s (l ∙ sym slot_names_length)
 
@@ -146,7 +146,7 @@ next (x ∷ xs) (y ∷ ys) (suc p) l e =
     ap (λ r. as_told (x + y) ∷ r) (next xs ys p less long)
 
 -- one more is added
-pub next_added : (xs ys now : List ℕ) (p v : ℕ) → p < 18 → length xs ≡ 18 → length ys ≡ 18 → now ≡ added_up_to p xs ys → v ≡ as_told (get_or now p 0 + get_or ys p 0)
+pub next_added : (xs ys now : List ℕ) (p v : ℕ) → p < 19 → length xs ≡ 19 → length ys ≡ 19 → now ≡ added_up_to p xs ys → v ≡ as_told (get_or now p 0 + get_or ys p 0)
     → set now p v ≡ added_up_to (p + 1) xs ys
 next_added xs ys now p v l e f is h =
     let less : p < length xs = omega (arith, l, e) in
@@ -165,5 +165,5 @@ sums_all (x ∷ xs) (y ∷ ys) (suc p) l e =
     ap (λ r. as_told (x + y) ∷ r) (sums_all xs ys p less long)
 
 -- all are added
-pub all_added : (xs ys now : List ℕ) (p : ℕ) → 18 ≤ p → length xs ≡ 18 → length ys ≡ 18 → now ≡ added_up_to p xs ys → now ≡ sums xs ys
+pub all_added : (xs ys now : List ℕ) (p : ℕ) → 19 ≤ p → length xs ≡ 19 → length ys ≡ 19 → now ≡ added_up_to p xs ys → now ≡ sums xs ys
 all_added xs ys now p l e f is = let most : length xs ≤ p = omega (arith, l, e) in is ∙ sums_all xs ys p most (f ∙ sym e)

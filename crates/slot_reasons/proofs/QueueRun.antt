@@ -15,8 +15,9 @@ use Rattle.window_model.specs.Fetch.{fetch}
 use Rattle.window_model.specs.Cycle.{after_cycles, after_retire, before_retire, begins_cycle, cycle}
 use Rattle.run_counts.specs.Counted.{as_told}
 use Rattle.slot_reasons.specs.declared.Past.{Past}
+use Rattle.slot_reasons.specs.declared.Known.{Known}
 use Rattle.slot_reasons.specs.Reasons.{first_walked, past_after}
-use Rattle.slot_reasons.specs.Slots.{past_at}
+use Rattle.slot_reasons.specs.Slots.{known_after, known_at}
 use Rattle.slot_reasons.proofs.QueueEvents.{Comes, comes_then, leaves_few, leaves_then, left_of, walk_fetched, walk_left}
 use Rattle.slot_reasons.proofs.QueueIssue.{issue_tells}
 use Rattle.slot_reasons.proofs.QueuePhases.{Tells, clear_tells, complete_tells, fetch_fits, fetch_tells, fill_tells, queue_few, rename_tells, resolve_tells, retire_tells, told_whole}
@@ -77,15 +78,15 @@ cycle_counts d code x past h q =
     ∙ told_whole _ (omega (arith, fits, few))
 
 -- what is known after some cycles has the length of the queue that they leave
-pub queue_counts : (n : ℕ) (d : Desc) (code : Code) (x : Machine) (past : Past) → length x.queue ≤ d.core_queue → past.queued ≡ length x.queue
-    → (past_at d code n x past).queued ≡ length (after_cycles d code n x).queue
-queue_counts zero d code x past h q = q
-queue_counts (suc n) d code x past h q =
+pub queue_counts : (n : ℕ) (d : Desc) (code : Code) (x : Machine) (known : Known) → length x.queue ≤ d.core_queue → known.past.queued ≡ length x.queue
+    → (known_at d code n x known).past.queued ≡ length (after_cycles d code n x).queue
+queue_counts zero d code x known h q = q
+queue_counts (suc n) d code x known h q =
     by_end x.end
-    (queue_counts n d code (cycle d code x).machine (past_after d past (cycle d code x).row.events) ((cycle_leads d code x).fits h) (cycle_counts d code x past h q))
+    (queue_counts n d code (cycle d code x).machine (known_after d known x (cycle d code x)) ((cycle_leads d code x).fits h) (cycle_counts d code x known.past h q))
   where
-    by_end : (o : Option End) → (let c = cycle d code x in let p = past_after d past c.row.events in
-        (past_at d code n c.machine p).queued ≡ length (after_cycles d code n c.machine).queue
-        → (unless_ended o past (past_at d code n c.machine p)).queued ≡ length (unless_ended o x (after_cycles d code n c.machine)).queue)
+    by_end : (o : Option End) → (let c = cycle d code x in let k = known_after d known x c in
+        (known_at d code n c.machine k).past.queued ≡ length (after_cycles d code n c.machine).queue
+        → (unless_ended o known (known_at d code n c.machine k)).past.queued ≡ length (unless_ended o x (after_cycles d code n c.machine)).queue)
     by_end None more = more
     by_end (Some e) more = q

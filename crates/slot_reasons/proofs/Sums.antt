@@ -9,10 +9,9 @@ use Rattle.window_model.specs.Cycle.{cycle, rows}
 use Rattle.window_model.proofs.Quiet.{at_retire, after_quiet, before_quiet, cycle_is}
 use Rattle.machine_facts.proofs.Adds.{retire_turns}
 use Rattle.slot_reasons.specs.declared.Reason.{Reason}
-use Rattle.slot_reasons.specs.declared.Reason.TheVariants.{FrontEnd, Room, Misprediction, Violation, Call, Simple, Multiplier, Divider, Store, LoadFirst, LoadSecond, LoadMemory, Registers, Resolve, Clear, StorePort, End as EndReason}
-use Rattle.slot_reasons.specs.declared.Past.{Past}
-use Rattle.slot_reasons.specs.Reasons.{past_after}
-use Rattle.slot_reasons.specs.Slots.{Charge, charge_of, charges_of, rows_of, seen, slot_names, slots_in, slots_of}
+use Rattle.slot_reasons.specs.declared.Reason.TheVariants.{FrontEnd, Room, Misprediction, Violation, Call, Simple, Multiplier, Divider, Store, LoadFirst, LoadSecond, LoadMemory, Registers, Resolve, Clear, StorePort, Defence, End as EndReason}
+use Rattle.slot_reasons.specs.declared.Known.{Known}
+use Rattle.slot_reasons.specs.Slots.{Charge, charge_of, charges_of, known_after, rows_of, seen, slot_names, slots_in, slots_of}
 use Rattle.slot_reasons.specs.Laws.{sum_of}
 
 -- ---- One cycle
@@ -44,6 +43,7 @@ one_reason Registers a b = omega arith
 one_reason Resolve a b = omega arith
 one_reason Clear a b = omega arith
 one_reason StorePort a b = omega arith
+one_reason Defence a b = omega arith
 one_reason EndReason a b = omega arith
 
 swapped : (a b : ℕ) → a + b ≡ b + a
@@ -78,37 +78,37 @@ few_retire d code x =
 -- ---- A run
 
 module _ (d : Desc) (code : Code) where
-  abbrev Whole : ℕ → Machine → Past → Type 0
-  Whole n x past = sum_of slot_names (charges_of (seen d code n x past)) ≡ d.core_retire_width * length (rows d code n x)
+  abbrev Whole : ℕ → Machine → Known → Type 0
+  Whole n x known = sum_of slot_names (charges_of (seen d code n x known)) ≡ d.core_retire_width * length (rows d code n x)
 
-  whole_next : (n : ℕ) (x : Machine) (past : Past) (o : Option End) → ((y : Machine) (p : Past) → Whole n y p) →
+  whole_next : (n : ℕ) (x : Machine) (known : Known) (o : Option End) → ((y : Machine) (k : Known) → Whole n y k) →
       (let c = cycle d code x in
-      sum_of slot_names (charges_of (unless_ended o [] (record { row = c.row; charge = charge_of d past x c } ∷ seen d code n c.machine (past_after d past c.row.events))))
+      sum_of slot_names (charges_of (unless_ended o [] (record { row = c.row; charge = charge_of d known x c } ∷ seen d code n c.machine (known_after d known x c))))
       ≡ d.core_retire_width * length (unless_ended o [] (c.row ∷ rows d code n c.machine)))
-  whole_next n x past (Some e) ih = let none : d.core_retire_width * 0 ≡ 0 = omega arith in no_slots slot_names ∙ sym none
-  whole_next n x past None ih =
+  whole_next n x known (Some e) ih = let none : d.core_retire_width * 0 ≡ 0 = omega arith in no_slots slot_names ∙ sym none
+  whole_next n x known None ih =
       let c = cycle d code x in
-      let charge = charge_of d past x c in
-      let p = past_after d past c.row.events in
-      let rest : sum_of slot_names (charges_of (seen d code n c.machine p)) ≡ d.core_retire_width * length (rows d code n c.machine) = ih c.machine p in
+      let charge = charge_of d known x c in
+      let k = known_after d known x c in
+      let rest : sum_of slot_names (charges_of (seen d code n c.machine k)) ≡ d.core_retire_width * length (rows d code n c.machine) = ih c.machine k in
       let few : c.machine.retired ≤ x.retired + d.core_retire_width = few_retire d code x in
       let all : charge.retired + charge.empty ≡ d.core_retire_width = omega (arith, few) in
       let one : in_all slot_names charge ≡ charge.retired + charge.empty = one_reason charge.reason charge.retired charge.empty in
       let more : d.core_retire_width * suc (length (rows d code n c.machine)) ≡ d.core_retire_width * length (rows d code n c.machine) + d.core_retire_width = mul-suc _ _ in
-      sum_more slot_names charge (charges_of (seen d code n c.machine p)) ∙ ap₂ (λ a b. a + b) (one ∙ all) rest ∙ swapped d.core_retire_width _ ∙ sym more
+      sum_more slot_names charge (charges_of (seen d code n c.machine k)) ∙ ap₂ (λ a b. a + b) (one ∙ all) rest ∙ swapped d.core_retire_width _ ∙ sym more
 
-  pub whole : (n : ℕ) (x : Machine) (past : Past) → Whole n x past
-  whole zero x past = let none : d.core_retire_width * 0 ≡ 0 = omega arith in no_slots slot_names ∙ sym none
-  whole (suc n) x past = whole_next n x past x.end (λ y p. whole n y p)
+  pub whole : (n : ℕ) (x : Machine) (known : Known) → Whole n x known
+  whole zero x known = let none : d.core_retire_width * 0 ≡ 0 = omega arith in no_slots slot_names ∙ sym none
+  whole (suc n) x known = whole_next n x known x.end (λ y k. whole n y k)
 
   -- the rows that are seen are those of the run
-  rows_next : (n : ℕ) (x : Machine) (past : Past) (o : Option End) → ((y : Machine) (p : Past) → rows_of (seen d code n y p) ≡ rows d code n y) →
+  rows_next : (n : ℕ) (x : Machine) (known : Known) (o : Option End) → ((y : Machine) (k : Known) → rows_of (seen d code n y k) ≡ rows d code n y) →
       (let c = cycle d code x in
-      rows_of (unless_ended o [] (record { row = c.row; charge = charge_of d past x c } ∷ seen d code n c.machine (past_after d past c.row.events)))
+      rows_of (unless_ended o [] (record { row = c.row; charge = charge_of d known x c } ∷ seen d code n c.machine (known_after d known x c)))
       ≡ unless_ended o [] (c.row ∷ rows d code n c.machine))
-  rows_next n x past (Some e) ih = refl
-  rows_next n x past None ih = let c = cycle d code x in ap (λ r. c.row ∷ r) (ih c.machine (past_after d past c.row.events))
+  rows_next n x known (Some e) ih = refl
+  rows_next n x known None ih = let c = cycle d code x in ap (λ r. c.row ∷ r) (ih c.machine (known_after d known x c))
 
-  pub rows_seen : (n : ℕ) (x : Machine) (past : Past) → rows_of (seen d code n x past) ≡ rows d code n x
-  rows_seen zero x past = refl
-  rows_seen (suc n) x past = rows_next n x past x.end (λ y p. rows_seen n y p)
+  pub rows_seen : (n : ℕ) (x : Machine) (known : Known) → rows_of (seen d code n x known) ≡ rows d code n x
+  rows_seen zero x known = refl
+  rows_seen (suc n) x known = rows_next n x known x.end (λ y k. rows_seen n y k)

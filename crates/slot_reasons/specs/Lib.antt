@@ -1,4 +1,5 @@
 pub mod Reasons
+pub mod Kept
 pub mod Slots
 pub mod Laws
 pub mod inner

@@ -15,7 +15,10 @@ use Rattle.run_counts.specs.Counted.{as_told}
 use Rattle.slot_reasons.specs.declared.Reason.{Reason}
 use Rattle.slot_reasons.specs.declared.Reason.TheVariants as reason
 use Rattle.slot_reasons.specs.declared.Past.{Past}
+use Rattle.slot_reasons.specs.declared.Kept.{Kept}
+use Rattle.slot_reasons.specs.declared.Known.{Known}
 use Rattle.slot_reasons.specs.declared.Walked.{Walked}
+use Rattle.slot_reasons.specs.Kept.{first_kept, note, times_kept}
 
 -- ---- What comes late
 
@@ -104,6 +107,22 @@ abbrev pub is_from : Option ℕ → ℕ → Bool
 is_from None serial = false
 is_from (Some first) serial = nat_le first serial
 
+-- ---- What is kept in mind
+
+-- what is known before the first cycle
+abbrev pub first_known : Known
+first_known = record { past = first_past; kept = first_kept }
+
+-- the oldest kept entry, if there is one, unless it was renamed in this very cycle: it couldn't have issued yet
+abbrev pub to_note : Option ℕ → Option ℕ → Option ℕ
+to_note renamed None = None
+to_note renamed (Some serial) = if is_from renamed serial then None else Some serial
+
+-- what is known once a cycle is over, from what was known before, from what its events tell, and from the entry that it
+-- counts for, if there is one
+abbrev pub known_by : Known → Past → Option ℕ → Known
+known_by known now oldest = record { past = now; kept = note (to_note now.renamed oldest) known.kept }
+
 -- ---- What the oldest entry does
 
 -- how long an entry takes that issued in a cycle, if it is kept which, and is Done in the cycle `due`
@@ -127,6 +146,17 @@ executes kind.Div d time = reason.Divider
 executes kind.Store d time = reason.Store
 executes _ d time = reason.Simple
 
+-- an entry that is Done in the cycle `due` would be so by this cycle, had it begun so many cycles sooner, if any
+abbrev pub is_made_late : ℕ → ℕ → ℕ → Bool
+is_made_late number due times = nat_lt 0 times && nat_le due (number + times)
+
+-- why the oldest entry hasn't retired that executes, in the cycle of this number: the defence made it late, which kept
+-- it so long, or else where it executes
+abbrev pub stays_busy : Desc → List Kept → ℕ → ℕ → Entry → Reason
+stays_busy d kept number due e =
+    if is_made_late number due (times_kept kept e.serial) then reason.Defence
+    else executes e.item.kind d (time_taken due e.issued)
+
 -- what the oldest entry waits for: a load for miss registers, a division for the divider, a store for its other part
 abbrev pub awaits : Kind → Reason
 awaits kind.Load = reason.Registers
@@ -141,29 +171,30 @@ stays_done kind.Store cleared = if cleared then reason.StorePort else reason.Cle
 stays_done _ cleared = reason.Resolve
 
 -- why the oldest entry hasn't retired, by how far it is
-abbrev pub keeps : Progress → Desc → Entry → Reason
-keeps Waiting d e = awaits e.item.kind
-keeps (Busy due) d e = executes e.item.kind d (time_taken due e.issued)
-keeps Done d e = stays_done e.item.kind e.cleared
+abbrev pub keeps : Progress → Desc → List Kept → ℕ → Entry → Reason
+keeps Waiting d kept number e = awaits e.item.kind
+keeps (Busy due) d kept number e = stays_busy d kept number due e
+keeps Done d kept number e = stays_done e.item.kind e.cleared
 
 -- ---- The reason of a cycle
 
--- why the oldest entry keeps the slots, once a cycle is over, by what was known before and is known now: a call goes
--- alone; an entry that was renamed in this cycle came late, and so did one of the cycle before that has issued since;
--- else by how far it is
-abbrev pub head_reason : Desc → Past → Past → Entry → Reason
-head_reason d before now e =
+-- why the oldest entry keeps the slots, once the cycle of this number is over, by what was known before and is known
+-- now: a call goes alone; an entry that was renamed in this cycle came late, and so did one of the cycle before that
+-- has issued since; else by how far it is
+abbrev pub head_reason : Desc → Known → Past → ℕ → Entry → Reason
+head_reason d known now number e =
     if is_call e.item.kind then reason.Call
     else if is_from now.renamed e.serial then now.late
-    else if is_from before.renamed e.serial && not (is_waiting e.state) then before.late
-    else keeps e.state d e
+    else if is_from known.past.renamed e.serial && not (is_waiting e.state) then known.past.late
+    else keeps e.state d known.kept number e
 
 -- why slots are empty where the run goes on: for the oldest entry, or since what comes next comes late
-abbrev pub oldest_reason : Desc → Past → Past → Option Entry → Reason
-oldest_reason d before now None = now.late
-oldest_reason d before now (Some e) = head_reason d before now e
+abbrev pub oldest_reason : Desc → Known → Past → ℕ → Option Entry → Reason
+oldest_reason d known now number None = now.late
+oldest_reason d known now number (Some e) = head_reason d known now number e
 
--- why slots are empty in a cycle, by how the run ended, if it did, and the oldest entry that is left, if there is one
-abbrev pub reason_of : Desc → Past → Past → Option End → Option Entry → Reason
-reason_of d before now (Some e) oldest = reason.End
-reason_of d before now None oldest = oldest_reason d before now oldest
+-- why slots are empty in the cycle of this number, by how the run ended, if it did, and the oldest entry that is left,
+-- if there is one
+abbrev pub reason_of : Desc → Known → Past → ℕ → Option End → Option Entry → Reason
+reason_of d known now number (Some e) oldest = reason.End
+reason_of d known now number None oldest = oldest_reason d known now number oldest

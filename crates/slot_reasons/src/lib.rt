@@ -1,22 +1,26 @@
 //! Why slots of retirement stay empty: each slot of each cycle has one reason, and they are counted by reason.
 //!
-//! Rules: `specs/Reasons.antt`, the reason of a cycle, from the written machine's state once it is over and from the
-//! events up to then; `specs/Slots.antt`, the slots of a run; `docs/formats.md`, "The slots of a run".
+//! Rules: `specs/Reasons.antt`, the reason of a cycle, from the written machine's state once it is over, from the
+//! events up to then and from what is kept in mind; `specs/Kept.antt`, what the defence alone keeps from issuing, and
+//! in how many cycles it did; `specs/Slots.antt`, the slots of a run; `docs/formats.md`, "The slots of a run".
 //!
 //! Promises: `specs/Laws.antt`: the slots of all reasons are as many as the cycles have, and the items that are counted
 //! as fetched and not renamed are as many as the queue has. What is counted cycle by cycle is what the definition
 //! counts of a run. One walk over a cycle's events counts them and finds what comes late.
 //!
-//! Clauses: `each_slot_has_one_reason`, `queued_is_counted`; `count_row`; `Slots`: `new`, `count`, `add`.
+//! Clauses: `each_slot_has_one_reason`, `queued_is_counted`; `first_known`, `know_cycle`; `count_row`; `Slots`: `new`,
+//! `fill`, `lose`, `add`, `as_slice`; `slot_name_at`.
 #![tactic(auto)]
 
 ghost use Rattle.slot_reasons.specs.Laws.{EachSlotHasOneReason, QueuedIsCounted, SeesTheRows};
 
+mod keeping;
 mod reasons;
 mod slots;
 mod walk;
 
-pub use reasons::first_past;
+pub use keeping::{KEPT_PLACES, first_known, know_cycle};
+use rv_types::End;
 pub use slots::{SLOTS, Slots, slot_name_at};
 pub use walk::count_row;
 
@@ -55,6 +59,8 @@ pub enum Reason {
     Clear,
     /// The oldest entry is a second store of the cycle.
     StorePort,
+    /// The oldest entry executes, and would be Done by now, had the defence not kept it from issuing.
+    Defence,
     /// The run has ended.
     End,
 }
@@ -72,13 +78,36 @@ pub struct Past {
     pub queued: u64,
 }
 
-/// What is known of a cycle once it is over, and of the one before.
+/// An entry that was the oldest that the defence alone kept from issuing.
 #[derive(Clone, Copy, Debug, PartialEq, Eq)]
-pub struct Lately {
+pub struct Kept {
+    /// Its serial.
+    pub serial: u64,
+    /// In how many cycles it was.
+    pub cycles: u64,
+}
+
+/// What is known before a cycle.
+#[derive(Drop)]
+pub struct Known {
     /// What is known of the cycle before.
-    pub before: Past,
-    /// What is known of the cycle.
-    pub cycle: Past,
+    pub past: Past,
+    /// Entries that the defence alone kept from issuing, each at the place that its serial has.
+    pub kept: [Kept; KEPT_PLACES],
+}
+
+/// What a cycle leaves, once it is over.
+#[derive(Clone, Copy, Debug, PartialEq, Eq)]
+pub struct Over {
+    /// Its number.
+    pub number: u32,
+    /// How many instructions retired in it.
+    pub retired: u64,
+    /// How the run ended, if it did.
+    pub end: Option<End>,
+    /// The serial of the entry that it counts for, if there is one: where a slot stays empty, the oldest that waits,
+    /// isn't visible and has all that it reads, if the defence doesn't let it issue.
+    pub kept: Option<u64>,
 }
 
 /// What is known of a cycle behind some of its events.

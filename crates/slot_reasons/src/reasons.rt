@@ -1,16 +1,17 @@
 //! The reason of a cycle's empty slots (`specs/Reasons.antt`).
 ghost use Rattle.std.specs.Prelude.{◌≡◌, slice_get};
-ghost use Rattle.slot_reasons.specs.Reasons.{awaits, executes, first_past, head_reason, is_from, keeps, load_reason};
-ghost use Rattle.slot_reasons.specs.Reasons.{reason_of, stays_done, time_taken};
+ghost use Rattle.slot_reasons.specs.Reasons.{awaits, executes, first_past, head_reason, is_from, is_made_late, keeps};
+ghost use Rattle.slot_reasons.specs.Reasons.{load_reason, reason_of, stays_busy, stays_done, time_taken};
 
-use crate::{Past, Reason};
+use crate::keeping::times_kept;
+use crate::{KEPT_PLACES, Kept, Known, Past, Reason};
 use machine_desc::Desc;
 use rob_ring::RobRing;
 use rv_types::{End, Kind};
 use window_model::{Entry, Progress};
 
-/// What is known before the first cycle.
-pub fn first_past() -> Past
+/// What is known of the cycle before the first one.
+pub(crate) fn first_past() -> Past
     ensures { result ≡ first_past }
 {
     Past {
@@ -21,8 +22,8 @@ pub fn first_past() -> Past
     }
 }
 
-// Whether an entry was renamed in the cycle whose first one is this.
-fn is_from(first: Option<u64>, serial: u64) -> bool
+/// Whether an entry was renamed in the cycle whose first one is this.
+pub(crate) fn is_from(first: Option<u64>, serial: u64) -> bool
     ensures { result ≡ is_from first serial }
 {
     match first {
@@ -95,20 +96,44 @@ fn stays_done(kind: Kind, cleared: bool) -> Reason
     }
 }
 
+// Whether an entry that is Done in the cycle `due` would be so by this cycle, had it begun so many cycles sooner, if
+// any.
+fn is_made_late(number: u32, due: u64, times: u64) -> bool
+    ensures { result ≡ is_made_late number due times }
+{
+    0 < times && due <= (number as u64).saturating_add(times)
+}
+
+// Why the oldest entry hasn't retired that executes.
+fn stays_busy(
+    desc: &Desc,
+    kept: &[Kept; KEPT_PLACES],
+    number: u32,
+    due: u64,
+    entry: &Entry,
+) -> Reason
+    ensures { result ≡ stays_busy desc.now kept.now number due entry.now }
+{
+    if is_made_late(number, due, times_kept(kept, entry.serial)) {
+        return Reason::Defence;
+    }
+    executes(entry.item.kind, desc, time_taken(due, entry.issued))
+}
+
 // Why the oldest entry hasn't retired, by how far it is.
-fn keeps(desc: &Desc, entry: &Entry) -> Reason
-    ensures { result ≡ keeps entry.now.state desc.now entry.now }
+fn keeps(desc: &Desc, kept: &[Kept; KEPT_PLACES], number: u32, entry: &Entry) -> Reason
+    ensures { result ≡ keeps entry.now.state desc.now kept.now number entry.now }
 {
     match entry.state {
         Progress::Waiting => awaits(entry.item.kind),
-        Progress::Busy(due) => executes(entry.item.kind, desc, time_taken(due, entry.issued)),
+        Progress::Busy(due) => stays_busy(desc, kept, number, due, entry),
         Progress::Done => stays_done(entry.item.kind, entry.cleared),
     }
 }
 
 // Why the oldest entry keeps the slots.
-fn head_reason(desc: &Desc, before: &Past, now: &Past, entry: &Entry) -> Reason
-    ensures { result ≡ head_reason desc.now before.now now.now entry.now }
+fn head_reason(desc: &Desc, known: &Known, now: &Past, number: u32, entry: &Entry) -> Reason
+    ensures { result ≡ head_reason desc.now known.now now.now number entry.now }
 {
     if entry.item.kind == Kind::Call {
         return Reason::Call;
@@ -116,21 +141,23 @@ fn head_reason(desc: &Desc, before: &Past, now: &Past, entry: &Entry) -> Reason
     if is_from(now.renamed, entry.serial) {
         return now.late;
     }
-    if is_from(before.renamed, entry.serial) && entry.state != Progress::Waiting {
-        return before.late;
+    if is_from(known.past.renamed, entry.serial) && entry.state != Progress::Waiting {
+        return known.past.late;
     }
-    keeps(desc, entry)
+    keeps(desc, &known.kept, number, entry)
 }
 
-/// Why slots are empty in a cycle, by how the run ended, if it did, and the oldest entry that is left, if there is one.
+/// Why slots are empty in the cycle of this number, by how the run ended, if it did, and the oldest entry that is left,
+/// if there is one.
 pub(crate) fn reason_of(
     desc: &Desc,
-    before: &Past,
+    known: &Known,
     now: &Past,
+    number: u32,
     end: Option<End>,
     rob: &RobRing,
 ) -> Reason
-    ensures { result ≡ reason_of desc.now before.now now.now end (slice_get rob.now.entries 0) }
+    ensures { result ≡ reason_of desc.now known.now now.now number end (slice_get rob.now.entries 0) }
 {
     if end.is_some() {
         return Reason::End;
@@ -138,5 +165,5 @@ pub(crate) fn reason_of(
     if rob.len() == 0 {
         return now.late;
     }
-    head_reason(desc, before, now, rob.lend(0))
+    head_reason(desc, known, now, number, rob.lend(0))
 }

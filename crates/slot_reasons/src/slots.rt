@@ -1,15 +1,14 @@
 //! The slots of a run, as they are counted cycle by cycle.
-ghost use Rattle.std.specs.Prelude.{◌≡◌, ◌<◌, ◌≤◌, ◌++◌, ◌∷◌, List, ℕ, [], Some, length, slice_get};
+ghost use Rattle.std.specs.Prelude.{◌≡◌, ◌<◌, ◌≤◌, ◌-◌, ◌++◌, ◌∷◌, List, ℕ, [], Some, length, slice_get};
 
 use crate::reasons::reason_of;
-use crate::{Lately, Reason};
+use crate::{Known, Over, Past, Reason};
 use machine_desc::Desc;
 use rob_ring::RobRing;
-use rv_types::End;
 use std::marker::Model;
 
 /// How many numbers there are.
-pub const SLOTS: usize = 18;
+pub const SLOTS: usize = 19;
 
 /// The slots of a run by reason, seen as a list of numbers in their order. They take no memory, and stop at the
 /// greatest of 64 bits.
@@ -28,6 +27,7 @@ impl Model for Slots {
 
 ghost use Rattle.run_counts.specs.inner.Counting.{number_with, numbers_by, sums};
 ghost use Rattle.slot_reasons.specs.Slots.{Charge, charged, reason_name, slot_names, slots};
+ghost use Rattle.slot_reasons.specs.inner.Filled.{filled};
 
 /// The name of the number at a place (`docs/formats.md`, "The slots of a run").
 #[tactic(auto, unfolding(crate::specs::Slots::slot_names))]
@@ -54,6 +54,7 @@ pub fn slot_name_at(place: usize) -> &'static [u8]
         14 => b"slots_resolve",
         15 => b"slots_clear",
         16 => b"slots_store_port",
+        17 => b"slots_defence",
         _ => b"slots_end",
     }
 }
@@ -81,7 +82,8 @@ fn place_of(reason: Reason) -> usize
         Reason::Resolve => 14,
         Reason::Clear => 15,
         Reason::StorePort => 16,
-        Reason::End => 17,
+        Reason::Defence => 17,
+        Reason::End => 18,
     }
 }
 
@@ -113,27 +115,25 @@ impl Slots {
         }
     }
 
-    /// Counts the slots of a cycle behind those of which these are: of one in which so many instructions retired, and
-    /// which left the run with this end, if it has one, and the reorder buffer so. No reason is looked for where no
-    /// slot stayed empty.
+    /// Counts the slots of a cycle in which instructions retired, and tells how many stayed empty: these are still to
+    /// be counted.
     #[inline(always)]
-    pub fn count(
-        &mut self,
-        desc: &Desc,
-        lately: &Lately,
-        retired: u64,
-        end: Option<End>,
-        rob: &RobRing,
-    )
-        ensures { (cs : List Charge) → self.old ≡ slots cs → self.new ≡ slots (cs ++ charged desc.now
-            lately.now.before lately.now.cycle retired end (slice_get rob.now.entries 0) ∷ []) }
+    pub fn fill(&mut self, desc: &Desc, retired: u64) -> u64
+        ensures filled { self.new ≡ filled retired self.old }
+        ensures empty { result ≡ desc.now.core_retire_width - retired }
     {
         add_at(&mut self.numbers, 0, retired);
-        let empty = (desc.core_retire_width as u64).saturating_sub(retired);
-        if empty == 0 {
-            return;
-        }
-        let reason = reason_of(desc, &lately.before, &lately.cycle, end, rob);
+        (desc.core_retire_width as u64).saturating_sub(retired)
+    }
+
+    /// Counts the slots of a cycle that stayed empty, once the others of it are counted: of one before which this was
+    /// known, of which this is known now, and which left this and the reorder buffer so.
+    pub fn lose(&mut self, desc: &Desc, known: &Known, now: &Past, over: &Over, rob: &RobRing)
+        ensures { (cs : List Charge) → self.old ≡ filled over.now.retired (slots cs) → self.new ≡ slots (cs ++ charged
+            desc.now known.now now.now over.now (slice_get rob.now.entries 0) ∷ []) }
+    {
+        let empty = (desc.core_retire_width as u64).saturating_sub(over.retired);
+        let reason = reason_of(desc, known, now, over.number, over.end, rob);
         add_at(&mut self.numbers, place_of(reason), empty);
     }
 

@@ -1,8 +1,8 @@
 //! One walk over a cycle's events: it counts them, and finds what comes late (`specs/Reasons.antt`).
-ghost use Rattle.std.specs.Prelude.{◌≡◌, ◌<◌, ◌++◌, ◌∷◌, Bool, List, [], false, length, true};
+ghost use Rattle.std.specs.Prelude.{◌≡◌, ◌<◌, ◌+◌, ◌^◌, ◌++◌, ◌∷◌, Bool, List, ℕ, [], false, length, true};
 ghost use Rattle.window_model.specs.Row.{Row as RowText};
 ghost use Rattle.run_counts.specs.Counted.{names, numbers};
-ghost use Rattle.run_counts.specs.inner.Counting.{after_event, before_at, is_plain, numbers_by};
+ghost use Rattle.run_counts.specs.inner.Counting.{AtMost, after_event, before_at, is_plain, numbers_by};
 ghost use Rattle.window_model.specs.declared.Event.TheVariants.{Ren};
 ghost use Rattle.slot_reasons.specs.Reasons.{late_next, past_after, past_by, renamed_behind, squash_reason};
 ghost use Rattle.slot_reasons.specs.Reasons.{stops_short};
@@ -99,6 +99,8 @@ fn count_told(counts: &mut Counts, events: &[Event], place: usize) -> bool
     ensures counts { counts.new ≡ numbers_by
         (λ name k. after_event name (before_at place events.now) (event_at place events.now) k) names counts.old }
     ensures bit { result ≡ has_bit (before_at place events.now) }
+    ensures few { is_plain (event_at place events.now) ≡ false
+        → (most : ℕ) → AtMost most counts.old → AtMost most counts.new }
 {
     let before = before_at(events, place);
     counts.count_event(before, events[place]);
@@ -108,10 +110,12 @@ fn count_told(counts: &mut Counts, events: &[Event], place: usize) -> bool
 // Counts the event at a place, and tells what is known behind it.
 #[inline(always)]
 fn count_at(counts: &mut Counts, events: &[Event], place: usize, known: &mut Walked)
-    requires { place < length events.now }
+    requires place { place < length events.now }
+    requires few { AtMost (2 ^ 63) counts.old }
     ensures counts { counts.new ≡ numbers_by
         (λ name k. after_event name (before_at place events.now) (event_at place events.now) k) names counts.old }
     ensures known { known.new ≡ walk_on (has_bit (before_at place events.now)) (event_at place events.now) known.old }
+    ensures few { (most : ℕ) → AtMost most counts.old → AtMost (most + 1) counts.new }
 {
     let event = &events[place];
     walk_plain(event, known);
@@ -123,8 +127,10 @@ fn count_at(counts: &mut Counts, events: &[Event], place: usize, known: &mut Wal
 // Counts the events of a row, and tells what is known behind them.
 #[inline(always)]
 fn count_events(counts: &mut Counts, row: &Row, first: Walked) -> Walked
+    requires few { AtMost (2 ^ 62) counts.old }
     ensures counts { (rows : List RowText) → counts.old ≡ numbers rows → counts.new ≡ numbers (rows ++ row.now ∷ []) }
     ensures known { result ≡ walk false row.now.events first }
+    ensures few { (most : ℕ) → AtMost most counts.old → AtMost (most + 256) counts.new }
 {
     let events = row.events();
     let mut known = first;
@@ -170,11 +176,14 @@ fn past_by(desc: &Desc, past: &Past, known: Walked) -> Past
     }
 }
 
-/// Counts the events of a row behind the rows of which these are the numbers, and tells what is known of its cycle.
+/// Counts the events of a row behind the rows of which these are the numbers, and tells what is known of its cycle. The
+/// numbers to which events add that tell no amount must be far from the greatest of 64 bits; a row adds at most 256.
 #[inline(always)]
 pub fn count_row(counts: &mut Counts, desc: &Desc, past: &Past, row: &Row) -> Past
+    requires few { AtMost (2 ^ 62) counts.old }
     ensures counts { (rows : List RowText) → counts.old ≡ numbers rows → counts.new ≡ numbers (rows ++ row.now ∷ []) }
     ensures past { result ≡ past_after desc.now past.now row.now.events }
+    ensures few { (most : ℕ) → AtMost most counts.old → AtMost (most + 256) counts.new }
 {
     let first = Walked {
         late: past.next,

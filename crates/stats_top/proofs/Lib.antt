@@ -1,3 +1,4 @@
+pub mod Keeping
 pub mod Outcomes
 pub mod OverWords
 pub mod Parts

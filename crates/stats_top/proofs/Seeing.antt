@@ -1,24 +1,22 @@
--- What is seen of a cycle, from what a core tells once it is over.
-use Rattle.std.proofs.Common.{◌≡◌, ℕ, ◌-◌, List, Option, ap, ap₂, ◌∙◌}
-use Rattle.std.specs.Prelude.{slice_get}
+-- What is seen of a cycle, and known after it, from what a core tells once it is over.
+use Rattle.std.proofs.Common.{◌≡◌, ℕ, ◌-◌, List, ap, ap₂, ◌∙◌}
 use Rattle.rv_types.specs.Memory.{Code}
-use Rattle.rv_types.specs.declared.End.{End}
 use Rattle.machine_desc.specs.declared.Desc.{Desc}
 use Rattle.window_model.specs.State.{Machine}
 use Rattle.window_model.specs.Row.{Row}
 use Rattle.window_model.specs.Cycle.{cycle}
-use Rattle.window_model.specs.declared.Entry.{Entry}
-use Rattle.window_model.specs.declared.Event.{Event}
-use Rattle.slot_reasons.specs.declared.Past.{Past}
-use Rattle.slot_reasons.specs.Slots.{charge_of}
+use Rattle.slot_reasons.specs.declared.Known.{Known}
+use Rattle.slot_reasons.specs.Kept.{counts_for}
+use Rattle.slot_reasons.specs.Reasons.{known_by, past_after}
+use Rattle.slot_reasons.specs.Slots.{charge_of, known_after}
 use Rattle.stats_top.specs.inner.Counting.{charge_by}
 
--- where a core tells all that of the machine that a cycle leaves, they are that cycle's
-pub charge_is : (d e : Desc) (code : Code) (x y : Machine) (row : Row) (piece : List ℕ) (p : Past) (retired : ℕ) (events : List Event) (end : Option End) (oldest : Option Entry)
-    → d ≡ e → record { machine = y; row = row; piece = piece } ≡ cycle e code x → retired ≡ y.retired - x.retired → events ≡ row.events → end ≡ y.end → oldest ≡ slice_get y.window 0
-    → charge_by d p retired events end oldest ≡ charge_of e p x (cycle e code x)
-charge_is d e code x y row piece p retired events end oldest same c r v f o =
-    ap (λ k. charge_by k p retired events end oldest) same
-    ∙ ap₂ (λ n k. charge_by e p n k end oldest) r v
-    ∙ ap₂ (charge_by e p (y.retired - x.retired) row.events) f o
-    ∙ ap (charge_of e p x) c
+module _ (d e : Desc) (code : Code) (x y : Machine) (row : Row) (piece : List ℕ) (k : Known) (retired : ℕ) (same : d ≡ e) (is : record { machine = y; row = row; piece = piece } ≡ cycle e code x)
+    (many : retired ≡ y.retired - x.retired) where
+  -- its slots are the cycle's
+  pub charge_is : charge_by d k row.events retired y ≡ charge_of e k x (cycle e code x)
+  charge_is = ap₂ (λ b n. charge_by b k row.events n y) same many ∙ ap (charge_of e k x) is
+
+  -- what is known then is what is known after the cycle
+  pub known_is : known_by k (past_after d k.past row.events) (counts_for d retired y.window) ≡ known_after e k x (cycle e code x)
+  known_is = ap₂ (λ b n. known_by k (past_after b k.past row.events) (counts_for b n y.window)) same many ∙ ap (known_after e k x) is

@@ -9,25 +9,25 @@ use Rattle.window_model.specs.Cycle.{cycle, after_cycles}
 use Rattle.pair_run.proofs.Cycles.{Left, left_next, left_ended, left_done, none_left}
 use Rattle.tool_io.specs.Outside.{Told, Wrote, WrotePrefix}
 use Rattle.tool_io.proofs.Writing.{WroteUpTo, up_to_start, up_to_more, up_to_part, up_to_end}
-use Rattle.slot_reasons.specs.declared.Past.{Past}
-use Rattle.slot_reasons.specs.Reasons.{first_past, past_after}
-use Rattle.slot_reasons.specs.Slots.{Charge, Seen, charge_of, past_at, seen}
+use Rattle.slot_reasons.specs.declared.Known.{Known}
+use Rattle.slot_reasons.specs.Reasons.{first_known}
+use Rattle.slot_reasons.specs.Slots.{Charge, Seen, charge_of, known_after, known_at, seen}
 use Rattle.stats_top.specs.Stats.{Numbers, numbers_of, stretch_line, stretches_text}
 use Rattle.stats_top.specs.inner.Counting.{CountedTo}
-use Rattle.stats_top.proofs.Parts.{splits, came, none_seen, past_goes, past_stays, seen_goes, stays}
+use Rattle.stats_top.proofs.Parts.{splits, came, none_seen, known_goes, known_stays, seen_goes, stays}
 use Rattle.stats_top.proofs.Stretches.{next_stretch, no_stretch}
 
 -- ---- Cycle by cycle
 
 -- i of the n cycles from x are done and led to y, q is known then, and these are the numbers of what was seen
-pub record CountedSoFar (counts : Numbers) (d : Desc) (code : Code) (n i : ℕ) (x y : Machine) (p q : Past) : Type 0 where
+pub record CountedSoFar (counts : Numbers) (d : Desc) (code : Code) (n i : ℕ) (x y : Machine) (p q : Known) : Type 0 where
   pub left : Left d code n i x y
   pub done : List Seen
   pub counts_are : counts ≡ numbers_of done
   pub seen_are : done ++ seen d code (n - i) y q ≡ seen d code n x p
-  pub past_are : past_at d code (n - i) y q ≡ past_at d code n x p
+  pub known_are : known_at d code (n - i) y q ≡ known_at d code n x p
 
-module _ (d : Desc) (code : Code) (n : ℕ) (x : Machine) (p : Past) where
+module _ (d : Desc) (code : Code) (n : ℕ) (x : Machine) (p : Known) where
   pub none_counted : (counts : Numbers) → counts ≡ numbers_of [] → CountedSoFar counts d code n 0 x x p p
   none_counted counts e =
       let z : n - 0 ≡ n = omega arith in
@@ -37,11 +37,11 @@ module _ (d : Desc) (code : Code) (n : ℕ) (x : Machine) (p : Past) where
         done = [];
         counts_are = e;
         seen_are = ap (λ k. seen d code k x p) z;
-        past_are = ap (λ k. past_at d code k x p) z;
+        known_are = ap (λ k. known_at d code k x p) z;
       }
 
-  pub one_counted : (i : ℕ) (y y' : Machine) (q q' : Past) (row : Row) (piece : List ℕ) (charge : Charge) (counts counts' : Numbers) → i < n → y.end ≡ None
-      → record { machine = y'; row = row; piece = piece } ≡ cycle d code y → charge ≡ charge_of d q y (cycle d code y) → q' ≡ past_after d q row.events
+  pub one_counted : (i : ℕ) (y y' : Machine) (q q' : Known) (row : Row) (piece : List ℕ) (charge : Charge) (counts counts' : Numbers) → i < n → y.end ≡ None
+      → record { machine = y'; row = row; piece = piece } ≡ cycle d code y → charge ≡ charge_of d q y (cycle d code y) → q' ≡ known_after d q y (cycle d code y)
       → ((seen : List Seen) → counts ≡ numbers_of seen → counts' ≡ numbers_of (seen ++ record { row = row; charge = charge } ∷ []))
       → CountedSoFar counts d code n i x y p q → CountedSoFar counts' d code n (i + 1) x y' p q'
   one_counted i y y' q q' row piece charge counts counts' h e c k o w s = record {
@@ -52,54 +52,54 @@ module _ (d : Desc) (code : Code) (n : ℕ) (x : Machine) (p : Past) where
         append_assoc s.done (record { row = row; charge = charge } ∷ []) _
         ∙ ap (λ r. s.done ++ r) (sym (seen_goes d code n i y y' row piece q q' charge h e c k o))
         ∙ s.seen_are;
-    past_are = sym (past_goes d code n i y y' row piece q q' charge h e c k o) ∙ s.past_are;
+    known_are = sym (known_goes d code n i y y' row piece q q' charge h e c k o) ∙ s.known_are;
   }
 
-  all_done : (i : ℕ) (y : Machine) (q : Past) (counts : Numbers) → seen d code (n - i) y q ≡ [] → y ≡ after_cycles d code n x → CountedSoFar counts d code n i x y p q → CountedTo counts d code n x y p
+  all_done : (i : ℕ) (y : Machine) (q : Known) (counts : Numbers) → seen d code (n - i) y q ≡ [] → y ≡ after_cycles d code n x → CountedSoFar counts d code n i x y p q → CountedTo counts d code n x y p
   all_done i y q counts none last s = record {
     counts_are = s.counts_are ∙ ap numbers_of (sym (append-nil s.done) ∙ ap (λ r. s.done ++ r) (sym none) ∙ s.seen_are);
     last = last;
   }
 
-  pub counted_ended : (i : ℕ) (y : Machine) (q : Past) (counts : Numbers) → is_some y.end ≡ true → CountedSoFar counts d code n i x y p q → CountedTo counts d code n x y p
+  pub counted_ended : (i : ℕ) (y : Machine) (q : Known) (counts : Numbers) → is_some y.end ≡ true → CountedSoFar counts d code n i x y p q → CountedTo counts d code n x y p
   counted_ended i y q counts e s = all_done i y q counts (none_seen d code (n - i) y q e) (left_ended d code n i x y e s.left) s
 
-  pub counted_all : (i : ℕ) (y : Machine) (q : Past) (counts : Numbers) → n ≤ i → CountedSoFar counts d code n i x y p q → CountedTo counts d code n x y p
+  pub counted_all : (i : ℕ) (y : Machine) (q : Known) (counts : Numbers) → n ≤ i → CountedSoFar counts d code n i x y p q → CountedTo counts d code n x y p
   counted_all i y q counts h s = all_done i y q counts (ap (λ k. seen d code k y q) (none_left n i h)) (left_done d code n i x y h s.left) s
 
   -- what is known where all are done, or the run has ended
-  pub known_ended : (i : ℕ) (y : Machine) (q : Past) (counts : Numbers) → is_some y.end ≡ true → CountedSoFar counts d code n i x y p q → q ≡ past_at d code n x p
-  known_ended i y q counts e s = sym (past_stays d code (n - i) y q e) ∙ s.past_are
+  pub known_ended : (i : ℕ) (y : Machine) (q : Known) (counts : Numbers) → is_some y.end ≡ true → CountedSoFar counts d code n i x y p q → q ≡ known_at d code n x p
+  known_ended i y q counts e s = sym (known_stays d code (n - i) y q e) ∙ s.known_are
 
-  pub known_all : (i : ℕ) (y : Machine) (q : Past) (counts : Numbers) → n ≤ i → CountedSoFar counts d code n i x y p q → q ≡ past_at d code n x p
-  known_all i y q counts h s = sym (ap (λ k. past_at d code k y q) (none_left n i h)) ∙ s.past_are
+  pub known_all : (i : ℕ) (y : Machine) (q : Known) (counts : Numbers) → n ≤ i → CountedSoFar counts d code n i x y p q → q ≡ known_at d code n x p
+  known_all i y q counts h s = sym (ap (λ k. known_at d code k y q) (none_left n i h)) ∙ s.known_are
 
 -- ---- Stretch by stretch
 
 -- so many of the n cycles from x are left, behind y; q is known then, these are the numbers of what was seen so far,
 -- and the lines of the stretches so far are written
-pub record StretchesLeft (k : ℕ) (counts : Numbers) (d : Desc) (code : Code) (n left : ℕ) (x y : Machine) (q : Past) (s t : Told) : Type 0 where
+pub record StretchesLeft (k : ℕ) (counts : Numbers) (d : Desc) (code : Code) (n left : ℕ) (x y : Machine) (q : Known) (s t : Told) : Type 0 where
   pub done : List Seen
   pub counts_are : counts ≡ numbers_of done
-  pub seen_are : done ++ seen d code left y q ≡ seen d code n x first_past
+  pub seen_are : done ++ seen d code left y q ≡ seen d code n x first_known
   pub last : after_cycles d code left y ≡ after_cycles d code n x
   pub clock : y.cycle + left ≤ x.cycle + n
-  pub lines : WroteUpTo (stretches_text k x.cycle (seen d code n x first_past)) (stretches_text k y.cycle (seen d code left y q)) s t
+  pub lines : WroteUpTo (stretches_text k x.cycle (seen d code n x first_known)) (stretches_text k y.cycle (seen d code left y q)) s t
 
 module _ (k : ℕ) (some : 1 ≤ k) (d : Desc) (code : Code) (n : ℕ) (x : Machine) (told : Told) where
-  pub none_written : (counts : Numbers) (q : Past) → counts ≡ numbers_of [] → q ≡ first_past → StretchesLeft k counts d code n n x x q told told
+  pub none_written : (counts : Numbers) (q : Known) → counts ≡ numbers_of [] → q ≡ first_known → StretchesLeft k counts d code n n x x q told told
   none_written counts q e f =
-      let text : Past → List ℕ = λ r. stretches_text k x.cycle (seen d code n x r) in
+      let text : Known → List ℕ = λ r. stretches_text k x.cycle (seen d code n x r) in
       record {
         done = [];
         counts_are = e;
         seen_are = ap (seen d code n x) f;
         last = refl;
         clock = omega arith;
-        lines = subst (λ r. WroteUpTo (text first_past) (text r) told told) (sym f) (up_to_start _ told);
+        lines = subst (λ r. WroteUpTo (text first_known) (text r) told told) (sym f) (up_to_start _ told);
       }
 
-  module _ (left : ℕ) (y y' : Machine) (counts since counts' : Numbers) (q q' : Past) (next : ℕ) (t : Told) (is : next ≡ min left k) (c : CountedTo since d code next y y' q) (known : q' ≡ past_at d code next y q)
+  module _ (left : ℕ) (y y' : Machine) (counts since counts' : Numbers) (q q' : Known) (next : ℕ) (t : Told) (is : next ≡ min left k) (c : CountedTo since d code next y y' q) (known : q' ≡ known_at d code next y q)
       (sum : (seen behind : List Seen) → counts ≡ numbers_of seen → since ≡ numbers_of behind → counts' ≡ numbers_of (seen ++ behind)) (s : StretchesLeft k counts d code n left x y q told t) where
     -- what is seen of the stretch
     abbrev these : List Seen
@@ -123,7 +123,7 @@ module _ (k : ℕ) (some : 1 ≤ k) (d : Desc) (code : Code) (n : ℕ) (x : Mach
     counted : counts' ≡ numbers_of (s.done ++ these)
     counted = sum s.done these s.counts_are c.counts_are
 
-    seen_so_far : (s.done ++ these) ++ seen d code (left - next) y' q' ≡ seen d code n x first_past
+    seen_so_far : (s.done ++ these) ++ seen d code (left - next) y' q' ≡ seen d code n x first_known
     seen_so_far = append_assoc s.done these _ ∙ ap (λ r. s.done ++ r) (sym rest_is) ∙ s.seen_are
 
     -- the stretch is whole
@@ -158,7 +158,7 @@ module _ (k : ℕ) (some : 1 ≤ k) (d : Desc) (code : Code) (n : ℕ) (x : Mach
         lines = up_to_more _ (stretch_line y'.cycle since) _ _ _ _ (rw text_is at s.lines) w;
       }
 
-      pub stretch_part : (u : Told) → WrotePrefix (stretch_line y'.cycle since) t u → WrotePrefix (stretches_text k x.cycle (seen d code n x first_past)) told u
+      pub stretch_part : (u : Told) → WrotePrefix (stretch_line y'.cycle since) t u → WrotePrefix (stretches_text k x.cycle (seen d code n x first_known)) told u
       stretch_part u w = up_to_part _ (stretch_line y'.cycle since) _ _ _ _ (rw text_is at s.lines) w
 
     -- the run ends within the stretch, or with it
@@ -184,9 +184,9 @@ module _ (k : ℕ) (some : 1 ≤ k) (d : Desc) (code : Code) (n : ℕ) (x : Mach
       these_are : seen d code left y q ≡ these
       these_are = rest_is ∙ ap (λ r. these ++ r) nothing_left.0 ∙ append-nil these
 
-      pub stretches_ended : CountedTo counts' d code n x y' first_past × Wrote (stretches_text k x.cycle (seen d code n x first_past)) told t
+      pub stretches_ended : CountedTo counts' d code n x y' first_known × Wrote (stretches_text k x.cycle (seen d code n x first_known)) told t
       stretches_ended =
-          let P : List ℕ → Type 0 = λ r. WroteUpTo (stretches_text k x.cycle (seen d code n x first_past)) r told t in
+          let P : List ℕ → Type 0 = λ r. WroteUpTo (stretches_text k x.cycle (seen d code n x first_known)) r told t in
           let none : stretches_text k y.cycle (seen d code left y q) ≡ [] = ap (stretches_text k y.cycle) these_are ∙ no_stretch k y.cycle these fewer in (
             record {
               counts_are = counted ∙ ap numbers_of (sym (append-nil (s.done ++ these)) ∙ ap (λ r. (s.done ++ these) ++ r) (sym nothing_left.0) ∙ seen_so_far);
@@ -196,10 +196,10 @@ module _ (k : ℕ) (some : 1 ≤ k) (d : Desc) (code : Code) (n : ℕ) (x : Mach
           )
 
   -- no cycle is left
-  pub stretches_done : (left : ℕ) (y : Machine) (q : Past) (counts : Numbers) (t : Told) → left ≤ 0 → StretchesLeft k counts d code n left x y q told t
-      → CountedTo counts d code n x y first_past × Wrote (stretches_text k x.cycle (seen d code n x first_past)) told t
+  pub stretches_done : (left : ℕ) (y : Machine) (q : Known) (counts : Numbers) (t : Told) → left ≤ 0 → StretchesLeft k counts d code n left x y q told t
+      → CountedTo counts d code n x y first_known × Wrote (stretches_text k x.cycle (seen d code n x first_known)) told t
   stretches_done left y q counts t z s =
-      let P : List ℕ → Type 0 = λ r. WroteUpTo (stretches_text k x.cycle (seen d code n x first_past)) r told t in
+      let P : List ℕ → Type 0 = λ r. WroteUpTo (stretches_text k x.cycle (seen d code n x first_known)) r told t in
       let none_left : left ≡ 0 = omega (arith, z) in
       let empty : seen d code left y q ≡ [] = ap (λ j. seen d code j y q) none_left in
       let few : length (seen d code left y q) < k = omega (arith, some, ap length empty) in (
@@ -211,5 +211,5 @@ module _ (k : ℕ) (some : 1 ≤ k) (d : Desc) (code : Code) (n : ℕ) (x : Mach
       )
 
 -- what is counted of a core is counted of the one that it was
-pub same_core : (counts : Numbers) (d d' : Desc) (code code' : Code) (n : ℕ) (x y : Machine) (p : Past) → d ≡ d' → code ≡ code' → CountedTo counts d code n x y p → CountedTo counts d' code' n x y p
+pub same_core : (counts : Numbers) (d d' : Desc) (code code' : Code) (n : ℕ) (x y : Machine) (p : Known) → d ≡ d' → code ≡ code' → CountedTo counts d code n x y p → CountedTo counts d' code' n x y p
 same_core counts d d' code code' n x y p e f c = subst (λ k. CountedTo counts d' k n x y p) f (subst (λ k. CountedTo counts k code n x y p) e c)

@@ -10,7 +10,7 @@ use Rattle.window_model.specs.Cycle.{after_cycles, trace_from}
 use Rattle.pair_run.specs.Running.{ending_at}
 use Rattle.tool_io.specs.Outside.{Told, Wrote, WrotePrefix}
 use Rattle.tool_io.proofs.Writing.{part_more, wrote_then, wrote_then_part}
-use Rattle.slot_reasons.specs.Reasons.{first_past}
+use Rattle.slot_reasons.specs.Reasons.{first_known}
 use Rattle.slot_reasons.specs.Slots.{Seen, seen}
 use Rattle.stats_top.specs.Stats.{Numbers, all_lines, numbers_of, way_text, number_line, number_lines, stats_from}
 use Rattle.stats_top.specs.inner.Counting.{CountedTo}
@@ -46,7 +46,7 @@ last_line ns ks all lines place most h =
 module _ (every : Option ℕ) (d : Desc) (code : Code) (n : ℕ) (x : Machine) where
   -- what is seen of the run
   abbrev here : List Seen
-  here = seen d code n x first_past
+  here = seen d code n x first_known
 
   -- the lines of the numbers, and the last line
   abbrev last_lines : List ℕ
@@ -60,7 +60,7 @@ module _ (every : Option ℕ) (d : Desc) (code : Code) (n : ℕ) (x : Machine) w
   pub way_alone : (s t : Told) → WrotePrefix (way_text every x.cycle here) s t → WrotePrefix (stats_from every x.cycle here (trace_from d code n x)) s t
   way_alone s t p = rw parts (part_more _ _ _ _ p)
 
-  module _ (y : Machine) (counts : Numbers) (ending : Ending) (s t u : Told) (c : CountedTo counts d code n x y first_past) (w : Wrote (way_text every x.cycle here) s t) (e : ending ≡ ending_at y) where
+  module _ (y : Machine) (counts : Numbers) (ending : Ending) (s t u : Told) (c : CountedTo counts d code n x y first_known) (w : Wrote (way_text every x.cycle here) s t) (e : ending ≡ ending_at y) where
     last_are : all_lines counts ++ end_line ending ≡ last_lines
     last_are = ap₂ (λ ks k. all_lines ks ++ end_line k) c.counts_are (e ∙ ap ending_at c.last)
 

@@ -27,8 +27,8 @@ worked_trace = record { rows = rows_of worked_seen; end = Some (Exit 0); retired
 -- the lines of its two whole stretches of two cycles behind cycle 6: the last cycle has none
 abbrev way_lines : List ℕ
 way_lines =
-    codes "8 0 3 2 0 0 0 0 0 0 0 0 0 0 0 0 0 0 0 0 0 0 0 0 0 0 0 0 0 0 0 0 0 0 0 0 0 4 0 0 0 0 0 0 0 0 0 0 0 0 0 0 0 0\n"
-    ++ codes "10 1 0 0 1 0 1 20 0 0 0 0 0 0 0 0 0 0 0 1 0 0 0 0 0 0 0 0 0 0 0 0 0 0 0 0 1 2 0 0 0 0 0 0 1 0 0 0 0 0 0 0 0 0\n"
+    codes "8 0 3 2 0 0 0 0 0 0 0 0 0 0 0 0 0 0 0 0 0 0 0 0 0 0 0 0 0 0 0 0 0 0 0 0 0 4 0 0 0 0 0 0 0 0 0 0 0 0 0 0 0 0 0\n"
+    ++ codes "10 1 0 0 1 0 1 20 0 0 0 0 0 0 0 0 0 0 0 1 0 0 0 0 0 0 0 0 0 0 0 0 0 0 0 0 1 2 0 0 0 0 0 0 1 0 0 0 0 0 0 0 0 0 0\n"
 
 -- the lines of the numbers of all its cycles, and of their slots
 abbrev count_lines : List ℕ
@@ -49,7 +49,7 @@ slot_lines =
     ++ codes "slots_call 0\n" ++ codes "slots_simple 0\n" ++ codes "slots_multiplier 0\n" ++ codes "slots_divider 1\n"
     ++ codes "slots_store 0\n" ++ codes "slots_load_first 0\n" ++ codes "slots_load_second 0\n" ++ codes "slots_load_memory 0\n"
     ++ codes "slots_registers 0\n" ++ codes "slots_resolve 0\n" ++ codes "slots_clear 0\n" ++ codes "slots_store_port 0\n"
-    ++ codes "slots_end 1\n"
+    ++ codes "slots_defence 0\n" ++ codes "slots_end 1\n"
 
 text_told : stats_from (Some 2) 6 worked_seen worked_trace ≡ way_lines ++ ((count_lines ++ slot_lines) ++ codes "end exit 0 retired 6 cycles 11\n")
 unfolding worked_seen worked_trace stats_from stretch_line names slot_names as_told end_line digits
@@ -57,6 +57,6 @@ text_told = refl
 
 -- a stretch as long as the run has a line, and without stretches there is none
 way_told : (way_text (Some 5) 6 worked_seen
-    ≡ codes "11 2 3 2 1 0 1 20 0 0 0 0 0 0 0 0 0 0 0 1 0 0 0 0 0 0 0 0 0 0 0 0 0 0 1 3 2 6 0 0 0 0 0 0 1 0 0 0 0 0 0 0 0 1\n") × (way_text None 6 worked_seen ≡ [])
+    ≡ codes "11 2 3 2 1 0 1 20 0 0 0 0 0 0 0 0 0 0 0 1 0 0 0 0 0 0 0 0 0 0 0 0 0 0 1 3 2 6 0 0 0 0 0 0 1 0 0 0 0 0 0 0 0 0 1\n") × (way_text None 6 worked_seen ≡ [])
 unfolding worked_seen stretch_line names slot_names as_told digits
 way_told = (refl, refl)

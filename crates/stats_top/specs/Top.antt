@@ -6,7 +6,7 @@ use Rattle.elf_loader.specs.Image.{ImageText}
 use Rattle.machine_desc.specs.declared.Desc.{Desc}
 use Rattle.window_model.specs.State.{opening}
 use Rattle.window_model.specs.Cycle.{Trace}
-use Rattle.slot_reasons.specs.Reasons.{first_past}
+use Rattle.slot_reasons.specs.Reasons.{first_known}
 use Rattle.slot_reasons.specs.Slots.{Seen, seen}
 use Rattle.pair_run.specs.Starts.{trace_of}
 use Rattle.tool_io.specs.Outside.{Told, Shelf, Wrote, WrotePrefix, SameCounts, NameFailed, Rose}
@@ -37,7 +37,7 @@ run_in asked d image = trace_of d image asked.cycles
 
 -- what is seen of its cycles
 abbrev pub seen_of : Desc → ImageText → ℕ → List Seen
-seen_of d image n = seen d image.code n (opening d image.entry image.ram) first_past
+seen_of d image n = seen d image.code n (opening d image.entry image.ram) first_known
 
 -- what is told of that run
 abbrev pub told_in : AskedText → Desc → ImageText → List ℕ

@@ -5,7 +5,7 @@ ghost use Rattle.line_text.specs.EndLine.{end_line};
 ghost use Rattle.pair_run.specs.Running.{ending_at};
 ghost use Rattle.tool_io.specs.Outside.{Writes};
 ghost use Rattle.stats_top.specs.Stats.{all_lines};
-ghost use Rattle.stats_top.specs.inner.Counting.{TellsStats};
+ghost use Rattle.stats_top.specs.inner.Counting.{Sound, TellsStats};
 
 use crate::counting::count_run;
 use crate::lines::all_lines;
@@ -47,6 +47,7 @@ pub(crate) fn write_stats<R: RenameTaint, S: Sink>(
     out: &mut S,
 ) -> Result<Option<End>, Failed>
     requires desc { desc.now ≡ core.old.desc }
+    requires sound { Sound core.old.desc core.old.machine }
     requires few { core.old.machine.cycle + cycles < 2 ^ 32 }
     ensures { TellsStats (option_map (λ k. k.cycles) every) core.old.desc (word_at core.old.code) cycles
         core.old.machine (S.told out.old) (S.told out.new) result }

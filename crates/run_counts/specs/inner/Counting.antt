@@ -1,5 +1,6 @@
 -- Beside Counted.antt: what only clauses of the code and lemmas cite.
-use Rattle.std.specs.Prelude.{ℕ, zero, suc, ◌+◌, Bool, true, false, List, [], ◌∷◌, slice_get, Option, Some, None, if◌then◌else◌}
+use Rattle.std.specs.Prelude.{◌≡◌, ◌==◌, ◌≤◌, ℕ, zero, suc, ◌+◌, Bool, true, false, not, List, [], ◌∷◌, slice_get, slice_index_or, Option, Some, None, if◌then◌else◌}
+use Rattle.std.specs.List.{list_any}
 use Rattle.std.specs.Str.{bytes_eq}
 use Rattle.window_model.specs.declared.Event.{Event}
 use Rattle.window_model.specs.declared.Event.TheVariants.{Sq, Call, Div}
@@ -12,6 +13,18 @@ is_plain (Div serial time) = false
 is_plain (Sq count) = false
 is_plain (Call serial count) = false
 is_plain _ = true
+
+-- the places of the numbers to which the events add that tell an amount
+abbrev pub told_places : List ℕ
+told_places = 5 ∷ 6 ∷ 22 ∷ 23 ∷ 29 ∷ 30 ∷ 33 ∷ 34 ∷ []
+
+-- only events that tell no amount add to the number at this place
+abbrev pub is_plain_place : ℕ → Bool
+is_plain_place place = not (list_any (λ told. place == told) told_places)
+
+-- no number to which only events add that tell no amount is greater than this
+pub record AtMost (most : ℕ) (ks : List ℕ) : Type 0 where
+  pub each : (place : ℕ) → is_plain_place place ≡ true → slice_index_or ks place 0 ≤ most
 
 -- the event right before a place, if there is one
 abbrev pub before_at : ℕ → List Event → Option Event

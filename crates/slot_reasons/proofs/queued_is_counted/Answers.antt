@@ -3,4 +3,4 @@ use Rattle.slot_reasons.proofs.QueueRun.{queue_counts}
 use Rattle.slot_reasons.proofs.queued_is_counted.Goals as goal
 
 pub returns : goal.returns
-returns c = λ n d code x past h q. queue_counts n d code x past h q
+returns c = λ n d code x known h q. queue_counts n d code x known h q
