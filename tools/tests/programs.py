@@ -69,3 +69,26 @@ PROGRAMS = {
     "accesses across lines": [SLOW, lw(5, -2, 2), sw(5, -2, 2), lw(6, -1, 2), lbu(7, -3, 2), lw(7, -18, 2), lw(6, -35, 2), lw(5, -62, 2),
                               sh(6, -17, 2), lw(5, -33, 2), *EXIT],
 }
+
+
+def behind_a_store(base):
+    """A division by what a load gave behind a branch, and in front of it a load that waits for the store to an address from this register."""
+    return [lw(5, 0, 2), mul(5, 5, 5), blt(0, 5, 8), lw(6, -16, 2), add(28, base, 2), sw(0, 0, 28), lw(29, 4, 2), div(7, 2, 6), *EXIT]
+
+
+def sharing(behind):
+    """A division by what a load gave, entry 4; and, so many entries behind it, a load whose address another load gave. Each stands behind a branch
+    of its own, and the later branch needs the quotient."""
+    first = [lw(5, 0, 2), mul(5, 5, 5), blt(0, 5, 8), lbu(6, 8, 2), div(7, 2, 6), blt(0, 7, 8)]
+    address = [mul(28, 0, 0), mul(28, 28, 28), add(28, 28, 2), addi(28, 28, 0), addi(28, 28, 0), addi(28, 28, 0), lbu(28, -64, 28)]
+    return [*first, *address, *[addi(30, 0, 1)] * (behind - 10), add(28, 28, 2), lw(29, 0, 28), *EXIT]
+
+
+# for what a cycle counts in which the defence keeps an entry: where an older one waits for a store of known address, or of an address that comes
+# late; where all slots are filled in some of these cycles; and where another entry takes the place
+KEPT = {
+    "behind a known store": behind_a_store(0),
+    "behind a late store": behind_a_store(5),
+    "filled slots": [lw(5, 0, 2), addi(28, 0, 1), addi(29, 0, 1), addi(30, 0, 1), mul(5, 5, 5), blt(0, 5, 8), lw(6, 4, 2), div(7, 2, 6), *EXIT],
+    "a shared place": sharing(64),
+}

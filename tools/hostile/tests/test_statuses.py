@@ -234,8 +234,8 @@ class StatsStatuses(Ran):
                 self.written(status, end, *self.words(every=every, **words))
 
     def test_lines(self):
-        """A line for each whole stretch, and behind them one for each of the 35 counts and of the 18 reasons of slots, and the last."""
-        for every, lines in ((None, 54), ("1", 54 + 100), ("7", 54 + 14), ("100", 54 + 1), ("101", 54)):
+        """A line for each whole stretch, and behind them one for each of the 35 counts and of the 19 reasons of slots, and the last."""
+        for every, lines in ((None, 55), ("1", 55 + 100), ("7", 55 + 14), ("100", 55 + 1), ("101", 55)):
             got, out, note = self.ran(*self.words(path=self.loop, every=every))
             self.assertEqual((got, len(out.splitlines()), out[-1:], note), (3, lines, b"\n", b""))
 

@@ -8,9 +8,12 @@ from collections import Counter
 import event_counts
 import slot_counts
 import support
+from evaluate import model
 from generate.generated import generated_image
-from programs import PROGRAMS
+from programs import KEPT, PROGRAMS
 from wadrelwy import built_programs
+from wadrelwy.riscv.kinds import DIVISION, LOAD, STORE
+from wadrelwy.verdict.loaded import load
 from wadrelwy.view import slots
 from wadrelwy.view.description import read_description
 from wadrelwy.view.replay import Replay
@@ -37,9 +40,9 @@ def descriptions():
 
 
 def images():
-    """The examples' images, a program for each rule of the machine, and generated ones."""
+    """The examples' images, a program for each rule of the machine and for each of what the defence keeps, and generated ones."""
     yield from (support.example(f"{name}.elf") for name in (*support.EXAMPLES, "bounds_check_other"))
-    yield from (support.image_of_words(name.replace(" ", "_"), words) for name, words in PROGRAMS.items())
+    yield from (support.image_of_words(name.replace(" ", "_"), words) for name, words in (PROGRAMS | KEPT).items())
     yield from (support.file_of(f"generated{seed}.elf", generated_image(seed, 40)) for seed in range(2))
 
 
@@ -72,23 +75,63 @@ class Counts(unittest.TestCase):
                 event_counts.counted([row])
 
 
-class OwnReasons(slots.Slots):
-    """The viewer's stack, where the oldest entry is charged for what it does, and nothing for what the defence made late."""
-
-    def late(self, head):
-        return None
-
-
 # what the viewer tells apart and the numbers don't, or the other way round: the viewer knows which item stood in the queue, and by what a load
 # was served; the numbers know for what a Done entry waits
 LOADS = {slots.HIT, slots.FORWARDED, slots.SECOND_LEVEL, slots.MEMORY, slots.JOINED, slots.FAULTING}
-WAITS = {slots.PORTS, slots.CLEARING, *slots.TAINTS.values()}
+WAITS = {slots.PORTS, slots.CLEARING, *slots.SETTLING.values()}
 THEIRS = {slots.BASE: "base", slots.MISPREDICTION: "misprediction", slots.VIOLATION: "violation", slots.SIMPLE: "simple", slots.END: "end",
           slots.MULTIPLIER: "multiplier", slots.DIVIDER_BUSY: "divider", slots.STORES: "store", slots.REGISTERS: "registers",
           slots.ROOM: "room", **dict.fromkeys((slots.FRONT_END, slots.SYSTEM_CALL), "front end or call"), **dict.fromkeys(LOADS, "load"),
-          **dict.fromkeys(WAITS, "done")}
+          **dict.fromkeys(WAITS, "done"), **dict.fromkeys(slots.KEPT.values(), "defence")}
 OURS = {"front_end": "front end or call", "call": "front end or call", "load_first": "load", "load_second": "load", "load_memory": "load",
         "resolve": "done", "clear": "done", "store_port": "done"}
+
+
+def kept_by(machine):
+    """The serial of the oldest entry that waits with all that it reads and isn't visible, in the state of a machine of tools/evaluate, if the
+    defence keeps it; else none."""
+    tainted = machine.hidden_roots()
+    for entry in machine.window:
+        gone_or_done = [writer is None or writer not in machine.window or writer.state == model.DONE for writer in entry.writers]
+        shows = entry.kind not in (LOAD, DIVISION, STORE) or machine.may_show(entry)
+        shows = shows and not (entry.kind == LOAD and tainted[entry.serial][0] or entry.kind == DIVISION and any(tainted[entry.serial]))
+        if entry.state == model.WAITING and all(gone_or_done) and not machine.is_visible(entry):
+            return None if shows and machine.known(entry, range(len(entry.writers))) else entry.serial
+    return None
+
+
+@unittest.skipIf(support.NO_IMAGES, support.NO_IMAGES)
+class BesideTheModel(unittest.TestCase):
+    """What the defence keeps, as the count finds it in a trace's pipeline, beside the state of the machine that wrote the trace."""
+
+    def both(self, described, image):
+        """After each cycle the serial of what the defence keeps, by the count and by the machine."""
+        description = read_description(described)
+        with open(described, encoding="utf-8") as file:
+            numbers = model.read_numbers(file.read())
+        machine, lines, theirs = model.Machine(numbers, load(image, description)), [], []
+        while machine.end is None and machine.now < 400:
+            lines.append(" ".join([str(machine.now + 1), *machine.cycle()]) + "\n")
+            theirs.append(kept_by(machine))
+        lines.append(f"end {machine.end or 'budget'} retired {machine.retired} cycles {machine.now}\n")
+        run, ours = slot_counts.replayed(Trace(iter(lines)), load(image, description), description), []
+        for row in run.trace:
+            run.step(row)
+            kept = slot_counts.oldest_kept(run.pipeline)
+            ours.append(None if kept is None else kept.serial)
+        return ours, theirs
+
+    def test_what_is_kept(self):
+        for keys in support.defended(depend=2):
+            for described in support.descriptions(2, ("spectre", "futuristic", "off"), **keys):
+                cycles = 0
+                for name, words in (PROGRAMS | KEPT).items():
+                    with self.subTest(name=name, description=described):
+                        ours, theirs = self.both(described, support.image_of_words(name.replace(" ", "_"), words))
+                        self.assertEqual(ours, theirs)
+                        cycles += len(theirs) - theirs.count(None)
+                if "off" in described or "example" in described:
+                    self.assertEqual(cycles > 0, "off" not in described, described)
 
 
 @unittest.skipIf(support.NO_IMAGES, support.NO_IMAGES)
@@ -99,11 +142,10 @@ class BesideTheStack(unittest.TestCase):
         """Both stacks of a run, by the names that both know; and the viewer's own."""
         description, lines = read_description(described), support.modelled(described, image, 400)
         run = Replay(Trace(iter(lines)), support.Image(image), description)
-        run.slots = OwnReasons(run.pipeline)
         for _ in run.items():
             pass
         ours, theirs, own = Counter(), Counter(), Counter()
-        for retired, empty, reason in slot_counts.cycles(Trace(iter(lines)), support.Image(image), description):
+        for retired, empty, reason in slot_counts.cycles(Trace(iter(lines)), load(image, description), description):
             ours += Counter({"base": retired}) + Counter({OURS.get(reason, reason): empty})
             own[reason] += empty
         for reason, number in run.slots.sums().items():
@@ -112,12 +154,13 @@ class BesideTheStack(unittest.TestCase):
         return ours, theirs, own, run.slots.sums()
 
     def test_each_slot(self):
-        """Both charge the same slots to the same. A load that doesn't join a miss, and lies in one line, is served by what both say."""
-        described = [*support.descriptions(1), *support.descriptions(2, ("spectre", "futuristic", "off"), depend=2),
-                     *support.descriptions(2, ("spectre",), defence='"hold"'), *support.descriptions(2, ("spectre",), defence='"delay"'),
-                     support.description("second", "spectre", 2, second_sets=4, second_latency=5)]
+        """Both charge the same slots to the same, also those that the defence made late. A load that doesn't join a miss, and lies in one line, is
+        served by what both say."""
+        described = [*support.descriptions(1), support.description("second", "spectre", 2, second_sets=4, second_latency=5),
+                     *support.descriptions(2, ("off",), depend=2),
+                     *(name for keys in support.defended(depend=2) for name in support.descriptions(2, ("spectre", "futuristic"), **keys))]
         for description in described:
-            for name, words in PROGRAMS.items():
+            for name, words in (PROGRAMS | KEPT).items():
                 with self.subTest(name=name, description=description):
                     ours, theirs, own, told = self.stacks(description, support.image_of_words(name.replace(" ", "_"), words))
                     self.assertEqual(ours, theirs)

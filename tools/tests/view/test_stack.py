@@ -6,8 +6,8 @@ import unittest
 from xml.etree import ElementTree
 
 import support
-from programs import EXIT, PROGRAMS
-from wadrelwy.riscv.encoding import blt, div, lw, mul
+from programs import EXIT, KEPT, PROGRAMS, lbu, sharing
+from wadrelwy.riscv.encoding import add, blt, div, lw, mul
 from wadrelwy.view import Fault, annotate, compare, numbers, slots, stack, stats
 from wadrelwy.view.description import read_description
 from wadrelwy.view.replay import Replay
@@ -50,21 +50,73 @@ class Stack(unittest.TestCase):
     def test_the_bounds_check(self):
         self.assertEqual(bounds_check().slots.sums(), BOUNDS_CHECK)
 
+    def defended(self, name, words, model, keys=None, **core):
+        """A program's run under the example core in version 2, and the slots that the defence has."""
+        image, keys = support.image_of_words(name, words), keys or {}
+        described = support.description("_".join([name, *keys]), model, 2, **core, **keys)
+        run = self.taken(support.modelled(described, image, 200), image, described)
+        return run, {reason: number for reason, number in run.slots.sums().items() if reason in {*slots.KEPT.values(), *slots.SETTLING.values()}}
+
     def test_what_the_defence_takes(self):
         """The loads miss in 3 and 4, so their lines come in 13 and 14; the branch needs the product of the first, and is resolved in 17. The
-        division could issue in 14, and is held until the branch is resolved, for three cycles. It divides 0x1fff0, of 17 digits, in 20
-        cycles, and is the oldest from 18 on: without the defence it would be done in 34, and not in 37."""
-        image = support.image_of_words("held", [lw(5, 0, 2), mul(5, 5, 5), blt(0, 5, 8), lw(6, -16, 2), div(7, 2, 6), *EXIT])
-        cycles = {}
+        division could issue in 14: once 14, 15 and 16 are over, each of which loses a slot, it is the oldest that waits with all that it reads and
+        isn't visible, and is kept. It divides 0x1fff0, of 17 digits, in 20 cycles from 17 on,
+        and is the oldest from 18 on. Three cycles sooner it would be done in 34, so both slots of 34, 35 and 36 are the defence's."""
+        words, cycles = [lw(5, 0, 2), mul(5, 5, 5), blt(0, 5, 8), lw(6, -16, 2), div(7, 2, 6), *EXIT], {}
         for model, keys, told in (("off", {}, {}), ("spectre", {}, {"taint: before it issues": 6}), ("futuristic", {}, {"taint: before it issues": 6}),
                                   ("spectre", {"defence": '"hold"'}, {"held back": 6})):
-            described = support.description("_".join(["held", *keys]), model, 2, **keys)
-            run = self.taken(support.modelled(described, image, 200), image, described)
-            sums = run.slots.sums()
-            self.assertEqual({reason: number for reason, number in sums.items() if reason in slots.TAINTS.values()}, told, (model, keys))
-            self.assertEqual(sums["divider"], 32, (model, keys))
+            run, found = self.defended("held", words, model, keys)
+            self.assertEqual((found, run.slots.sums()["divider"]), (told, 32), (model, keys))
             cycles[model, bool(keys)] = run.pipeline.cycle
         self.assertEqual({number - cycles["off", False] for number in cycles.values()}, {0, 3})
+
+    def test_two_that_are_kept(self):
+        """The address that the load has is there in 14, and so is the divisor: both are kept in 14, 15 and 16, which count for the load, the older
+        one. It issues in 17 and hits, so it would be done in 19; one slot of 18 is the defence's. The division is the oldest from 19 on, and executes
+        until 37: that it could have been done in 34 isn't told. So six slots are lost, and one of them is told."""
+        words = [lw(5, 0, 2), mul(5, 5, 5), blt(0, 5, 8), lbu(6, 8, 2), add(6, 6, 2), lw(7, 4, 6), div(28, 2, 6), *EXIT]
+        (without, none), (run, found) = self.defended("two", words, "off"), self.defended("two", words, "spectre")
+        self.assertEqual((none, found, run.pipeline.cycle - without.pipeline.cycle), ({}, {"taint: before it issues": 1}, 3))
+        self.assertEqual((without.slots.sums()["divider"], run.slots.sums()["divider"]), (30, 35))
+
+    def test_behind_a_branch_that_is_held(self):
+        """The second branch is wrongly predicted, and done in 16. Without protection it is resolved then, and what is fetched in 16 is there
+        before the first branch retires: nothing is lost for it. It flows from a load behind the first branch, so under `spectre` it is resolved
+        in 20, behind that. What comes behind it comes late for the misprediction: one slot of 20, both of 21 and 22; none is the defence's.
+        Under `delay` the load isn't visible until the first branch is resolved, in 19. It could have issued in 5, so each of 5 to 18
+        counts for it, and it executes until 21: one slot of 19 and both of 20 are the defence's."""
+        words = PROGRAMS["branch on a loaded value"]
+        for model, keys, told in (("off", {}, (0, {})), ("spectre", {}, (5, {})),
+                                  ("spectre", {"defence": '"delay"'}, (5, {"delayed: before it issues": 3}))):
+            run, found = self.defended("branch", words, model, keys)
+            self.assertEqual((run.slots.sums().get("misprediction", 0), found), told, (model, keys))
+
+    def test_an_older_one_that_is_let(self):
+        """The loads miss in 3 and 4, the branch is resolved in 17, and the division could issue in 14 and does in 17, until 37. The load in front of
+        it hits, or joins the first miss, once the address of the store is known. Where it is from the start, that load issues in 7, so 14, 15
+        and 16 count for the division: it would be done in 34, and both slots of 34, 35 and 36 are the defence's. Where the product is in the address,
+        that comes in 17. Then the load is the oldest that waits with all that it reads and isn't visible, and no defence keeps it: none
+        of the three cycles counts, and none is told, though the run takes three more either way."""
+        for name, told, divider in (("behind a known store", {"taint: before it issues": 6}, 29), ("behind a late store", {}, 33)):
+            (without, none), (run, found) = self.defended(name, KEPT[name], "off"), self.defended(name, KEPT[name], "spectre")
+            self.assertEqual((none, found, run.slots.sums()["divider"]), ({}, told, divider), name)
+            self.assertEqual(run.pipeline.cycle - without.pipeline.cycle, 3, name)
+
+    def test_cycles_without_a_lost_slot(self):
+        """The second load joins the miss of the first, so the division could issue in 13. The branch is resolved in 17; the division executes from
+        then until 37, and would have until 33. Two instructions retire in 13, and two in 14: only 15 and 16 count, so both slots of 35 and 36
+        are the defence's."""
+        (without, none), (run, found) = (self.defended("filled", KEPT["filled slots"], model) for model in ("off", "spectre"))
+        self.assertEqual((none, found, run.pipeline.cycle - without.pipeline.cycle), ({}, {"taint: before it issues": 4}, 4))
+
+    def test_two_that_share_a_place(self):
+        """Entry 4, a division, is kept from 43 on, when its divisor comes, until the first branch is resolved in 52: 9 cycles count. It executes
+        until 72 and is the oldest, so the four slots of each of 63 to 71 are the defence's. The last load is kept from 65 on, for the second
+        branch, which needs the quotient. Where it is entry 68 it takes the place of 4, and what is known of that is gone once 65 is over: then
+        63, 64 and 65 are told so, and no later cycle."""
+        for behind, told in ((63, 36), (64, 12), (65, 36)):
+            _, found = self.defended("places", sharing(behind), "spectre", {}, **(support.LARGEST | support.LARGER))
+            self.assertEqual(found, {"taint: before it issues": told}, behind)
 
     def test_small_programs(self):
         for name, words in PROGRAMS.items():

@@ -16,7 +16,7 @@ BASE = "slots_base"
 SLOTS = (
     BASE, "slots_front_end", "slots_room", "slots_misprediction", "slots_violation", "slots_call", "slots_simple", "slots_multiplier",
     "slots_divider", "slots_store", "slots_load_first", "slots_load_second", "slots_load_memory", "slots_registers", "slots_resolve",
-    "slots_clear", "slots_store_port", "slots_end")
+    "slots_clear", "slots_store_port", "slots_defence", "slots_end")
 NAMES = (*COUNTS, *SLOTS)
 # stands for itself and any greater number
 MOST = 18446744073709551615

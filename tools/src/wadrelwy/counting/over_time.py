@@ -14,7 +14,7 @@ PANELS = ((CPI, "cycles per instruction", "#2e86c1"), (MISSES, "load misses per 
           (MISPREDICTIONS, "mispredictions per thousand instructions", "#984ea3"))
 # the colours of the slots by reason, from the foot of the stack on, and how many columns their names have below it
 COLOURS = dict(zip(SLOTS, ("#4daf4a", "#b3b3b3", "#a6761d", "#984ea3", "#c48fd0", "#8c8c8c", "#a6cee3", "#6fa8dc", "#1f78b4", "#5ab4ac", "#fee391",
-                           "#fec44f", "#ec7014", "#e9a3c9", "#d7301f", "#b2df8a", "#f4c7dc", "#444444"), strict=True))
+                           "#fec44f", "#ec7014", "#e9a3c9", "#fc8d59", "#b2df8a", "#f4c7dc", "#d7301f", "#444444"), strict=True))
 COLUMNS = 6
 
 

@@ -49,7 +49,7 @@ class Counts:
             self.add_load(item)
         if item.output is not None:
             self.output += item.output
-        if item.since is not None:
+        if item.waits:
             self.add_held(item)
 
     def add_resolved(self, item):

@@ -24,7 +24,7 @@ if TYPE_CHECKING:
 
 EVERY = 4000
 # which values a state has: another number where they change, so that an index of before isn't used
-FORM = 6
+FORM = 7
 # how many bytes are summed at either end of a trace
 ENDS = 1 << 20
 HEAD = "head.json"
@@ -33,7 +33,7 @@ CLASSES = {
     "wadrelwy.view.pipeline": {"Pipeline"}, "wadrelwy.view.items": {"Code", "Item", "Wait"},
     "wadrelwy.view.memory_side": {"Cache", "Divider", "Miss"}, "wadrelwy.view.description": {"Description"},
     "wadrelwy.view.reasons": {"Reasons"}, "wadrelwy.view.front_end": {"FrontEnd", "Stall"}, "wadrelwy.view.checks": {"Checks"},
-    "wadrelwy.view.slots": {"Slots", "Late"}, "wadrelwy.view.replay": {"Replay"}}
+    "wadrelwy.view.slots": {"Slots"}, "wadrelwy.view.replay": {"Replay"}}
 
 
 def file_name(trace: str) -> str:

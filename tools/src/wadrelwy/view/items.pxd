@@ -28,7 +28,7 @@ cdef class Item:
     cdef public bint divides, is_return
     cdef public bint mispredicted, passed, violated, is_load, is_store, is_control, at_once, waiting, goes, address_goes, data_goes
     cdef public object code, renamed, ready, issued, unit, due, done, resolved, outcome
-    cdef public object retired, squashed, trapped, written, output, consumers, cleared, fill, late, since, waits, sharers, value
+    cdef public object retired, squashed, trapped, written, output, consumers, cleared, fill, waits, sharers, value
     cdef public tuple registers, lines
     cdef public Item one, two, root_one, root_two, root, youngest_root
     cdef public Wait open

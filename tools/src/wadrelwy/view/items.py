@@ -41,16 +41,15 @@ class Item:
     stores of which one kept it for its data, and
     `lacking_at` is the last cycle in which it surely lacked miss registers, and `lacking` how many of its lines then needed one; `passed` says
     whether an older store's address wasn't known as it issued, and `violated` whether it is dropped for that. `cleared` is when a store
-    is cleared, where loads pass stores. `fill` is why it was renamed no earlier, `late` what the defence took of its time, and `since`
-    what had been charged to the defence when it was first held (`slots`). In this cycle it issues where it `goes`, a store's parts where
-    `address_goes` and `data_goes`, and it is `waiting` as long as it hasn't. `value` is what another tool keeps of it (`verdict.values`). `serial`
-    is negative until it is renamed.
+    is cleared, where loads pass stores. `fill` is why it was renamed no earlier (`slots`). In this cycle it issues where it `goes`, a store's
+    parts where `address_goes` and `data_goes`, and it is `waiting` as long as it hasn't. `value` is what another tool keeps of it
+    (`verdict.values`). `serial` is negative until it is renamed.
     """
 
     __slots__ = ("number", "pc", "code", "kind", "serial", "fetched", "renamed", "ready", "issued", "unit", "due", "done", "resolved", "outcome",
                  "mispredicted", "retired", "squashed", "trapped", "lines", "written", "output", "one", "two", "awaits", "consumers",
                  "root_one", "root_two", "root", "youngest_root", "waits", "from_one", "from_two", "address_at", "data_at", "sharers",
-                 "lacking_at", "lacking", "cleared", "passed", "violated", "open", "fill", "late", "since", "registers", "destination",
+                 "lacking_at", "lacking", "cleared", "passed", "violated", "open", "fill", "registers", "destination",
                  "is_load", "is_store", "is_control", "at_once", "port", "source_one", "source_two", "event", "divides", "is_return",
                  "waiting", "goes", "address_goes", "data_goes", "value")
 
@@ -59,7 +58,7 @@ class Item:
         self.renamed = self.ready = self.issued = self.unit = self.due = self.done = self.resolved = self.outcome = None
         self.retired = self.squashed = self.trapped = self.output = self.cleared = None
         self.one = self.two = self.root_one = self.root_two = self.root = self.youngest_root = None
-        self.open = self.fill = self.late = self.since = self.value = None
+        self.open = self.fill = self.value = None
         self.mispredicted = self.passed = self.violated = self.waiting = self.goes = self.address_goes = self.data_goes = False
         self.lines = self.written = self.sharers = self.consumers = self.waits = ()
         self.awaits, self.address_at, self.data_at, self.from_one, self.from_two, self.lacking_at, self.lacking = 0, -1, -1, -1, -1, -1, 0
@@ -131,7 +130,7 @@ class Item:
     def forget(self):
         """Lets go of the other items that it names, so that a long trace takes no memory."""
         self.consumers = self.sharers = ()
-        self.one = self.two = self.root_one = self.root_two = self.root = self.youngest_root = self.late = None
+        self.one = self.two = self.root_one = self.root_two = self.root = self.youngest_root = None
 
 
 class Code:

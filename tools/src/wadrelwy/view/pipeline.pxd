@@ -9,14 +9,17 @@ cdef class Pipeline:
     cdef public object image, description, now
     cdef public Item last_squash
     cdef public long long filled, dropped, prefetched, from_second, mask, waiting
-    cdef public long long cycle, version, depend, hit_latency, mul_latency, count, loads, stores, charged
-    cdef public bint futuristic, spectre, counts
+    cdef public long long cycle, version, depend, hit_latency, mul_latency, count, loads, stores
+    cdef public bint futuristic, spectre, holds, delays, counts
     cdef public dict dues, misses, learnt, codes
     cdef public list queue, window, flight, ring, awake, open_stores, shadows, controls, outcomes, clearable, writers, fills
     cdef public Cache cache, second
     cdef public Divider divider
     @cython.locals(first=Item)
     cpdef bint is_hidden(self, Item root) except? -1
+    cpdef bint is_held(self, Item writer) except? -1
+    cpdef bint is_asked(self, Item item) except? -1
+    cpdef bint is_kept(self, Item item) except? -1
     cpdef begin(self, cycle)
     @cython.locals(item=Item)
     cpdef Item entry(self, Event event)

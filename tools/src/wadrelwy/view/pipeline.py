@@ -4,7 +4,7 @@ This module does what the events say; whether they are what the machine's rules 
 `checks`. The words are those of docs/machine.md.
 """
 from . import Fault
-from .description import FUTURISTIC, SPECTRE
+from .description import DELAY, FUTURISTIC, HOLD, SPECTRE
 from .items import ADDRESS_PART, DATA_PART, Code, Item
 from .memory_side import Cache, Divider, Miss
 from .rows import text_of
@@ -35,6 +35,7 @@ class Pipeline:
         self.image, self.description = image, description
         self.version, self.depend = description.version, description.depend
         self.futuristic, self.spectre = description.model == FUTURISTIC, description.model == SPECTRE
+        self.holds, self.delays = description.defence == HOLD, description.defence == DELAY
         self.hit_latency, self.mul_latency = description.hit_latency, description.mul_latency
         self.cycle = self.now = self.count = 0
         self.codes = {}
@@ -48,7 +49,7 @@ class Pipeline:
         self.cache = Cache(description.line, description.sets, description.ways)
         self.second = Cache(description.line, description.second_sets, description.second_ways)
         self.divider, self.misses = Divider(), {}
-        self.learnt, self.charged, self.counts = {}, 0, True
+        self.learnt, self.counts = {}, True
         self.filled = self.dropped = self.prefetched = self.from_second = 0
         self.fills, self.last_squash = [], None
 
@@ -58,6 +59,22 @@ class Pipeline:
             return False
         first = self.shadows[0]
         return root.serial > first.serial
+
+    def is_held(self, writer):
+        """Whether this writer is a load whose result `hold` keeps from what reads it."""
+        return writer is not None and writer.is_load and self.is_hidden(writer)
+
+    def is_asked(self, item):
+        """Whether an entry that hasn't issued isn't visible, and the writers of all that it reads are Done: the defence may keep it."""
+        return not item.awaits and self.is_hidden(item)
+
+    def is_kept(self, item):
+        """Whether the defence doesn't let an entry issue that is asked."""
+        if self.holds:
+            return self.is_held(item.one) or self.is_held(item.two)
+        if self.delays:
+            return (item.is_load or item.is_store or item.divides) and self.is_hidden(item)
+        return (item.is_load or item.divides) and self.is_hidden(item.youngest_root)
 
     def begin(self, cycle):
         """A cycle begins; `now` is its number as an object, for the times of items."""
@@ -109,7 +126,6 @@ class Pipeline:
             consumer.awaits -= 1
             if not consumer.awaits:
                 consumer.ready = self.now
-                consumer.late = item.late or consumer.late
             if consumer.open is not None:
                 consumer.wake(self.cycle)
                 enter(self.awake, consumer)

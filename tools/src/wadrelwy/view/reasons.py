@@ -60,10 +60,8 @@ class Reasons:
         self.unexplained.append(f"cycle {self.pipeline.cycle}: {text}")
 
     def wait(self, item, reason, cause):
-        """The item waits in this cycle; where the defence holds it for the first time, what was charged to that before is kept."""
+        """The item waits in this cycle."""
         item.wait(self.pipeline.cycle, reason, cause)
-        if item.since is None and reason in DEFENCE:
-            item.since = self.pipeline.charged
 
     # ---- Resolve
 
@@ -184,7 +182,7 @@ class Reasons:
 
     def is_held_back(self, writer):
         """Whether this writer is a load whose result isn't used until it is visible."""
-        return self.results_held and writer is not None and writer.is_load and self.pipeline.is_hidden(writer)
+        return self.results_held and self.pipeline.is_held(writer)
 
     def held_back(self, item):
         """The first writer of its sources whose result isn't used until it is visible, or none."""

@@ -116,6 +116,7 @@ class Replay:
         self.slots.retire([], False)
         if self.slots.head is not None:
             self.slots.close()
+        self.slots.note_again()
         if self.occupancy is not None and self.pipeline.counts:
             self.occupancy.add(self.pipeline, 0)
 
@@ -156,9 +157,7 @@ class Replay:
         return found
 
     def after_fetch(self, fetched, squashed, violated):
-        """Why no more was fetched, and what makes it late."""
-        if self.slots.behind is not None:
-            self.slots.fetch(fetched)
+        """Why no more was fetched."""
         self.front.after_fetch(fetched, squashed or violated is not None)
         if violated is not None:
             self.front.after_violation(fetched, violated)
@@ -260,8 +259,6 @@ class Replay:
             self.pipeline.issue(item, steps[place])
             if self.asked:
                 self.checks.issued(item)
-                if item.since is not None or item.divides:
-                    self.slots.issue(item)
         if self.asked:
             self.close()
 
@@ -296,6 +293,7 @@ class Replay:
             self.reasons.explain_head()
         if self.slots.head is not None:
             self.slots.close()
+        self.slots.note()
 
     def steps(self, events):
         """The events of Issue, those of one load together: behind its first one that of its other line, and that of what is prefetched."""

@@ -4,46 +4,34 @@ from wadrelwy.view.items cimport Item, Wait
 from wadrelwy.view.pipeline cimport Pipeline
 
 
-cdef class Late:
-    cdef public object reason
-    cdef public long long slots, since
-    cpdef long long left(self, long long charged) except? -1
-
-
 cdef class Slots:
     cdef public Pipeline pipeline
-    cdef public long long width, cycles, left, until, divider
+    cdef public long long width, cycles, left, place
     cdef public dict lost, retired
+    cdef public list kept, times
     cdef public object fill
-    cdef public Late behind
     cdef public Item head
     @cython.locals(key=tuple)
     cpdef count(self, reason, pc, long long slots)
-    @cython.locals(late=Late, left=cython.longlong)
     cpdef squash(self, Item item)
     cpdef rename(self, Item item)
     cpdef stall(self, str reason, long long pc)
     @cython.locals(item=Item)
-    cpdef fetch(self, list items)
-    @cython.locals(divides=cython.bint, held=dict, before=Late, since=cython.longlong, slots=cython.longlong)
-    cpdef issue(self, Item item)
-    @cython.locals(began=cython.longlong, waited=cython.longlong)
-    cpdef long long divide(self, Item item, long long slots, long long since) except? -1
+    cpdef note(self)
+    cpdef note_again(self)
+    @cython.locals(item=Item)
+    cpdef Item oldest_asked(self)
+    @cython.locals(place=cython.longlong)
+    cpdef long long times_kept(self, Item item) except? -1
     @cython.locals(item=Item, head=Item)
     cpdef retire(self, list retired, bint ends)
     cpdef tuple empty(self, list retired)
     @cython.locals(wait=Wait)
     cpdef reason_of(self, Item head, list retired)
-    cpdef charge(self, reason)
+    @cython.locals(times=cython.longlong)
     cpdef executes(self, Item head)
-    @cython.locals(late=Late, left=cython.longlong)
-    cpdef late(self, Item head)
     @cython.locals(head=Item, cycle=cython.longlong, last=Wait, begun=cython.bint)
     cpdef close(self)
-
-
-@cython.locals(wait=Wait, held=dict)
-cpdef dict times_held(Item item)
 
 
 cdef class Place:

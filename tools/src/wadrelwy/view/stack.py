@@ -13,7 +13,8 @@ COLOURS = {
     reasons.DIVIDER_BUSY: "#1f78b4", reasons.STORES: "#5ab4ac", reasons.HIT: "#fee391", reasons.FORWARDED: "#fff7bc",
     reasons.SECOND_LEVEL: "#fec44f", reasons.MEMORY: "#ec7014", reasons.JOINED: "#cc4c02", reasons.FAULTING: "#7a5230",
     reasons.PORTS: "#f4c7dc", reasons.REGISTERS: "#e9a3c9", reasons.CLEARING: "#b2df8a", reasons.END: "#444444",
-    reasons.UNEXPLAINED: "#000000", **dict(zip(reasons.TAINTS.values(), ("#d7301f", "#ef6548", "#b30000", "#fc8d59", "#7f0000", "#ce1256", "#e7298a"), strict=True))}
+    reasons.UNEXPLAINED: "#000000", **dict(zip(reasons.KEPT.values(), ("#d7301f", "#7f0000", "#ce1256"), strict=True)),
+    **dict(zip(reasons.SETTLING.values(), ("#b30000", "#fc8d59", "#e7298a"), strict=True))}
 BAR, STEP, LEFT, WIDE, TOP, CHARACTER, LEGEND = 26, 40, 190, 640, 40, 6.6, 220
 
 
