@@ -48,8 +48,9 @@ fn walked<R: RenameTaint>(core: &Core<R>, desc: &Desc) -> Option<u64>
     seen.oldest_kept(core)
 }
 
-/// Of the oldest entry that waits and isn't visible although the writers of all its sources are Done, as a core stands
-/// between two cycles: its serial, if the defence doesn't let it issue. None where there is no such entry.
+/// The serial of the oldest entry that waits and isn't visible although the writers of all its sources are Done, as a
+/// core stands between two cycles, if the defence doesn't let that entry issue. None where the defence does, or where
+/// there is no such entry.
 #[inline(always)]
 pub fn oldest_kept<R: RenameTaint>(core: &Core<R>, desc: &Desc) -> Option<u64>
     requires desc { desc.now ≡ core.now.desc }

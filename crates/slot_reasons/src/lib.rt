@@ -81,9 +81,9 @@ pub struct Past {
 /// An entry that was the oldest that the defence alone kept from issuing.
 #[derive(Clone, Copy, Debug, PartialEq, Eq)]
 pub struct Kept {
-    /// Its serial.
+    /// The serial of the entry that was kept.
     pub serial: u64,
-    /// In how many cycles it was.
+    /// In how many cycles that entry was the oldest kept one.
     pub cycles: u64,
 }
 
@@ -99,14 +99,14 @@ pub struct Known {
 /// What a cycle leaves, once it is over.
 #[derive(Clone, Copy, Debug, PartialEq, Eq)]
 pub struct Over {
-    /// Its number.
+    /// The number of the cycle.
     pub number: u32,
-    /// How many instructions retired in it.
+    /// How many instructions retired in the cycle.
     pub retired: u64,
     /// How the run ended, if it did.
     pub end: Option<End>,
-    /// The serial of the entry that it counts for, if there is one: where a slot stays empty, the oldest that waits,
-    /// isn't visible and has all that it reads, if the defence doesn't let it issue.
+    /// The serial of the entry that the cycle counts for, if there is one: where a slot stays empty, the oldest that
+    /// waits, isn't visible and has all that it reads, if the defence doesn't let it issue.
     pub kept: Option<u64>,
 }
 
